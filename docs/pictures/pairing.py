@@ -61,15 +61,24 @@ class Pairing:
         return reply
 
     def own(self, line, session, statement):
-        """The own answer of a statement: one line, or a list up to its number of rows."""
+        """The own answer of a statement: one line, a list up to its number of rows, or the last rows of a copy and the
+        table's new state."""
         reply = self.take(line, session, statement, 'first')
-        if statement.split(' ')[0] in LISTINGS:
+        form = statement.split(' ')[0]
+        if form in LISTINGS:
             while not reply.startswith(('rows ', 'error ')):
                 reply = self.take(line, session, statement, 'further')
+        if form == 'copy_step' and self.next() == (session, self.state_after(statement)):
+            self.take(line, session, statement, 'further')
         if reply.startswith('waits for '):
             self.waiting[session] = self.rows[-1]
         elif reply == 'error Canceled':
             self.waiting.pop(session, None)
+
+    @staticmethod
+    def state_after(statement):
+        """What the last step of a copy prints besides its rows. No other line of a script prints this."""
+        return 'state %s catching-up' % statement.split(' ')[-1]
 
     def resumed(self):
         """The answers of the statements that the last one has unblocked."""

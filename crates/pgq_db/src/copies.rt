@@ -99,7 +99,7 @@ impl Db {
     }
 
     /// The transaction of the copy of a table, if one runs.
-    fn copy_of(&self, table: &Text) -> Option<u64>
+    pub fn copy_of(&self, table: &Text) -> Option<u64>
         ensures { result ≡ copy_running (seen_database self.now) table.now }
     {
         let (number, _) = self.rows.table(table)?;

@@ -36,6 +36,13 @@ impl Db {
         self.node.holds.let_go(hold);
     }
 
+    /// Whether there is a hold of this number.
+    pub fn is_held(&self, hold: u64) -> bool
+        ensures { result ≡ is_some (held_snapshot (seen_database self.now) hold) }
+    {
+        self.node.holds.get(hold).is_some()
+    }
+
     /// The snapshot of a hold.
     pub fn held_snapshot(&self, hold: u64) -> &Snapshot
         requires held { is_some (held_snapshot (seen_database self.now) hold) ≡ true }

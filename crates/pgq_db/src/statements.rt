@@ -585,6 +585,8 @@ fn begins_with(byte: u8, text: &[u8]) -> bool
 }
 
 /// An event without an owner.
+// Always inlined, as what stores it is: an event is large, and else moved from call to call.
+#[inline(always)]
 fn made_event(
     alloc: Global,
     id: u64,

@@ -188,6 +188,7 @@ impl Queue {
     }
 
     /// Stores an event.
+    #[inline(always)]
     pub(crate) fn put(&mut self, event: Event) -> Result<(), NoMemory>
         requires { HasMoment event.ev_time }
         ensures ok { OnOk result (self.new ≡ retabled (with_stored event) self.old) }

@@ -360,6 +360,7 @@ impl Queues {
     }
 
     /// Stores an event in a queue, whether its transaction commits or not.
+    #[inline(always)]
     pub fn put(&mut self, queue: usize, event: Event) -> Result<(), NoMemory>
         requires queue { Stands self.old.queues queue }
         requires time { HasMoment event.ev_time }

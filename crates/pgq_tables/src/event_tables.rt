@@ -72,6 +72,7 @@ impl EventTables {
     }
 
     /// Stores an event in the current table, also while a switch is pending. Nothing has changed after an error.
+    #[inline(always)]
     pub fn insert(&mut self, event: Event) -> Result<(), NoMemory>
         ensures ok { OnOk result (self.new ≡ record self.old { tables = with_stored event self.old.tables }) }
         ensures err { OnErr result (self.new ≡ self.old) }

@@ -1,20 +1,24 @@
-ghost use Rattle.std.specs.Prelude.{◌≡◌, true, false, None, IfOk};
+ghost use Rattle.std.specs.Prelude.{◌≡◌, true, false, None, IfOk, if◌then◌else◌, Some};
 
 use sky_val::{Event, NoMemory, Text, copy_option};
 use std::alloc::Global;
 use std::marker::Model;
+use std::sync::Arc;
 
-/// An event as a table keeps it, and whether its transaction was rolled back. What most events lack is apart, and takes
-/// no room if it is missing.
+/// An event as a table keeps it, and whether its transaction was rolled back. What most events lack is apart, takes no
+/// room if it is missing, and is shared with the event before if that has the same.
 #[derive(Drop)]
 pub struct Stored {
     ev_id: u64,
     ev_time: i64,
     ev_txid: u64,
-    ev_type: Option<Text>,
-    ev_data: Option<Text>,
+    // Each is empty if it is missing: three marks take less room than the two texts as options.
+    ev_type: Text,
+    ev_data: Text,
+    has_type: bool,
+    has_data: bool,
     dead: bool,
-    rest: Option<Box<Rest>>,
+    rest: Option<Arc<Rest>>,
 }
 
 /// What few events have.
@@ -33,7 +37,7 @@ impl Model for Stored {
 
     ghost Value = { Stored };
 
-    ghost use Rattle.std.specs.Prelude.{option_and_then};
+    ghost use Rattle.std.specs.Prelude.{option_and_then, if◌then◌else◌, Some, None};
 
     ghost view = { λ s. record {
       event = record {
@@ -42,8 +46,8 @@ impl Model for Stored {
         ev_txid = s.ev_txid;
         ev_owner = option_and_then (λ rest. rest.value.ev_owner) s.rest;
         ev_retry = option_and_then (λ rest. rest.value.ev_retry) s.rest;
-        ev_type = s.ev_type;
-        ev_data = s.ev_data;
+        ev_type = if s.has_type then Some s.ev_type else None;
+        ev_data = if s.has_data then Some s.ev_data else None;
         ev_extra1 = option_and_then (λ rest. rest.value.ev_extra1) s.rest;
         ev_extra2 = option_and_then (λ rest. rest.value.ev_extra2) s.rest;
         ev_extra3 = option_and_then (λ rest. rest.value.ev_extra3) s.rest;
@@ -65,11 +69,62 @@ impl Rest {
             && self.ev_extra3.is_none()
             && self.ev_extra4.is_none()
     }
+
+    /// Whether another is the same.
+    fn is_same(&self, other: &Rest) -> bool
+        ensures { result ≡ true → self.now ≡ other.now }
+    {
+        self.ev_owner == other.ev_owner
+            && self.ev_retry == other.ev_retry
+            && self.ev_extra1 == other.ev_extra1
+            && self.ev_extra2 == other.ev_extra2
+            && self.ev_extra3 == other.ev_extra3
+            && self.ev_extra4 == other.ev_extra4
+    }
+}
+
+/// What few events have, as an event keeps it that comes after this one, if there is one.
+// Never inlined, so that an event that has none of it is stored by short code.
+#[inline(never)]
+fn kept_after(alloc: Global, last: Option<&Stored>, rest: Rest) -> Result<Arc<Rest>, NoMemory>
+    ensures { IfOk result (λ kept. kept.value ≡ rest) }
+{
+    match last {
+        Some(last) => last.shared_or_new(alloc, rest),
+        None => Ok(Arc::new(alloc, rest)?),
+    }
+}
+
+/// A text, which is empty if it is missing, and whether there is one.
+#[inline(always)]
+fn text_or_empty(alloc: Global, text: Option<Text>) -> Result<(Text, bool), NoMemory>
+    ensures { IfOk result (λ kept. (if kept.1 then Some kept.0 else None) ≡ text) }
+{
+    match text {
+        Some(text) => Ok((text, true)),
+        None => Ok((Text::from_str(alloc, "")?, false)),
+    }
+}
+
+/// An equal text, if there is one.
+fn copy_if(alloc: Global, has: bool, text: &Text) -> Result<Option<Text>, NoMemory>
+    ensures { IfOk result (λ copy. copy ≡ (if has then Some text.now else None)) }
+{
+    if has {
+        Ok(Some(text.copy(alloc)?))
+    } else {
+        Ok(None)
+    }
 }
 
 impl Stored {
-    /// Takes over an event's texts.
-    pub(crate) fn new(alloc: Global, event: Event) -> Result<Stored, NoMemory>
+    /// Takes over an event's texts. It comes after this one, if there is one.
+    #[inline(always)]
+    pub(crate) fn new(
+        alloc: Global,
+        event: Event,
+        last: Option<&Stored>,
+    ) -> Result<Stored, NoMemory>
         ensures { IfOk result (λ stored. stored ≡ record { event = event; dead = false }) }
     {
         let rest = Rest {
@@ -83,17 +138,31 @@ impl Stored {
         let rest = if rest.is_empty() {
             None
         } else {
-            Some(Box::new(alloc, rest)?)
+            Some(kept_after(alloc, last, rest)?)
         };
+        let (ev_type, has_type) = text_or_empty(alloc, event.ev_type)?;
+        let (ev_data, has_data) = text_or_empty(alloc, event.ev_data)?;
         Ok(Stored {
             ev_id: event.ev_id,
             ev_time: event.ev_time,
             ev_txid: event.ev_txid,
-            ev_type: event.ev_type,
-            ev_data: event.ev_data,
+            ev_type,
+            ev_data,
+            has_type,
+            has_data,
             dead: false,
             rest,
         })
+    }
+
+    /// What few events have, as an event keeps it that comes after this one.
+    fn shared_or_new(&self, alloc: Global, rest: Rest) -> Result<Arc<Rest>, NoMemory>
+        ensures { IfOk result (λ kept. kept.value ≡ rest) }
+    {
+        match &self.rest {
+            Some(kept) if kept.is_same(&rest) => Ok(kept.clone()?),
+            _ => Ok(Arc::new(alloc, rest)?),
+        }
     }
 
     /// Its id.
@@ -144,8 +213,8 @@ impl Stored {
             ev_txid: self.ev_txid,
             ev_owner: None,
             ev_retry: None,
-            ev_type: copy_option(alloc, &self.ev_type)?,
-            ev_data: copy_option(alloc, &self.ev_data)?,
+            ev_type: copy_if(alloc, self.has_type, &self.ev_type)?,
+            ev_data: copy_if(alloc, self.has_data, &self.ev_data)?,
             ev_extra1: None,
             ev_extra2: None,
             ev_extra3: None,

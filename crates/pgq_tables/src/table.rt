@@ -49,6 +49,7 @@ impl Table {
     }
 
     /// Stores an event. All memory is taken first, so that nothing has changed after an error.
+    #[inline(always)]
     pub(crate) fn push(&mut self, alloc: Global, event: Event) -> Result<(), NoMemory>
         ensures ok { OnOk result (self.new ≡ self.old ++ record { event = event; dead = false } ∷ []) }
         ensures err { OnErr result (self.new ≡ self.old) }
@@ -56,7 +57,7 @@ impl Table {
         self.events.reserve(1)?;
         self.places.reserve(1)?;
         let txid = event.ev_txid;
-        let stored = Stored::new(alloc, event)?;
+        let stored = Stored::new(alloc, event, self.events.last())?;
         let place = self.events.len();
         let at = count_up_to(&self.places, txid);
         let placed = Placed { txid, place };

@@ -251,7 +251,7 @@ made_called-in formed past d call all = λ n.
 
 made_at : (formed : Type 0) (past : Past) (who : ℕ) (stmt : Stmt) (d : ℕ) → (formed → IsInForm stmt) → AllMade formed past → AllMade formed (on_top past (does_at by_past past who stmt d).facts)
 made_at formed past who (Node stmt) d is_form all =
-    after-node_does (AllMade formed) (λ p e made. made) (made_called-in formed) past who stmt d (made_deed formed past d who (Node stmt) [] (λ p n. refl) is_form all) all
+    after-node_does (AllMade formed) (λ p e made. made) (λ p e table hand made. made) (made_called-in formed) past who stmt d (made_deed formed past d who (Node stmt) [] (λ p n. refl) is_form all) all
 made_at formed past who (CreateRoot name queue) d is_form all =
     let turn_within : Turn = database_turn (within_database by_past d) past (world_of past).now who (CreateRoot name queue) in
     let got : Bool = gets_node ((world_of past).database d) turn_within in

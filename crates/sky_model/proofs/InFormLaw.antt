@@ -88,9 +88,12 @@ forms_end =
     (ends (λ name is table dotted. (is, dotted))
     (ends (λ name is table dotted. (is, dotted))
     (ends (λ name is table dotted. (is, dotted))
+    (ends (λ name is table dotted. (is, dotted))
+    (ends (λ name is. (is, λ table dotted. (is, dotted)))
+    (ends (λ name is. is)
     (ends (λ time is. is)
     (ends (tt, tt)
-    tt)))))))))))))))))))))))))))))))))))))))))
+    tt))))))))))))))))))))))))))))))))))))))))))))
 
 -- ---- after a word
 

@@ -1,29 +1,34 @@
 -- What a statement on nodes does in the world: calls for nodes in databases, one after another.
-use Rattle.std.proofs.Common.{◌≡◌, ℕ, ◌==◌, List, [], ◌∷◌, ◌++◌, Bool, true, false, not, ◌||◌, map, Option, Some, None, Ok, Err, IfOk, is_some, is_none, option_map, bytes_eq, refl, sym, ◌∙◌, ap, subst, if◌then◌else◌}
+use Rattle.std.proofs.Common.{◌≡◌, ℕ, ◌==◌, List, [], ◌∷◌, ◌++◌, Bool, true, false, not, ◌||◌, map, Option, Some, None, Ok, Err, IfOk, is_some, is_none, option_map, bytes_eq, refl, sym, ◌∙◌, ap, subst, append_assoc, if◌then◌else◌}
 use Rattle.std.proofs.lemmas.Bool.{not-false, or_parts}
 use Rattle.sky_names.specs.Places.{place_of}
+use Rattle.londiste_state.specs.declared.state.TableState.TheVariants.{InCopy}
 use Rattle.londiste_state.specs.Nodes.{Node, of_root, of_leaf, Root, Leaf, node_name, table_of, tables_of, is_among}
 use Rattle.sky_model.specs.Nodes.{node}
 use Rattle.sky_model.specs.declared.stmt.Stmt.TheVariants as stmt
 use Rattle.sky_model.specs.declared.stmt.NodeStmt.{NodeStmt}
-use Rattle.sky_model.specs.declared.stmt.NodeStmt.TheVariants.{CreateLeaf, AddTable, RemoveTable, TableState}
+use Rattle.sky_model.specs.declared.stmt.NodeStmt.TheVariants.{CreateLeaf, AddTable, RemoveTable, TableState, CopyStep, Restart, RestartTable, LondisteStep}
 use Rattle.sky_model.specs.declared.reply.Reply.{Reply}
-use Rattle.sky_model.specs.declared.reply.Reply.TheVariants.{Done, Null}
+use Rattle.sky_model.specs.declared.reply.Reply.TheVariants.{Done, Null, TableMoved}
 use Rattle.sky_model.specs.declared.reply.Refusal.{Refusal}
 use Rattle.sky_model.specs.declared.reply.Refusal.TheVariants.{AlreadyInSet, NodeExists, NoNode, NoTable, NotInSet, NotProvider, SchemaDiffers, TableInUse}
-use Rattle.sky_model.specs.History.{Mark, Fact, within, noded, leaf_made, node_made, Past}
+use Rattle.sky_model.specs.History.{Mark, Fact, within, noded, leaf_made, node_made, in_hand, Past}
 use Rattle.sky_model.specs.State.{Database, database_of}
-use Rattle.sky_model.specs.World.{World, world_of, history_in, on_top}
+use Rattle.sky_model.specs.Hands.{CopyHand}
+use Rattle.sky_model.specs.World.{World, world_of, history_in, after_facts, on_top}
 use Rattle.sky_model.specs.Outcome.{Outcome, Checked, ◌>>=◌, ◌>>◌, refused_if, refused_by, found_or, answers, does_marks, marks_of}
 use Rattle.sky_model.specs.Reader.{part_by_history, by_past, within_database}
 use Rattle.sky_model.specs.Settling.{behind_marks}
 use Rattle.sky_model.specs.Clock.{deed_in}
 use Rattle.sky_model.specs.StepQueue.{newest_id}
-use Rattle.sky_model.specs.StepNode.{set_queue, set_queue_of, joins, lists, unlists, adds, removes, NodeCall, joining, making_leaf, adding, removing, listing, unlisting, if_there, table_number, may_serve, call_form, node_does}
-use Rattle.sky_model.specs.NodesOfWorld.{WorldOutcome, Located, if_named, node_among, node_called, done_in, leaf_of, create_leaf, provides, are_columns, columns_called, adds_to, first_user, removes_from, shows_state, node_form}
+use Rattle.sky_model.specs.StepNode.{set_queue, set_queue_of, joins, lists, unlists, adds, NodeCall, joining, making_leaf, adding, moving, listing, unlisting, if_there, table_number, may_serve, call_form, node_does, removing}
+use Rattle.sky_model.specs.NodesOfWorld.{WorldOutcome, Located, if_named, node_among, node_called, done_in, leaf_of, create_leaf, provides, are_columns, columns_called, adds_to, first_user, shows_state}
+use Rattle.sky_model.specs.CopyMoves.{CopyMove, copy_move}
+use Rattle.sky_model.specs.WorkersOfWorld.{calls_facts, move_facts, moves, source, source_alike, leaf_table, restarts, restarting, next_to_copy, starts_next, leaf_steps, leaves_leaf, removes_from, node_form}
 use Rattle.sky_model.specs.Calls.{may_make, database_turn, node_if, world_does, does_at}
 use Rattle.sky_model.proofs.LawfulRows.{nothing}
 use Rattle.sky_model.proofs.Cases.{by_test, by_same}
+use Rattle.sky_model.proofs.Marks.{world_of-facts}
 use Rattle.sky_model.proofs.PastHistories.{on_top-append, history-marks, AreQuiet}
 
 -- a database that gets its node changes no history, and no session's home
@@ -35,21 +40,24 @@ node-quiet false d = record { histories = λ past n. refl; homes = λ past who. 
 abbrev call_facts : Past → ℕ → NodeCall → List Fact
 call_facts past d call = map (within d) (marks_of (node_does (database_of (history_in past d)) call))
 
--- facts that calls leave, one after another, and databases that get their nodes
+-- facts that calls leave, one after another, and databases that get their nodes, and what workers have in hand
 data Serves : Past → List Fact → Type 0 where
   none : (past : Past) → Serves past []
   last : (past : Past) (d : ℕ) (call : NodeCall) → Serves past (call_facts past d call)
   first : (past : Past) (d : ℕ) (call : NodeCall) (rest : List Fact) → Serves (on_top past (call_facts past d call)) rest → Serves past (call_facts past d call ++ rest)
   gets : (past : Past) (d : ℕ) (rest : List Fact) → Serves (node_made d ∷ past) rest → Serves past (node_made d ∷ rest)
+  holds : (past : Past) (d : ℕ) (table : List ℕ) (hand : Option CopyHand) (rest : List Fact) → Serves (in_hand d table hand ∷ past) rest → Serves past (in_hand d table hand ∷ rest)
 
 -- what each of these keeps, they keep
-module _ (Q : Past → Type 0) (made : (past : Past) (d : ℕ) → Q past → Q (node_made d ∷ past)) (called : (past : Past) (d : ℕ) (call : NodeCall) → Q past → Q (on_top past (call_facts past d call))) where
+module _ (Q : Past → Type 0) (made : (past : Past) (d : ℕ) → Q past → Q (node_made d ∷ past))
+    (handed : (past : Past) (d : ℕ) (table : List ℕ) (hand : Option CopyHand) → Q past → Q (in_hand d table hand ∷ past)) (called : (past : Past) (d : ℕ) (call : NodeCall) → Q past → Q (on_top past (call_facts past d call))) where
   after-serves : (past : Past) (facts : List Fact) → Serves past facts → Q past → Q (on_top past facts)
   after-serves past _ (none _) q = q
   after-serves past _ (last _ d call) q = called past d call q
   after-serves past _ (first _ d call rest also) q =
       subst Q (sym (on_top-append past (call_facts past d call) rest)) (after-serves (on_top past (call_facts past d call)) rest also (called past d call q))
   after-serves past _ (gets _ d rest also) q = after-serves (node_made d ∷ past) rest also (made past d q)
+  after-serves past _ (holds _ d table hand rest also) q = after-serves (in_hand d table hand ∷ past) rest also (handed past d table hand q)
 
 -- ---- the node of a name
 
@@ -113,14 +121,22 @@ module _ (past : Past) where
   if-found None refusal next serves = tt
   if-found (Some a) refusal next serves = serves a refl
 
-  -- what is done in a database is what a call does there, if it is one for the database's node
-  serves-done : (d : ℕ) (reply : Reply) (c : Checked Outcome) (call : NodeCall) → may_serve call (node (history_in past d)) ≡ true → c ≡ call_form (database_of (history_in past d)) call
-      → ServesIfOk (done_in d reply c)
-  serves-done d reply c call may same = subst (λ x. ServesIfOk (done_in d reply x)) (is-served (database_of (history_in past d)) call may ∙ sym same) (of (node_does (database_of (history_in past d)) call) refl)
+  if-checked : {A : Type 0} (c : Checked A) (next : A → Checked WorldOutcome) → ((a : A) → ServesIfOk (next a)) → ServesIfOk (c >>= next)
+  if-checked (Ok a) next serves = serves a
+  if-checked (Err refusal) next serves = tt
+
+  -- what a call does
+  serves-does : (d : ℕ) (reply : Reply) (call : NodeCall) → ServesIfOk (done_in d reply (node_does (database_of (history_in past d)) call))
+  serves-does d reply call = of (node_does (database_of (history_in past d)) call) refl
     where
       of : (x : Checked Outcome) → node_does (database_of (history_in past d)) call ≡ x → ServesIfOk (done_in d reply x)
       of (Ok outcome) is = subst (λ x. Serves past (map (within d) (marks_of x))) is (last past d call)
       of (Err refusal) is = tt
+
+  -- what is done in a database is what a call does there, if it is one for the database's node
+  serves-done : (d : ℕ) (reply : Reply) (c : Checked Outcome) (call : NodeCall) → may_serve call (node (history_in past d)) ≡ true → c ≡ call_form (database_of (history_in past d)) call
+      → ServesIfOk (done_in d reply c)
+  serves-done d reply c call may same = subst (λ x. ServesIfOk (done_in d reply x)) (is-served (database_of (history_in past d)) call may ∙ sym same) (serves-does d reply call)
 
   -- a database without a node gets a leaf
   serves-made : (q : Past) (d : ℕ) (name provider : List ℕ) (tick : ℕ) → node (history_in q d) ≡ None → Serves q (within d (noded (leaf_made name provider tick)) ∷ node_made d ∷ [])
@@ -148,6 +164,50 @@ module _ (past : Past) where
       serves-leaf d p.database name provider (newest_id ((w.database p.database).queue queue)) queue (joins (w.database p.database) queue name)
       (sym (ap (λ o. if_there o (λ q. joins (w.database p.database) q name)) is)) bare (apart-bare past d p.database queue bare is))))
 
+  -- ---- moves of workers
+
+  serves-calls : (q : Past) (d : ℕ) (calls : List NodeCall) (rest : List Fact) → Serves (on_top q (calls_facts (world_of q) d calls)) rest → Serves q (calls_facts (world_of q) d calls ++ rest)
+  serves-calls q d [] rest also = also
+  serves-calls q d (call ∷ calls) rest also =
+      subst (λ x. Serves q ((front ++ calls_facts x d calls) ++ rest)) (world_of-facts q front)
+      (subst (Serves q) (sym (append_assoc front back rest))
+      (first q d call (back ++ rest) (serves-calls (on_top q front) d calls rest
+      (subst (λ p. Serves p rest) (on_top-append q front back)
+      (subst (λ x. Serves (on_top q (front ++ calls_facts x d calls)) rest) (sym (world_of-facts q front)) also)))))
+    where
+      front : List Fact
+      front = call_facts q d call
+
+      back : List Fact
+      back = calls_facts (world_of (on_top q front)) d calls
+
+  serves-move : (q : Past) (p d : ℕ) (table : List ℕ) (move : CopyMove) → Serves q (move_facts (world_of q) p d table move)
+  serves-move q p d table move =
+      serves-calls q p move.provider (calls_facts (after_facts (world_of q) there) d move.replica ++ in_hand d table move.hand ∷ [])
+      (subst (λ x. Serves (on_top q there) (calls_facts x d move.replica ++ in_hand d table move.hand ∷ [])) (world_of-facts q there)
+      (serves-calls (on_top q there) d move.replica (in_hand d table move.hand ∷ []) (holds (on_top (on_top q there) (calls_facts (world_of (on_top q there)) d move.replica)) d table move.hand [] (none _))))
+    where
+      there : List Fact
+      there = calls_facts (world_of q) p move.provider
+
+  serves-moves : (p d : ℕ) (table : List ℕ) (c : Checked CopyMove) → ServesIfOk (moves w p d table c)
+  serves-moves p d table (Ok move) = serves-move past p d table move
+  serves-moves p d table (Err refusal) = tt
+
+  serves-next : (d : ℕ) (o : Option (List ℕ)) → ServesIfOk (starts_next w d o)
+  serves-next d None = none past
+  serves-next d (Some table) = serves-does d (TableMoved table InCopy) (moving table InCopy)
+
+  serves-restarts : (name : List ℕ) (n : Node) → ServesIfOk (restarts name n)
+  serves-restarts name (of_root r) = tt
+  serves-restarts name (of_leaf l) = none past
+
+  serves-steps : (d : ℕ) (name : List ℕ) (n : Node) → ServesIfOk (leaf_steps w d name n)
+  serves-steps d name (of_root r) = tt
+  serves-steps d name (of_leaf l) = serves-next d (next_to_copy l)
+
+  -- ---- each of them
+
   serves-adds : (d table : ℕ) (name : List ℕ) (n : Node) → (w.database d).node ≡ Some n → is_among name (tables_of n) ≡ false → place_of name (w.database d).part.tables ≡ Some table
       → ServesIfOk (adds_to w d table name n)
   serves-adds d table name (of_root r) stands new there =
@@ -166,8 +226,7 @@ module _ (past : Past) where
   serves-removes d table name (of_root r) stands among there =
       if-refused (option_map TableInUse (first_user w r.name name)) _
       (serves-done d Done (unlists table name) (unlisting name) (may-unlist (node (history_in past d)) r name stands among) (sym (ap (λ o. if_there o (λ t. unlists t name)) there)))
-  serves-removes d table name (of_leaf l) stands among there =
-      serves-done d Done (removes (w.database d) table name) (removing name) (may-remove (node (history_in past d)) l name stands among) (sym (ap (λ o. if_there o (λ t. removes (w.database d) t name)) there))
+  serves-removes d table name (of_leaf l) stands among there = if-checked (source w l name) _ (λ p. serves-move past p d name (leaves_leaf l name (w.hands d name)))
 
   serves-state : (name table : List ℕ) (n : Node) → ServesIfOk (shows_state name table n)
   serves-state name table (of_root r) = tt
@@ -186,17 +245,29 @@ module _ (past : Past) where
       if-found (place_of table_name (w.database n.database).part.tables) (NoTable table_name) _ (λ table there.
       serves-removes n.database table table_name n.node (called-there w name n found) (not-false (is_among table_name (tables_of n.node)) among) there)))
   serves-form d (TableState name table) = if-found (node_called w name) (NoNode name) _ (λ n _. serves-state name table n.node)
+  serves-form d (CopyStep name table) =
+      if-found (node_called w name) (NoNode name) _ (λ n _.
+      if-checked (leaf_table name table n.node) _ (λ l.
+      if-checked (source_alike w n.database l table) _ (λ p.
+      serves-moves p n.database table (copy_move (w.database p) (w.database n.database) table (w.hands n.database table)))))
+  serves-form d (Restart name) = if-found (node_called w name) (NoNode name) _ (λ n _. serves-restarts name n.node)
+  serves-form d (RestartTable name table) =
+      if-found (node_called w name) (NoNode name) _ (λ n _.
+      if-checked (leaf_table name table n.node) _ (λ l.
+      if-checked (source w l table) _ (λ p. serves-move past p n.database table (restarting table (w.hands n.database table)))))
+  serves-form d (LondisteStep name) = if-found (node_called w name) (NoNode name) _ (λ n _. serves-steps n.database name n.node)
 
 -- what each of these keeps, a statement on nodes keeps, if it is kept where its session may not make it
 pub after-node_does : (Q : Past → Type 0) → ((past : Past) (d : ℕ) → Q past → Q (node_made d ∷ past))
+    → ((past : Past) (d : ℕ) (table : List ℕ) (hand : Option CopyHand) → Q past → Q (in_hand d table hand ∷ past))
     → ((past : Past) (d : ℕ) (call : NodeCall) → Q past → Q (on_top past (map (within d) (marks_of (node_does (database_of (history_in past d)) call)))))
     → (past : Past) (who : ℕ) (s : NodeStmt) (d : ℕ)
     → Q (on_top past (deed_in d [] (database_turn (within_database by_past d) past (world_of past).now who (stmt.Node s))).facts)
     → Q past → Q (on_top past (does_at by_past past who (stmt.Node s) d).facts)
-after-node_does Q made called past who s d refused q = of (may_make ((world_of past).database d) who (stmt.Node s))
+after-node_does Q made handed called past who s d refused q = of (may_make ((world_of past).database d) who (stmt.Node s))
   where
     does : (c : Checked WorldOutcome) → IfOk c (λ o. Serves past o.facts) → Q (on_top past (world_does who c).facts)
-    does (Ok o) serves = after-serves Q made called past o.facts serves q
+    does (Ok o) serves = after-serves Q made handed called past o.facts serves q
     does (Err refusal) serves = q
 
     of : (b : Bool) → Q (on_top past (if b then world_does who (node_form (world_of past) d s)

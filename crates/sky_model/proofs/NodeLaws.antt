@@ -3,7 +3,7 @@ use Rattle.std.proofs.Common.{◌≡◌, ℕ, Bool, true, false, not, ◌||◌, 
 use Rattle.std.specs.Result.{IfErr}
 use Rattle.std.proofs.lemmas.Bool.{not-false}
 use Rattle.std.proofs.lemmas.List.Elements.{All-head, All-tail}
-use Rattle.londiste_state.specs.Nodes.{Node, of_root, of_leaf, is_among, tables_of}
+use Rattle.londiste_state.specs.Nodes.{Node, of_root, of_leaf, Leaf, is_among, tables_of}
 use Rattle.sky_names.specs.Places.{place_of}
 use Rattle.sky_names.proofs.PlaceLemmas.{same_name}
 use Rattle.sky_model.specs.declared.reply.Reply.{Reply}
@@ -19,7 +19,8 @@ use Rattle.sky_model.specs.State.{Database, database_of}
 use Rattle.sky_model.specs.ShownRows.{least_writer}
 use Rattle.sky_model.specs.Outcome.{Outcome, Checked, ◌>>=◌, ◌>>◌, refused_if, refused_by, found_or}
 use Rattle.sky_model.specs.StepNode.{set_queue, lists, adds}
-use Rattle.sky_model.specs.NodesOfWorld.{node_called, done_in, provides, columns_called, are_columns, adds_to, add_table, first_user, removes_from, remove_table}
+use Rattle.sky_model.specs.NodesOfWorld.{node_called, done_in, provides, columns_called, are_columns, adds_to, add_table, first_user}
+use Rattle.sky_model.specs.WorkersOfWorld.{source, removes_from, remove_table}
 use Rattle.sky_model.specs.World.{World, world_of, history_in}
 use Rattle.sky_model.specs.Calls.{past_of}
 use Rattle.sky_model.specs.Promises.{after_all}
@@ -133,10 +134,20 @@ node-tables : (h : History) → Legal h → (n : Node) → node h ≡ Some n →
 node-tables h l (of_root r) there = subst (λ m. AreTables (table_names h) (set_tables m)) there (have-tables h l).set
 node-tables h l (of_leaf leaf) there = subst (λ m. AreTables (table_names h) (leaf_tables m)) there (have-tables h l).leaf
 
+-- the database from which it was to be copied is refused for other reasons
+never-then : {A B : Type 0} (p : Refusal → Bool) (c : Checked A) (next : A → Checked B) → NeverAs p c → ((a : A) → NeverAs p (next a)) → NeverAs p (c >>= next)
+never-then p (Ok a) next never rest = rest a
+never-then p (Err refusal) next never rest = never
+
+never-source : (w : World) (l : Leaf) (name : List ℕ) → NeverAs is_no_table (source w l name)
+never-source w l name =
+    never-found is_no_table (provides name (node_called w l.provider)) (NotInSet name) _ refl (λ p _.
+    never-found is_no_table (set_queue (w.database p)) (NotProvider l.provider) _ refl (λ queue _. tt))
+
 never-removes : (w : World) (d table : ℕ) (name : List ℕ) (n : Node) → NeverAs is_no_table (removes_from w d table name n)
 never-removes w d table name (of_root r) =
     never-by is_no_table (option_map TableInUse (first_user w r.name name)) _ (by-map is_no_table TableInUse (λ user. refl) (first_user w r.name name)) tt
-never-removes w d table name (of_leaf l) = tt
+never-removes w d table name (of_leaf l) = never-then is_no_table (source w l name) _ (never-source w l name) (λ p. tt)
 
 pub removed_tables_exist : RemovedTablesExist
 removed_tables_exist calls name table other =

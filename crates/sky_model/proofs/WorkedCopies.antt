@@ -18,7 +18,8 @@ use Rattle.sky_model.specs.ShownRows.{snapshot_now}
 use Rattle.sky_model.specs.Promises.{after_all}
 use Rattle.sky_model.specs.DatabaseCalls.{DatabaseCall, stepped, served, database_part}
 use Rattle.sky_model.specs.StepNode.{NodeCall, making_leaf, adding, moving, listing}
-use Rattle.sky_model.specs.CopyMoves.{CopyHand, CopyMove, copy_move, leaf_state, rows_from}
+use Rattle.sky_model.specs.Hands.{CopyHand}
+use Rattle.sky_model.specs.CopyMoves.{CopyMove, copy_move, leaf_state, rows_from}
 
 abbrev does : RowStmt → DatabaseCall
 does statement = stepped 0 (stmt.Row statement) (pos 0)

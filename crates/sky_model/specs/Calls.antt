@@ -1,5 +1,5 @@
 -- What a call does: a statement of a session, with all that it causes.
-use Rattle.std.specs.Prelude.{ℕ, ℤ, Bool, true, false, List, [], ◌∷◌, ◌++◌, Option, Some, None, not, ◌&&◌, Ok, Err, is_ok, is_some, nat_le, length, if◌then◌else◌}
+use Rattle.std.specs.Prelude.{ℕ, ℤ, Bool, true, false, List, [], ◌∷◌, ◌++◌, map, Option, Some, None, not, ◌&&◌, Ok, Err, is_ok, is_some, nat_le, length, if◌then◌else◌}
 use Rattle.sky_model.specs.declared.stmt.Stmt.{Stmt}
 use Rattle.sky_model.specs.declared.stmt.RowStmt.{RowStmt}
 use Rattle.sky_model.specs.declared.stmt.RowStmt.TheVariants.{OpenDb, Close, Cancel, Begin, BeginRepeatableRead, Commit, Rollback, TxidCurrent, TxidCurrentSnapshot, TxidVisibleInSnapshot, CreateTable, Insert, Update, Delete, Get, Scan}
@@ -28,7 +28,8 @@ use Rattle.sky_model.specs.StepConsumer.{register_consumer, register_consumer_at
 use Rattle.sky_model.specs.StepRetry.{event_retry, maint_retry_events}
 use Rattle.sky_model.specs.StepRotation.{maint_rotate_step1, maint_rotate_step2, committed_by, switches_of}
 use Rattle.sky_model.specs.StepNode.{create_root}
-use Rattle.sky_model.specs.NodesOfWorld.{WorldOutcome, node_called, node_form}
+use Rattle.sky_model.specs.NodesOfWorld.{WorldOutcome, node_called}
+use Rattle.sky_model.specs.WorkersOfWorld.{node_form}
 use Rattle.sky_model.specs.World.{World, world_of, on_top}
 use Rattle.sky_model.specs.Reader.{Shown, PartReader, DatabaseReader, Reader, within_part, within_database, by_past, Deed, answers_with, refuses, appears, founds, followed}
 use Rattle.sky_model.specs.Settling.{Turn, turn_of, with_settling}
@@ -175,7 +176,7 @@ beside w who stmt d =
 
 -- what a statement on nodes does in the world, or why it is refused
 abbrev pub world_does : ℕ → Checked WorldOutcome → Deed
-world_does who (Ok outcome) = answers_with who outcome.reply outcome.facts
+world_does who (Ok outcome) = record { answers = map (λ reply. (who, reply)) outcome.replies; facts = outcome.facts }
 world_does who (Err refusal) = refuses who refusal
 
 -- a statement on nodes of a session, by the database that it has open; if the session may not make it, this database refuses it

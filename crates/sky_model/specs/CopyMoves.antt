@@ -13,6 +13,7 @@ use Rattle.sky_model.specs.declared.reply.Limit.TheVariants.{Consumers}
 use Rattle.sky_model.specs.declared.reply.Refusal.TheVariants.{IdsSpent, TooMany}
 use Rattle.sky_model.specs.declared.reply.Reply.{Reply}
 use Rattle.sky_model.specs.declared.reply.Reply.TheVariants.{TableMoved, RowsCopied, AwaitsTable, Idle}
+use Rattle.sky_model.specs.Hands.{CopyHand}
 use Rattle.sky_model.specs.Copies.{Hold, least_free, copy_txid}
 use Rattle.sky_model.specs.State.{Database}
 use Rattle.sky_model.specs.ShownRows.{snapshot_now}
@@ -21,13 +22,6 @@ use Rattle.sky_model.specs.Outcome.{Checked, ◌>>=◌, ◌>>◌, refused_if}
 use Rattle.sky_model.specs.StepQueue.{newest_id}
 use Rattle.sky_model.specs.StepConsumer.{sub_ids_spent}
 use Rattle.sky_model.specs.StepNode.{NodeCall, joining, parting, holding, letting_go, beginning_copy, copying_rows, ending_copy, giving_up_copy, set_queue, is_full, table_number}
-
--- what the worker has in hand of a copy that runs: the snapshot that is held for it, by its number; the tick at which its consumer registered; and the
--- last key that was copied, if one was
-pub record CopyHand : Type 0 where
-  pub hold : ℕ
-  pub tick : ℕ
-  pub last : Option (List Val)
 
 -- what a move does in each database, one call after another; what it prints; and what the worker then has in hand
 pub record CopyMove : Type 0 where
@@ -110,14 +104,24 @@ starts_copy p r table = do
   Ok (behind_calls (parting (copy_consumer r.node) ∷ joining (copy_consumer r.node) ∷ holding ∷ []) (beginning_copy table ∷ [])
       (next_piece p table (snapshot_now p.part) (first_hand p)))
 
--- a copy goes on, or begins if none is in hand
-abbrev pub goes_on : (p r : Database) → List ℕ → Option CopyHand → Checked CopyMove
-goes_on p r table None = starts_copy p r table
-goes_on p r table (Some hand) = Ok (next_piece p table (unwrap_or (held_snapshot p hand.hold) (snapshot_now p.part)) hand)
-
 -- nothing is done, and this is printed
 abbrev pub only_prints : Reply → Option CopyHand → Checked CopyMove
 only_prints reply hand = Ok (record { provider = []; replica = []; replies = reply ∷ []; hand = hand })
+
+-- what is in hand, and the snapshot that is held for it
+abbrev pub under_way : Database → Option CopyHand → Option (CopyHand × SnapshotView)
+under_way p None = None
+under_way p (Some hand) = option_map (λ snapshot. (hand, snapshot)) (held_snapshot p hand.hold)
+
+-- a copy that runs goes on with the next rows; if it isn't in hand, it is waited for
+abbrev pub continues : Database → List ℕ → Option CopyHand → Option (CopyHand × SnapshotView) → Checked CopyMove
+continues p table hand None = only_prints (AwaitsTable table) hand
+continues p table hand (Some x) = Ok (next_piece p table x.1 x.0)
+
+-- a copy begins, unless one of the table runs, by this transaction: then it goes on
+abbrev pub goes_on : (p r : Database) → List ℕ → Option CopyHand → (running : Option ℕ) → Checked CopyMove
+goes_on p r table hand None = starts_copy p r table
+goes_on p r table hand (Some t) = continues p table hand (under_way p hand)
 
 -- the state of a leaf's table
 abbrev pub leaf_state : List ℕ → Option Node → TableState
@@ -126,7 +130,7 @@ leaf_state table n = Absent
 
 -- what the worker does in a state of its table. A table that isn't to be copied yet, or that catches up, is waited for
 abbrev pub moves_in : TableState → (p r : Database) → List ℕ → Option CopyHand → Checked CopyMove
-moves_in InCopy p r table hand = goes_on p r table hand
+moves_in InCopy p r table hand = goes_on p r table hand (copy_running r table)
 moves_in Synced p r table hand = only_prints Idle hand
 moves_in state p r table hand = only_prints (AwaitsTable table) hand
 
@@ -134,7 +138,7 @@ moves_in state p r table hand = only_prints (AwaitsTable table) hand
 abbrev pub copy_move : (p r : Database) → List ℕ → Option CopyHand → Checked CopyMove
 copy_move p r table hand = moves_in (leaf_state table r.node) p r table hand
 
--- the copy in hand is given up, and its snapshot is held no longer
+-- what is in hand is lost: the copy is given up, and its snapshot is held no longer
 abbrev pub gives_up_in : (table : List ℕ) → Option CopyHand → CopyMove
 gives_up_in table None = record { provider = []; replica = []; replies = []; hand = None }
 gives_up_in table (Some hand) = record { provider = letting_go hand.hold ∷ []; replica = giving_up_copy table ∷ []; replies = []; hand = None }

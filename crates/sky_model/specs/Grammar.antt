@@ -134,6 +134,9 @@ node_forms =
     ∷ (codes "add_table", one Name (λ name. last Dotted (λ table. stmt.Node (node.AddTable name table))))
     ∷ (codes "remove_table", one Name (λ name. last Dotted (λ table. stmt.Node (node.RemoveTable name table))))
     ∷ (codes "table_state", one Name (λ name. last Dotted (λ table. stmt.Node (node.TableState name table))))
+    ∷ (codes "copy_step", one Name (λ name. last Dotted (λ table. stmt.Node (node.CopyStep name table))))
+    ∷ (codes "restart", one Name (λ name. either (stop (stmt.Node (node.Restart name))) (last Dotted (λ table. stmt.Node (node.RestartTable name table)))))
+    ∷ (codes "londiste_step", last Name (λ name. stmt.Node (node.LondisteStep name)))
     ∷ []
 
 -- on the clock and the daemon

@@ -88,6 +88,10 @@ IsNodeInForm (node.CreateLeaf name provider) = IsOf Name name × IsOf Name provi
 IsNodeInForm (node.AddTable name table) = IsOf Name name × IsOf Dotted table
 IsNodeInForm (node.RemoveTable name table) = IsOf Name name × IsOf Dotted table
 IsNodeInForm (node.TableState name table) = IsOf Name name × IsOf Dotted table
+IsNodeInForm (node.CopyStep name table) = IsOf Name name × IsOf Dotted table
+IsNodeInForm (node.Restart name) = IsOf Name name
+IsNodeInForm (node.RestartTable name table) = IsOf Name name × IsOf Dotted table
+IsNodeInForm (node.LondisteStep name) = IsOf Name name
 
 -- any
 abbrev pub IsInForm : Stmt → Type 0

@@ -11,7 +11,8 @@ use Rattle.sky_model.specs.Triggers.{TableTrigger, is_sets}
 use Rattle.sky_model.specs.Nodes.{node, is_root, set_tables, leaf_tables}
 use Rattle.sky_model.specs.State.{database_of}
 use Rattle.sky_model.specs.StepNode.{set_queue, set_trigger}
-use Rattle.sky_model.specs.NodesOfWorld.{add_table, remove_table}
+use Rattle.sky_model.specs.NodesOfWorld.{add_table}
+use Rattle.sky_model.specs.WorkersOfWorld.{remove_table}
 use Rattle.sky_model.specs.World.{world_of}
 use Rattle.sky_model.specs.Calls.{Call, past_of}
 use Rattle.sky_model.specs.Promises.{after_all}

@@ -4,6 +4,7 @@ pub mod Grammar
 pub mod InForm
 pub mod LawsOfLines
 pub mod Config
+pub mod Hands
 pub mod History
 pub mod Limits
 pub mod Transactions
@@ -46,6 +47,7 @@ pub mod Settling
 pub mod Daemon
 pub mod Clock
 pub mod NodesOfWorld
+pub mod WorkersOfWorld
 pub mod Promises
 pub mod Calls
 pub mod SessionMarks

@@ -1,28 +1,26 @@
--- What the statements on nodes do that concern two databases, or the one of a node's name. Each reads the world `w` as it is; `d` is the database
--- that the session has open.
+-- What the statements on nodes do that concern two databases, or the one of a node's name; what those on their workers do is in WorkersOfWorld. Each
+-- reads the world `w` as it is; `d` is the database that the session has open.
 use Rattle.std.specs.Prelude.{ℕ, List, [], ◌∷◌, ◌++◌, Bool, true, false, not, ◌&&◌, ◌||◌, map, find, Option, Some, None, option_map, is_some, bytes_eq, Ok, Err, if◌then◌else◌}
 use Rattle.sky_val.specs.declared.column.Column.{Column}
 use Rattle.sky_val.specs.declared.column.ColKind.{ColKind}
 use Rattle.sky_val.specs.declared.column.ColKind.TheVariants as kind
 use Rattle.sky_names.specs.Places.{place_of}
 use Rattle.londiste_state.specs.Nodes.{Node, of_root, of_leaf, node_name, is_among, table_of, tables_of}
-use Rattle.sky_model.specs.declared.stmt.NodeStmt.{NodeStmt}
-use Rattle.sky_model.specs.declared.stmt.NodeStmt.TheVariants.{CreateLeaf, AddTable, RemoveTable, TableState}
 use Rattle.sky_model.specs.declared.reply.Reply.{Reply}
 use Rattle.sky_model.specs.declared.reply.Reply.TheVariants as replies
-use Rattle.sky_model.specs.declared.reply.Reply.TheVariants.{Done, Number}
-use Rattle.sky_model.specs.declared.reply.Refusal.TheVariants.{AlreadyInSet, NodeExists, NoNode, NotInSet, NotLeaf, NotProvider, SchemaDiffers, TableInUse}
+use Rattle.sky_model.specs.declared.reply.Reply.TheVariants.{Done}
+use Rattle.sky_model.specs.declared.reply.Refusal.TheVariants.{AlreadyInSet, NodeExists, NoNode, NotInSet, NotLeaf, NotProvider, SchemaDiffers}
 use Rattle.sky_model.specs.History.{Fact, within, node_made, noded, leaf_made}
 use Rattle.sky_model.specs.State.{Database}
-use Rattle.sky_model.specs.Outcome.{Outcome, Checked, ◌>>=◌, ◌>>◌, refused_if, refused_by, found_or}
+use Rattle.sky_model.specs.Outcome.{Outcome, Checked, ◌>>=◌, ◌>>◌, refused_if, found_or}
 use Rattle.sky_model.specs.StepRows.{table_called}
 use Rattle.sky_model.specs.StepQueue.{newest_id}
-use Rattle.sky_model.specs.StepNode.{set_queue, joins, lists, unlists, adds, removes}
+use Rattle.sky_model.specs.StepNode.{set_queue, joins, lists, adds}
 use Rattle.sky_model.specs.World.{World}
 
--- an answer, and what happened in the world, in order
+-- the answers, and what happened in the world, in order
 pub record WorldOutcome : Type 0 where
-  pub reply : Reply
+  pub replies : List Reply
   pub facts : List Fact
 
 -- a node, and the number of its database
@@ -46,13 +44,13 @@ node_called w name = node_among (λ d. (w.database d).node) name w.nodes
 
 -- what is done in a database, with an answer
 abbrev pub done_in : ℕ → Reply → Checked Outcome → Checked WorldOutcome
-done_in d reply (Ok outcome) = Ok (record { reply = reply; facts = map (within d) outcome.marks })
+done_in d reply (Ok outcome) = Ok (record { replies = reply ∷ []; facts = map (within d) outcome.marks })
 done_in d reply (Err refusal) = Err refusal
 
 -- a leaf of a provider, in whose database its consumer has joined the set's queue
 abbrev pub leaf_of : ℕ → (provider : ℕ) → (name provider_name : List ℕ) → (tick : ℕ) → Checked Outcome → Checked WorldOutcome
 leaf_of d provider name provider_name tick (Ok joining) = Ok (record {
-  reply = Done;
+  replies = Done ∷ [];
   facts = map (within provider) joining.marks ++ within d (noded (leaf_made name provider_name tick)) ∷ node_made d ∷ [];
 })
 leaf_of d provider name provider_name tick (Err refusal) = Err refusal
@@ -130,37 +128,15 @@ name_in w d = name_or_none (w.database d).node where
 abbrev pub first_user : World → (provider table : List ℕ) → Option (List ℕ)
 first_user w provider table = option_map (name_in w) (find (λ d. uses provider table (w.database d).node) w.nodes)
 
--- a table leaves a node
-abbrev pub removes_from : World → ℕ → (table : ℕ) → List ℕ → Node → Checked WorldOutcome
-removes_from w d table name (of_root r) = do
-  refused_by (option_map TableInUse (first_user w r.name name))
-  done_in d Done (unlists table name)
-removes_from w d table name (of_leaf l) = done_in d Done (removes (w.database d) table name)
-
--- `remove_table NAME TABLE`
-abbrev pub remove_table : World → (name table : List ℕ) → Checked WorldOutcome
-remove_table w name table_name = do
-  n ← found_or (node_called w name) (NoNode name)
-  refused_if (not (is_among table_name (tables_of n.node))) (NotInSet table_name)
-  table ← table_called table_name (w.database n.database).part
-  removes_from w n.database table table_name n.node
-
 -- the state of a table of a leaf
 abbrev pub shows_state : List ℕ → List ℕ → Node → Checked WorldOutcome
 shows_state name table (of_root r) = Err (NotLeaf name)
 shows_state name table (of_leaf l) = do
   t ← found_or (table_of table l) (NotInSet table)
-  Ok (record { reply = replies.State t.state; facts = [] })
+  Ok (record { replies = replies.State t.state ∷ []; facts = [] })
 
 -- `table_state NAME TABLE`
 abbrev pub table_state : World → (name table : List ℕ) → Checked WorldOutcome
 table_state w name table = do
   n ← found_or (node_called w name) (NoNode name)
   shows_state name table n.node
-
--- what a statement on nodes does, if its session may make it
-abbrev pub node_form : World → ℕ → NodeStmt → Checked WorldOutcome
-node_form w d (CreateLeaf name provider) = create_leaf w d name provider
-node_form w d (AddTable name table) = add_table w name table
-node_form w d (RemoveTable name table) = remove_table w name table
-node_form w d (TableState name table) = table_state w name table

@@ -1,7 +1,8 @@
 -- The world, as a statement reads it, and how what happens changes it.
 use Rattle.std.specs.Prelude.{ℕ, ℤ, pos, List, [], ◌∷◌, ◌++◌, Option, Some, None, ◌==◌, if◌then◌else◌}
-use Rattle.sky_model.specs.History.{History, Fact, appeared, founded, entered, left, within, clock_at, daemon_on, daemon_off, node_made, Past}
-use Rattle.sky_model.specs.State.{Database, database_of, changed_at, after_mark}
+use Rattle.sky_model.specs.History.{History, Fact, appeared, founded, entered, left, within, clock_at, daemon_on, daemon_off, node_made, in_hand, Past}
+use Rattle.sky_model.specs.Hands.{CopyHand}
+use Rattle.sky_model.specs.State.{Database, database_of, changed_at, changed_for, after_mark}
 
 -- the sessions, in the order of appearance: a session's number is its place here
 abbrev pub session_names : Past → List (List ℕ)
@@ -47,6 +48,12 @@ nodes [] = []
 nodes (node_made d ∷ past) = nodes past ++ d ∷ []
 nodes (_ ∷ past) = nodes past
 
+-- what the worker that copies a table of a database has in hand
+abbrev pub hands : Past → ℕ → List ℕ → Option CopyHand
+hands [] = λ database table. None
+hands (in_hand database table hand ∷ past) = changed_at database (changed_for table (λ _. hand)) (hands past)
+hands (_ ∷ past) = hands past
+
 -- the world, as a statement reads it
 pub record World : Type 0 where
   pub now : ℤ
@@ -56,6 +63,7 @@ pub record World : Type 0 where
   pub database : ℕ → Database
   pub daemons : ℕ → Option ℤ
   pub nodes : List ℕ
+  pub hands : ℕ → List ℕ → Option CopyHand
 
 abbrev pub world_of : Past → World
 world_of past = record {
@@ -66,6 +74,7 @@ world_of past = record {
   database = λ d. database_of (history_in past d);
   daemons = daemon past;
   nodes = nodes past;
+  hands = hands past;
 }
 
 -- the world after something happened
@@ -79,6 +88,7 @@ after_fact w (clock_at moment) = record w { now = moment }
 after_fact w (daemon_on d) = record w { daemons = changed_at d (λ _. Some w.now) w.daemons }
 after_fact w (daemon_off d) = record w { daemons = changed_at d (λ _. None) w.daemons }
 after_fact w (node_made d) = record w { nodes = w.nodes ++ d ∷ [] }
+after_fact w (in_hand d table hand) = record w { hands = changed_at d (changed_for table (λ _. hand)) w.hands }
 
 abbrev pub after_facts : World → List Fact → World
 after_facts w [] = w

@@ -217,6 +217,14 @@ pub enum NodeStmt {
     RemoveTable { name: Text, table: Text },
     /// `table_state NAME TABLE`
     TableState { name: Text, table: Text },
+    /// `copy_step NAME TABLE`
+    CopyStep { name: Text, table: Text },
+    /// `restart NAME`
+    Restart { name: Text },
+    /// `restart NAME TABLE`
+    RestartTable { name: Text, table: Text },
+    /// `londiste_step NAME`
+    LondisteStep { name: Text },
 }
 
 // By hand, as for the statements on rows.
@@ -230,6 +238,10 @@ impl Drop for NodeStmt {
             NodeStmt::AddTable { name: _, table: _ } => {}
             NodeStmt::RemoveTable { name: _, table: _ } => {}
             NodeStmt::TableState { name: _, table: _ } => {}
+            NodeStmt::CopyStep { name: _, table: _ } => {}
+            NodeStmt::Restart { name: _ } => {}
+            NodeStmt::RestartTable { name: _, table: _ } => {}
+            NodeStmt::LondisteStep { name: _ } => {}
         }
     }
 }

@@ -46,6 +46,11 @@ pub found_within : (key : List ℕ) (names : List (List ℕ)) (found : Option �
 found_within key names None is = tt
 found_within key names (Some place) is = place_of_within key names place (sym is)
 
+-- and so is one that may be found
+pub may_be_within : (key : List ℕ) (names : List (List ℕ)) (found : Option ℕ) → IfSome found (λ place. place_of key names ≡ Some place) → IfSome found (λ place. place < length names)
+may_be_within key names None is = tt
+may_be_within key names (Some place) is = place_of_within key names place is
+
 -- and the name is there
 pub slice_get-place_of : (key : List ℕ) (names : List (List ℕ)) (place : ℕ) → place_of key names ≡ Some place → slice_get names place ≡ Some key
 slice_get-place_of key [] place is = absurd (cc)

@@ -66,6 +66,14 @@ impl<V> Named<V> {
         self.names.number(name)
     }
 
+    /// The same, or none if another name hides the hint for this one. It takes no `Text`.
+    pub fn hinted(&self, name: &str) -> Option<u32>
+        ensures number { IfSome result (λ number. place_of name.now self.now.names ≡ Some number) }
+        ensures within { IfSome result (λ number. number < length self.now.names) }
+    {
+        self.names.hinted(name)
+    }
+
     /// The value of this number.
     pub fn get(&self, number: usize) -> &V
         requires { number < length self.now.names }

@@ -1,4 +1,4 @@
-ghost use Rattle.std.specs.Prelude.{◌≡◌, ◌-◌, ◌^◌, ◌<◌, ◌↔◌, [], ◌∷◌, ◌++◌, length, true, Some, IsTrue, IfOk, OnOk, OnErr};
+ghost use Rattle.std.specs.Prelude.{◌≡◌, ◌-◌, ◌^◌, ◌<◌, ◌↔◌, [], ◌∷◌, ◌++◌, length, true, Some, IsTrue, IfOk, IfSome, OnOk, OnErr};
 ghost use Rattle.std.specs.List.{remove};
 ghost use Rattle.sky_names.specs.Places.{place_of, Distinct};
 
@@ -44,20 +44,31 @@ impl Names {
     pub fn number(&self, name: &Text) -> Option<u32>
         ensures { result ≡ place_of name.now self.now }
     {
-        let hint = self.hints[hint_place(name.bytes())];
-        if self.stands_at(hint as usize, name) {
+        if let Some(hint) = self.hinted(name.as_str()) {
             return Some(hint);
         }
         let place = self.texts.get_index_of(name)?;
         Some(place as u32)
     }
 
+    /// The number of the name, if its hint says it. Only another name with the same hint hides a known one.
+    pub fn hinted(&self, name: &str) -> Option<u32>
+        ensures { IfSome result (λ number. place_of name.now self.now ≡ Some number) }
+    {
+        let hint = self.hints[hint_place(name.as_bytes())];
+        if self.stands_at(hint as usize, name) {
+            Some(hint)
+        } else {
+            None
+        }
+    }
+
     /// Whether the name is at this place.
-    fn stands_at(&self, place: usize, name: &Text) -> bool
+    fn stands_at(&self, place: usize, name: &str) -> bool
         ensures { result ≡ true → place_of name.now self.now ≡ Some place }
     {
         match self.as_slice().get(place) {
-            Some(there) => there == name,
+            Some(there) => there.as_str() == name,
             None => false,
         }
     }

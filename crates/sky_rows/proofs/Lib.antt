@@ -2,12 +2,13 @@ pub mod Nodes
 pub mod Found
 pub mod OlderLemmas
 pub mod Walk
-pub mod Everywhere
+pub mod Linked
 pub mod KeptLemmas
+pub mod PlaceLemmas
 pub mod RowLemmas
 pub mod RowChanges
-pub mod RowsRetained
 pub mod TableLemmas
 pub mod ScanLemmas
 pub mod KeyLemmas
 pub mod ForgetLemmas
+pub mod Visited

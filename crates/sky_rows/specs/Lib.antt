@@ -3,3 +3,4 @@ pub mod Versions
 pub mod Written
 pub mod Older
 pub mod Kept
+pub mod Rows

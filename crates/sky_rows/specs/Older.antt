@@ -1,9 +1,9 @@
 -- What the older versions of keys are seen as: lists of nodes, and the version of each node.
-use Rattle.std.specs.Prelude.{◌≡◌, ℕ, Bool, true, false, ◌==◌, ◌≤◌, if◌then◌else◌, List, [], ◌∷◌, ◌++◌, length, Option, None, Some, IsSome, option_map, slice_index_or}
-use Rattle.std.specs.Option.{option_map_or, unwrap_or}
+use Rattle.std.specs.Prelude.{◌≡◌, ℕ, Bool, true, ◌==◌, ◌≤◌, if◌then◌else◌, List, [], ◌∷◌, ◌++◌, length, Option, None, Some, IsSome, option_map, slice_index_or}
+use Rattle.std.specs.Option.{unwrap_or}
 use Rattle.sky_chain.specs.Chains.{ChainsView, list_of, IsBetween, IsUnlinked}
 use Rattle.sky_keys.specs.declared.version.Version.{Version}
-use Rattle.sky_keys.specs.Versions.{newest_by, without}
+use Rattle.sky_keys.specs.Versions.{newest_by}
 
 -- lists of nodes by number, and the version of each node
 pub record OlderView : Type 0 where
@@ -65,14 +65,6 @@ abbrev pub IsFound : (ℕ → Bool) → OlderView → ℕ → Option ℕ → Typ
 IsFound p older list None = newest_by p (older_in older list) ≡ None
 IsFound p older list (Some node) = (front back : List ℕ) × (v : Version) × IsBetween older.chains list front node back × (node_at older.nodes node ≡ Some v) × (p v.txid ≡ true) × (newest_by p (versions_at_nodes older.nodes back) ≡ None)
 
--- a node has a version of the transaction
-abbrev pub IsOf : List (Option Version) → ℕ → ℕ → Type 0
-IsOf nodes node t = option_map_or (λ v. v.txid == t) (node_at nodes node) false ≡ true
-
 -- a node is removed from its list
 abbrev pub IsTakenOut : OlderView → ℕ → OlderView → Type 0
 IsTakenOut old node new = (l : ℕ) (front back : List ℕ) → IsBetween old.chains l front node back → Changes old l (Some (versions_at_nodes old.nodes (front ++ back))) new
-
--- all lists are without the versions of a transaction
-abbrev pub IsWithout : ℕ → OlderView → OlderView → Type 0
-IsWithout t old new = (l : ℕ) → list_in new l ≡ option_map (without t) (list_in old l)

@@ -3,7 +3,7 @@ ghost use Rattle.std.specs.Option.{option_copied};
 ghost use Rattle.sky_txid.specs.Snapshot.{sees};
 ghost use Rattle.sky_keys.specs.Versions.{with_version, without, version_of, newest_by, newest_but, read};
 ghost use Rattle.sky_rows.specs.Versions.{IsOneOfEach};
-ghost use Rattle.sky_rows.specs.Kept.{versions_of, newest_without, is_newest, IsUsed, Moves};
+ghost use Rattle.sky_rows.specs.Kept.{versions_of, is_newest, IsUsed, Moves};
 
 use crate::older::Older;
 use sky_keys::Version;
@@ -186,18 +186,5 @@ impl Kept {
             Some(list) => !older.is_empty(list),
             None => false,
         }
-    }
-
-    /// The same as `outlives` once the older versions of the transaction are removed. The list stays.
-    pub(crate) fn outlives_at_newest(&mut self, older: &Older, txid: u64) -> bool
-        requires { IsUsed older.now self.old.list }
-        ensures list { self.new.list ≡ self.old.list }
-        ensures newest { self.new.newest ≡ newest_without txid self.old.newest }
-        ensures left { IsTrue result ↔ (versions_of older.now self.new ≢ []) }
-    {
-        if self.is_newest(txid) {
-            self.newest = None;
-        }
-        self.has_any(older)
     }
 }

@@ -4,7 +4,7 @@ ghost use Rattle.sky_txid.specs.Snapshot.{sees};
 ghost use Rattle.sky_chain.specs.Chains.{IsLinked};
 ghost use Rattle.sky_keys.specs.Versions.{with_version, without, version_of, newest_by, newest_but};
 ghost use Rattle.sky_rows.specs.Versions.{IsOneOfEach};
-ghost use Rattle.sky_rows.specs.Older.{node_at, list_in, older_in, IsFound, IsOf, IsTakenOut, Changes, Same, HasRoomFor, IsWithout};
+ghost use Rattle.sky_rows.specs.Older.{node_at, list_in, older_in, IsFound, IsTakenOut, Changes, Same, HasRoomFor};
 
 use sky_chain::Chains;
 use sky_keys::Version;
@@ -139,17 +139,6 @@ impl Older {
         }
     }
 
-    /// Removes the transaction's versions from all lists.
-    pub(crate) fn forget_everywhere(&mut self, txid: u64)
-        ensures { IsWithout txid self.old self.new }
-    {
-        for node in 0..self.nodes.len() {
-            if self.is_of(node, txid) {
-                self.take_out(node);
-            }
-        }
-    }
-
     /// Whether the list has no version.
     pub(crate) fn is_empty(&self, list: usize) -> bool
         requires { IsSome (list_in self.now list) }
@@ -192,17 +181,6 @@ impl Older {
         ensures linked { OnSome result (IsLinked self.now.chains node) }
     {
         self.nodes.get(node)?.as_ref()
-    }
-
-    /// Whether the node has a version of the transaction.
-    fn is_of(&self, node: usize, txid: u64) -> bool
-        ensures of { IsTrue result ↔ IsOf self.now.nodes node txid }
-        ensures linked { IsTrue result → IsLinked self.now.chains node }
-    {
-        match self.version(node) {
-            Some(version) => version.txid == txid,
-            None => false,
-        }
     }
 
     /// Removes the node from its list.

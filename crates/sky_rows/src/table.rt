@@ -1,4 +1,4 @@
-ghost use Rattle.std.specs.Prelude.{◌≡◌, ◌==◌, ◌||◌, not, [], map, take, false, None, is_some, IsTrue, IfOk, OnOk, OnErr};
+ghost use Rattle.std.specs.Prelude.{◌≡◌, ◌==◌, ◌||◌, not, [], map, take, true, false, None, is_some, IsTrue, IfOk, OnOk, OnErr};
 ghost use Rattle.std.specs.Option.{option_copied};
 ghost use Rattle.std.specs.BTreeSet.{contains};
 ghost use Rattle.sky_val.specs.Order.{key_cmp};
@@ -8,15 +8,16 @@ ghost use Rattle.sky_keys.specs.Versions.{version_of, newest_by, newest_but, rea
 ghost use Rattle.sky_rows.specs.Table.{forgotten_at};
 ghost use Rattle.sky_rows.specs.Written.{AllKept};
 ghost use Rattle.sky_rows.specs.Kept.{all_versions, AreOwn};
+ghost use Rattle.sky_rows.specs.Rows.{rows_in};
 
-use crate::kept::Kept;
 use crate::older::Older;
+use crate::rows::Rows;
 use crate::written::Written;
 use sky_keys::Version;
 use sky_txid::Snapshot;
 use sky_val::{Key, NoMemory, Row, Schema};
 use std::alloc::Global;
-use std::collections::{BTreeMap, BTreeSet};
+use std::collections::BTreeSet;
 use std::marker::Model;
 use std::ops::Bound;
 
@@ -27,7 +28,7 @@ pub struct Table {
     schema: Schema,
 
     // Each key's newest version is kept with it, and the others in its list of `older`.
-    rows: BTreeMap<Key, Kept>,
+    rows: Rows,
     older: Older,
 
     // By it a transaction that has no version at a key need not look through all versions there, and `forget` visits no
@@ -40,13 +41,14 @@ impl Model for Table {
     ghost use Rattle.sky_rows.specs.Table.{TableView};
     ghost use Rattle.sky_rows.specs.Written.{wrote, AllKept};
     ghost use Rattle.sky_rows.specs.Kept.{all_versions, AreOwn};
+    ghost use Rattle.sky_rows.specs.Rows.{rows_in};
 
     ghost Value = { TableView };
 
-    ghost view = { λ t. record { columns = t.schema; versions = all_versions t.older t.rows.entries } };
+    ghost view = { λ t. record { columns = t.schema; versions = all_versions t.older (rows_in t.rows) } };
 
-    ghost invariant = { λ t. AreOwn t.older t.rows.entries
-        × AllKept (wrote t.written) (all_versions t.older t.rows.entries) };
+    ghost invariant = { λ t. AreOwn t.older (rows_in t.rows)
+        × AllKept (wrote t.written) (all_versions t.older (rows_in t.rows)) };
 }
 
 impl Table {
@@ -57,7 +59,7 @@ impl Table {
         Table {
             alloc,
             schema,
-            rows: BTreeMap::new(alloc),
+            rows: Rows::new(alloc),
             older: Older::new(alloc),
             written: Written::new(alloc),
         }
@@ -127,10 +129,13 @@ impl Table {
             None => Bound::Unbounded,
         };
         let mut found = Vec::new(self.alloc);
-        for (key, kept) in self.rows.range((start, Bound::Unbounded)) {
+        for (key, place) in self.rows.places().range((start, Bound::Unbounded)) {
             if found.len() == most {
                 break;
             }
+            let Some(kept) = self.rows.at(*place) else {
+                continue;
+            };
             if let Some(row) = kept.read(&self.older, snapshot, self.written.writer(own, key)) {
                 found.push(row.copy(self.alloc)?)?;
             }
@@ -143,7 +148,10 @@ impl Table {
         ensures { IfOk result (λ found. found.items ≡ map (λ e. e.0) (rows_read snapshot.now own self.now.versions)) }
     {
         let mut found = Vec::new(self.alloc);
-        for (key, kept) in &self.rows {
+        for (key, place) in self.rows.places() {
+            let Some(kept) = self.rows.at(*place) else {
+                continue;
+            };
             if kept
                 .read(&self.older, snapshot, self.written.writer(own, key))
                 .is_some()
@@ -162,13 +170,8 @@ impl Table {
         ensures err { OnErr result (self.new ≡ self.old) }
     {
         let again = self.written.add(self.alloc, txid, &key)?;
-        put_version(
-            &mut self.rows,
-            &mut self.older,
-            key,
-            Version { txid, row },
-            again,
-        )
+        self.rows
+            .put(&mut self.older, key, Version { txid, row }, again)
     }
 
     /// The same for a transaction that ends with it while no other one runs. The index lists no key of
@@ -184,13 +187,8 @@ impl Table {
         };
         let again = self.written.has(txid, &key);
         self.written.prune(next);
-        put_version(
-            &mut self.rows,
-            &mut self.older,
-            key,
-            Version { txid, row },
-            again,
-        )
+        self.rows
+            .put(&mut self.older, key, Version { txid, row }, again)
     }
 
     /// Removes all versions of the transaction. A key that is left without any is removed too.
@@ -214,67 +212,38 @@ impl Table {
     }
 }
 
-/// Puts the version at the key. If its transaction may have one there already, that is looked for and replaced.
-fn put_version(
-    rows: &mut BTreeMap<Key, Kept>,
-    older: &mut Older,
-    key: Key,
-    version: Version,
-    again: bool,
-) -> Result<(), NoMemory>
-    requires first { again ≡ false → version_of version.txid (versions_at key (all_versions older.old rows.old.entries)) ≡ None }
-    requires own { AreOwn older.old rows.old.entries }
-    ensures ok { OnOk result
-        (all_versions older.new rows.new.entries ≡ written version.txid key version.row (all_versions older.old rows.old.entries)) }
-    ensures err { OnErr result (all_versions older.new rows.new.entries ≡ all_versions older.old rows.old.entries) }
-    ensures own { AreOwn older.new rows.new.entries }
-{
-    match rows.get_mut(&key) {
-        Some(kept) if again => kept.write(older, version),
-        Some(kept) => kept.push(older, version),
-        None => {
-            rows.insert(key, Kept::first(version))?;
-            Ok(())
-        }
-    }
-}
-
 /// Removes the transaction's versions, which are all at these keys, and the keys with their last.
-fn forget_all(rows: &mut BTreeMap<Key, Kept>, older: &mut Older, keys: &BTreeSet<Key>, txid: u64)
-    requires kept { AllKept (λ t key. not (t == txid) || contains key_cmp keys.now key) (all_versions older.old rows.old.entries) }
-    requires own { AreOwn older.old rows.old.entries }
-    ensures entries { all_versions older.new rows.new.entries ≡ forgotten txid (all_versions older.old rows.old.entries) }
-    ensures own { AreOwn older.new rows.new.entries }
+fn forget_all(rows: &mut Rows, older: &mut Older, keys: &BTreeSet<Key>, txid: u64)
+    requires kept { AllKept (λ t key. not (t == txid) || contains key_cmp keys.now key) (all_versions older.old (rows_in rows.old)) }
+    requires own { AreOwn older.old (rows_in rows.old) }
+    ensures entries { all_versions older.new (rows_in rows.new) ≡ forgotten txid (all_versions older.old (rows_in rows.old)) }
+    ensures own { AreOwn older.new (rows_in rows.new) }
 {
     for key in keys {
         forget_at(rows, older, key, txid);
     }
 }
 
-/// Removes the transaction's versions, at whatever keys they are, and the keys with their last. If such a key had a
-/// list, the number of that isn't used again: only `forget` on a transaction that was pruned comes here, which `prune`
-/// asks callers not to need.
-fn forget_everywhere(rows: &mut BTreeMap<Key, Kept>, older: &mut Older, txid: u64)
-    requires { AreOwn older.old rows.old.entries }
-    ensures entries { all_versions older.new rows.new.entries ≡ forgotten txid (all_versions older.old rows.old.entries) }
-    ensures own { AreOwn older.new rows.new.entries }
+/// Removes the transaction's versions, at whatever keys they are, and the keys with their last.
+fn forget_everywhere(rows: &mut Rows, older: &mut Older, txid: u64)
+    requires kept { AllKept (λ _ _. true) (all_versions older.old (rows_in rows.old)) }
+    requires own { AreOwn older.old (rows_in rows.old) }
+    ensures entries { all_versions older.new (rows_in rows.new) ≡ forgotten txid (all_versions older.old (rows_in rows.old)) }
+    ensures own { AreOwn older.new (rows_in rows.new) }
 {
-    older.forget_everywhere(txid);
-    let older = &*older;
-    rows.retain(|_, kept| kept.outlives_at_newest(older, txid));
+    for place in 0..rows.end() {
+        rows.forget(older, place, txid);
+    }
 }
 
 /// Removes the transaction's version at the key, and the key with its last.
-fn forget_at(rows: &mut BTreeMap<Key, Kept>, older: &mut Older, key: &Key, txid: u64)
-    requires { AreOwn older.old rows.old.entries }
-    ensures entries { all_versions older.new rows.new.entries ≡ forgotten_at txid key.now (all_versions older.old rows.old.entries) }
-    ensures own { AreOwn older.new rows.new.entries }
-    ensures in_order { IsTrue (is_in_order (all_versions older.old rows.old.entries)) }
+fn forget_at(rows: &mut Rows, older: &mut Older, key: &Key, txid: u64)
+    requires { AreOwn older.old (rows_in rows.old) }
+    ensures entries { all_versions older.new (rows_in rows.new) ≡ forgotten_at txid key.now (all_versions older.old (rows_in rows.old)) }
+    ensures own { AreOwn older.new (rows_in rows.new) }
+    ensures in_order { IsTrue (is_in_order (all_versions older.old (rows_in rows.old))) }
 {
-    let Some(kept) = rows.get_mut(key) else {
-        return;
-    };
-    if !kept.outlives(older, txid) {
-        rows.remove(key);
+    if let Some(place) = rows.place(key) {
+        rows.forget(older, place, txid);
     }
 }

@@ -64,20 +64,17 @@ impl Written {
         ensures kept { (t : ℕ) (q : List Val)
             → wrote self.new t q ≡ false → wrote self.old t q ≡ false }
     {
-        if self.has(txid, key) {
+        if !self.tells(txid) {
             return Ok(true);
         }
         let key = key.copy(alloc)?;
-        match self.keys.get_mut(&txid) {
-            Some(keys) => {
-                keys.insert(key)?;
-            }
-            None => {
-                let mut keys = BTreeSet::new(alloc);
-                keys.insert(key)?;
-                self.keys.insert(txid, keys)?;
-            }
+        if let Some(keys) = self.keys.get_mut(&txid) {
+            let is_new = keys.insert(key)?;
+            return Ok(!is_new);
         }
+        let mut keys = BTreeSet::new(alloc);
+        keys.insert(key)?;
+        self.keys.insert(txid, keys)?;
         Ok(false)
     }
 

@@ -5,7 +5,10 @@ ghost use Rattle.sky_script.specs.Reading.{AnswersAmong, of_six, of_twelve, of_s
 
 use crate::cause::LineCause;
 use crate::clock_forms::{clock, pgqd};
-use crate::node_forms::{add_table, create_leaf, create_root, remove_table, table_state};
+use crate::node_forms::{
+    add_table, copy_step, create_leaf, create_root, londiste_step, remove_table, restart,
+    table_state,
+};
 use crate::queue_forms::{
     consumer_info, create_queue, drop_queue, event_retry, finish_batch, force_tick,
     get_batch_events, get_batch_info, insert_event, maint_retry_events, maint_rotate_step1,
@@ -153,6 +156,12 @@ fn read_middle(alloc: Global, first: &[u8], words: &mut Words) -> Result<Stmt, L
     if first == b"table_state".as_slice() {
         return table_state(alloc, words);
     }
+    if first == b"copy_step".as_slice() {
+        return copy_step(alloc, words);
+    }
+    if first == b"restart".as_slice() {
+        return restart(alloc, words);
+    }
     Err(words.refused())
 }
 
@@ -196,6 +205,9 @@ fn read_long(alloc: Global, first: &[u8], words: &mut Words) -> Result<Stmt, Lin
     }
     if first == b"maint_rotate_step2".as_slice() {
         return maint_rotate_step2(words);
+    }
+    if first == b"londiste_step".as_slice() {
+        return londiste_step(alloc, words);
     }
     Err(words.refused())
 }

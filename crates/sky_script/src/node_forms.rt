@@ -2,7 +2,7 @@
 
 ghost use Rattle.sky_model.specs.declared.stmt.NodeStmt.TheVariants as node;
 ghost use Rattle.sky_model.specs.Kinds.{Name, Dotted};
-ghost use Rattle.sky_model.specs.Grammar.{one, last};
+ghost use Rattle.sky_model.specs.Grammar.{one, last, stop, either};
 ghost use Rattle.sky_script.specs.Reading.{Answers};
 
 use crate::cause::LineCause;
@@ -57,4 +57,35 @@ pub(crate) fn table_state(alloc: Global, words: &mut Words) -> Result<Stmt, Line
     let table = words.dotted(alloc)?;
     words.end()?;
     Ok(Stmt::Node(NodeStmt::TableState { name, table }))
+}
+
+pub(crate) fn copy_step(alloc: Global, words: &mut Words) -> Result<Stmt, LineCause>
+    ensures { let row = one Name (λ name. last Dotted (λ table. Stmt.Node (node.CopyStep name table))) in
+        Answers result row words.old }
+{
+    let name = words.name(alloc)?;
+    let table = words.dotted(alloc)?;
+    words.end()?;
+    Ok(Stmt::Node(NodeStmt::CopyStep { name, table }))
+}
+
+pub(crate) fn restart(alloc: Global, words: &mut Words) -> Result<Stmt, LineCause>
+    ensures { let row = one Name (λ name. either (stop (Stmt.Node (node.Restart name))) (last Dotted (λ table. Stmt.Node (node.RestartTable name table)))) in
+        Answers result row words.old }
+{
+    let name = words.name(alloc)?;
+    if words.at_end() {
+        return Ok(Stmt::Node(NodeStmt::Restart { name }));
+    }
+    let table = words.dotted(alloc)?;
+    words.end()?;
+    Ok(Stmt::Node(NodeStmt::RestartTable { name, table }))
+}
+
+pub(crate) fn londiste_step(alloc: Global, words: &mut Words) -> Result<Stmt, LineCause>
+    ensures { Answers result (last Name (λ name. Stmt.Node (node.LondisteStep name))) words.old }
+{
+    let name = words.name(alloc)?;
+    words.end()?;
+    Ok(Stmt::Node(NodeStmt::LondisteStep { name }))
 }

@@ -9,6 +9,7 @@ ghost use Rattle.sky_urlenc.specs.Held.{HoldsOne};
 ghost use Rattle.sky_urlenc.specs.ReadRow.{read_row};
 ghost use Rattle.sky_urlenc.specs.RowText.{column_text, row_text};
 
+use crate::kept::kept;
 use form_urlencoded::byte_serialize;
 use itoa::Buffer;
 use sky_val::{Column, NoMemory, Row, Schema, Text, Val};
@@ -32,7 +33,7 @@ pub fn encode_row(alloc: Global, schema: &Schema, row: &Row) -> Result<Text, NoM
         }
         append_column(column, value, &mut text)?;
     }
-    Ok(Text::from_string(text))
+    kept(alloc, text)
 }
 
 /// Appends a column with its value.

@@ -5,18 +5,22 @@ ghost use Rattle.std.specs.List.{join_with_byte};
 ghost use Rattle.sky_val.specs.Schemas.{key_columns};
 ghost use Rattle.sky_urlenc.specs.EventType.{colon, comma, op_letter, event_type};
 
+use crate::kept::kept;
 use sky_val::{Column, NoMemory, Op, Schema, Text};
 use std::alloc::Global;
+
+/// How many bytes most types have at most.
+const USUAL_BYTES: usize = 24;
 
 /// The type of the event that records an operation on a row of the table: `I`, `U` or `D`, a colon, and the names of
 /// the key columns, separated by commas.
 pub fn event_type(alloc: Global, op: Op, schema: &Schema) -> Result<Text, NoMemory>
     ensures { IfOk result (λ text. text ≡ event_type op schema.now) }
 {
-    let mut text = String::new(alloc);
+    let mut text = String::with_capacity(alloc, USUAL_BYTES)?;
     text.push_str(op_mark(op))?;
     append_key_names(schema.columns(), &mut text)?;
-    Ok(Text::from_string(text))
+    kept(alloc, text)
 }
 
 /// The letter of the operation, and a colon.

@@ -13,6 +13,7 @@ mod decode;
 mod encode;
 mod event_kind;
 mod fault;
+mod kept;
 mod pieces;
 mod row_event;
 mod sides;

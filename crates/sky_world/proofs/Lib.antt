@@ -1,7 +1,14 @@
 pub mod Worlds
+pub mod HandsAt
 pub mod Resting
 pub mod Made
 pub mod Refusals
 pub mod Daemons
 pub mod Clocks
 pub mod ServedNodes
+pub mod CallsInTurn
+pub mod TwoDatabases
+pub mod MoveMoments
+pub mod LeavesLeaf
+pub mod WorkerSteps
+pub mod WorkersFound

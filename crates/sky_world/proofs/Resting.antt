@@ -58,9 +58,12 @@ for-nodes (tabled (wrote (of_copy n) t table key old new)) e = refl
 for-nodes _ e = absurd (cc)
 
 -- a call for a node
+pub ready-call : (d : Database) (call : NodeCall) → ready (after_marks d (marks_of (node_does d call))).part ≡ ready d.part
+ready-call d call = ready-stays d (marks_of (node_does d call)) (each-node leaves_locks for-nodes d call)
+
 pub ready-served : (old new : Database) (call : NodeCall) → Serves old new call → ready new.part ≡ ready old.part
 ready-served old new call serves =
-    ap (λ (d : Database). ready d.part) serves.changed ∙ ready-stays old (marks_of (node_does old call)) (each-node leaves_locks for-nodes old call)
+    ap (λ (d : Database). ready d.part) serves.changed ∙ ready-call old call
 
 -- a part of a daemon's work
 pub ready-worked : (old new : Database) (part : DaemonPart) (now : ℤ) → new ≡ after_marks old (daemon_does database_by_itself old part now).marks → ready new.part ≡ ready old.part

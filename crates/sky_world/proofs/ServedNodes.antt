@@ -1,15 +1,17 @@
 -- What the world shows after a statement on nodes.
-use Rattle.std.proofs.Common.{◌≡◌, ℕ, ◌<◌, List, [], ◌∷◌, ◌++◌, Bool, true, false, ◌==◌, ◌&&◌, map, length, Option, Some, None, not, is_some, is_ok, option_map, append-nil, Result, Ok, Err, get_or, refl, sym, ◌∙◌, ap, subst, arith, if◌then◌else◌}
+use Rattle.std.proofs.Common.{All, ◌≡◌, ℕ, ◌<◌, List, [], ◌∷◌, ◌++◌, Bool, true, false, ◌==◌, ◌&&◌, map, length, Option, Some, None, not, is_some, is_ok, option_map, append-nil, Result, Ok, Err, get_or, refl, sym, ◌∙◌, ap, subst, arith, if◌then◌else◌}
 use Rattle.std.specs.Option.{is_none}
 use Rattle.std.specs.Result.{IsErrAnd, IfOk, OnOk}
 use Rattle.std.proofs.lemmas.Bool.Decides.{nat_tests}
 use Rattle.sky_val.specs.declared.column.Column.{Column}
+use Rattle.std.proofs.lemmas.List.Elements.{All-nil, All-cons, All-head, All-tail, All-from_recursion}
 use Rattle.sky_names.specs.Places.{place_of}
 use Rattle.sky_names.specs.Named.{with_value}
 use Rattle.londiste_state.specs.Nodes.{Root, Leaf, of_root, of_leaf, is_among, tables_of}
 use Rattle.sky_model.specs.declared.stmt.Stmt.{Stmt}
 use Rattle.sky_model.specs.declared.stmt.Stmt.TheVariants as stmts
 use Rattle.sky_model.specs.declared.stmt.NodeStmt.{NodeStmt}
+use Rattle.sky_model.specs.Printed.{HaveMoments, ReplyHasMoments}
 use Rattle.sky_model.specs.declared.reply.Reply.{Reply}
 use Rattle.sky_model.specs.declared.reply.Reply.TheVariants.{Done, Refused}
 use Rattle.sky_model.specs.declared.reply.Refusal.{Refusal}
@@ -29,7 +31,8 @@ use Rattle.sky_model.specs.SessionMarks.{Enters, entry_place}
 use Rattle.sky_model.specs.StepQueue.{newest_id}
 use Rattle.sky_model.specs.StepRows.{table_called}
 use Rattle.sky_model.specs.StepNode.{set_queue, set_queue_of, joins, lists, unlists, adds, removes, NodeCall, joining, making_leaf, adding, removing, listing, unlisting, if_there, table_number, may_serve, node_does}
-use Rattle.sky_model.specs.NodesOfWorld.{WorldOutcome, Located, node_called, done_in, leaf_of, provides, are_columns, columns_called, adds_to, add_table, first_user, removes_from, remove_table, node_form}
+use Rattle.sky_model.specs.NodesOfWorld.{WorldOutcome, Located, node_called, done_in, leaf_of, provides, are_columns, columns_called, adds_to, add_table, first_user}
+use Rattle.sky_model.specs.WorkersOfWorld.{call_facts, moves, source, leaves_leaf, removes_from, remove_table, node_form}
 use Rattle.sky_model.specs.Calls.{database_turn, world_does, node_stmt_does, gets_node, node_if, roots_in, root_does, session_does}
 use Rattle.sky_model.proofs.Good.{same-session}
 use Rattle.sky_model.proofs.RowStanding.{part-behind}
@@ -43,7 +46,7 @@ use Rattle.pgq_db.specs.Gives.{is_worlds}
 use Rattle.sky_world.specs.Views.{WorldView}
 use Rattle.sky_world.specs.Seen.{seen_world}
 use Rattle.sky_world.specs.Adds.{AddsDeed}
-use Rattle.sky_world.specs.Nodes.{outside_allowed, may_outside, refused_turn, root_name, Stays, Happened, Does, Ran, call_facts, set_tick, Joins, Joined, leaf_from, provided_as}
+use Rattle.sky_world.specs.Nodes.{outside_allowed, may_outside, refused_turn, root_name, Stays, Happened, Does, DoesAll, Ran, set_tick, Joins, Joined, leaf_from, provided_as}
 use Rattle.sky_world.proofs.Worlds.{after_facts-within, after_facts-append, store-there, store-changed, adds-moved}
 use Rattle.sky_world.proofs.Refusals.{adds-after, answers-alone, turn-refused, may-outside}
 
@@ -74,9 +77,12 @@ waits-stay d (ended (of_copy table) t false ∷ marks) all = waits-stay (after_m
 waits-stay d (tabled (wrote (of_copy n) t table key old new) ∷ marks) all = waits-stay (after_mark d (tabled (wrote (of_copy n) t table key old new))) marks all
 waits-stay d (_ ∷ marks) all = absurd all
 
+pub waits-call : (d : Database) (call : NodeCall) → (after_marks d (marks_of (node_does d call))).part.waiting ≡ d.part.waiting
+waits-call d call = waits-stay d (marks_of (node_does d call)) (each-node is_for_nodes (λ mark is. is) d call)
+
 pub waits-served : (old new : Database) (call : NodeCall) → Serves old new call → new.part.waiting ≡ old.part.waiting
 waits-served old new call serves =
-    ap (λ (d : Database). d.part.waiting) serves.changed ∙ waits-stay old (marks_of (node_does old call)) (each-node is_for_nodes (λ mark is. is) old call)
+    ap (λ (d : Database). d.part.waiting) serves.changed ∙ waits-call old call
 
 pub waits-same : (old new : Database) → new ≡ old → new.part.waiting ≡ old.part.waiting
 waits-same old new same = ap (λ (d : Database). d.part.waiting) same
@@ -127,7 +133,7 @@ refused-there v now d old new call refusal same lt at refused is =
     (subst (λ x. node_does x call ≡ Err refusal) (shown-there v now d old same lt at) refused, stays-there v now d old new same lt at is)
 
 -- what is done in a database with `ok`, or isn't
-done-outcome : (d : ℕ) (c : Checked Outcome) → is_ok c ≡ true → done_in d Done c ≡ Ok (record { reply = Done; facts = map (within d) (marks_of c) })
+done-outcome : (d : ℕ) (c : Checked Outcome) → is_ok c ≡ true → done_in d Done c ≡ Ok (record { replies = Done ∷ []; facts = map (within d) (marks_of c) })
 done-outcome d (Ok outcome) ok = refl
 done-outcome d (Err refusal) ok = absurd (cc)
 
@@ -279,12 +285,42 @@ node-refused old s new d who stmt found refusal before after is there stays adds
     (subst (λ t. AddsDeed old new before after (deed_in d [] t)) (sym (turn-refused (seen_world old) d who (stmts.Node stmt) refusal refl refused))
     (adds-after old s new (λ w. deed_in d [] (refused_turn (w.database d) w.now who refusal)) before after stays adds))
 
--- its answer
-pub form-done : (old s : WorldView) (who : ℕ) (reply : Reply) (checked : Checked WorldOutcome) (before after : List (ℕ × Reply)) → who < length old.sessions.names → Does old s reply checked
-    → after ≡ before ++ (who, reply) ∷ [] → AddsDeed old s before after (world_does who checked)
-form-done old s who reply checked before after lt does added =
-    subst (λ c. AddsDeed old s before after (world_does who c)) (sym does.outcome)
-    (answers-alone old s who reply does.facts before after lt does.moments does.happened.changed does.happened.sessions added)
+-- its answers
+known-all : (who count : ℕ) (replies : List Reply) → who < count → All (λ (answer : ℕ × Reply). answer.0 < count) (map (λ reply. (who, reply)) replies)
+known-all who count [] lt = All-nil (λ (answer : ℕ × Reply). answer.0 < count)
+known-all who count (reply ∷ replies) lt =
+    All-cons (λ (answer : ℕ × Reply). answer.0 < count) (who, reply) (map (λ r. (who, r)) replies) lt (known-all who count replies lt)
+
+moments-all : (who : ℕ) (replies : List Reply) → All ReplyHasMoments replies → HaveMoments (map (λ reply. (who, reply)) replies)
+moments-all who [] all = All-nil (λ (answer : ℕ × Reply). ReplyHasMoments answer.1)
+moments-all who (reply ∷ replies) all =
+    All-cons (λ (answer : ℕ × Reply). ReplyHasMoments answer.1) (who, reply) (map (λ r. (who, r)) replies) (All-head ReplyHasMoments reply replies all)
+    (moments-all who replies (All-tail ReplyHasMoments reply replies all))
+
+pub form-done : (old s : WorldView) (who : ℕ) (replies : List Reply) (checked : Checked WorldOutcome) (before after : List (ℕ × Reply)) → who < length old.sessions.names → DoesAll old s replies checked
+    → after ≡ before ++ map (λ reply. (who, reply)) replies → AddsDeed old s before after (world_does who checked)
+form-done old s who replies checked before after lt does added =
+    subst (λ c. AddsDeed old s before after (world_does who c)) (sym does.outcome) (record {
+      answered = added;
+      known = known-all who (length old.sessions.names) replies lt;
+      moments = moments-all who replies does.moments;
+      changed = does.happened.changed;
+      sessions = does.happened.sessions;
+    })
+
+-- no answer is left
+pub none-left : (who : ℕ) (before : List (ℕ × Reply)) (left : List Reply) → length left ≡ 0 → before ≡ before ++ map (λ reply. (who, reply)) left
+none-left who before [] none = sym (append-nil before)
+none-left who before (reply ∷ left) none = absurd (omega (arith, none))
+
+-- one answer as a list
+pub does-single : (old s : WorldView) (reply : Reply) (replies : List Reply) (checked : Checked WorldOutcome) → replies ≡ reply ∷ [] → Does old s reply checked → DoesAll old s replies checked
+does-single old s reply replies checked is does = subst (λ rs. DoesAll old s rs checked) (sym is) (record {
+  facts = does.facts;
+  outcome = does.outcome;
+  moments = All-from_recursion ReplyHasMoments (reply ∷ []) (does.moments, tt);
+  happened = does.happened;
+})
 
 -- or its refusal
 pub form-refused : (old s : WorldView) (who : ℕ) (refusal : Refusal) (checked : Checked WorldOutcome) (before after : List (ℕ × Reply)) → who < length old.sessions.names → checked ≡ Err refusal → Stays old s
@@ -334,14 +370,14 @@ leaf-there v now new d tick was is name provider same lt at free serves gets = r
         (served-there v now d was is (making_leaf name provider tick) same lt at serves)
 
 leaf-outcome : (d from tick : ℕ) (name provider : List ℕ) (c : Checked Outcome) → is_ok c ≡ true
-    → leaf_of d from name provider tick c ≡ Ok (record { reply = Done; facts = map (within from) (marks_of c) ++ within d (noded (leaf_made name provider tick)) ∷ node_made d ∷ [] })
+    → leaf_of d from name provider tick c ≡ Ok (record { replies = Done ∷ []; facts = map (within from) (marks_of c) ++ within d (noded (leaf_made name provider tick)) ∷ node_made d ∷ [] })
 leaf-outcome d from tick name provider (Ok outcome) ok = refl
 leaf-outcome d from tick name provider (Err refusal) ok = absurd (cc)
 
 leaf-given : (w : World) (d from tick : ℕ) (name provider : List ℕ) (o : Option ℕ) → option_map (λ q. newest_id ((w.database from).queue q)) o ≡ Some tick
     → is_ok (if_there o (λ q. joins (w.database from) q name)) ≡ true
     → (found_or o (NotProvider provider) >>= (λ q. leaf_of d from name provider (newest_id ((w.database from).queue q)) (joins (w.database from) q name)))
-    ≡ Ok (record { reply = Done; facts = map (within from) (marks_of (if_there o (λ q. joins (w.database from) q name))) ++ within d (noded (leaf_made name provider tick)) ∷ node_made d ∷ [] })
+    ≡ Ok (record { replies = Done ∷ []; facts = map (within from) (marks_of (if_there o (λ q. joins (w.database from) q name))) ++ within d (noded (leaf_made name provider tick)) ∷ node_made d ∷ [] })
 leaf-given w d from tick name provider None newest ok = absurd (cc)
 leaf-given w d from tick name provider (Some q) newest ok =
     let same : newest_id ((w.database from).queue q) ≡ tick = cc in
@@ -492,9 +528,6 @@ remove-from_root w name table d r there among has =
 
 pub remove-from_leaf : (w : World) (name table : List ℕ) (d : ℕ) (l : Leaf) → node_called w name ≡ Some (record { database = d; node = of_leaf l }) → is_among table (tables_of (of_leaf l)) ≡ true
     → is_some (columns_called table (w.database d)) ≡ true
-    → remove_table w name table ≡ done_in d Done (node_does (w.database d) (removing table))
+    → remove_table w name table ≡ (source w l table >>= (λ p. moves w p d table (Ok (leaves_leaf l table (w.hands d table)))))
 remove-from_leaf w name table d l there among has =
-    remove-goes w name table (record { database = d; node = of_leaf l }) there among
-    ∙ numbered w d table (λ t. removes_from w d t table (of_leaf l)) _ has (λ t number.
-    ap (λ o. done_in d Done (if_there o (λ k. removes (w.database d) k table))) (sym number)
-    ∙ ap (done_in d Done) (sym (is-served (w.database d) (removing table) (may-remove (w.database d).node l table (called-there w name (record { database = d; node = of_leaf l }) there) among))))
+    remove-goes w name table (record { database = d; node = of_leaf l }) there among ∙ numbered w d table (λ t. removes_from w d t table (of_leaf l)) _ has (λ t number. refl)

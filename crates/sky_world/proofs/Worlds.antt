@@ -28,6 +28,7 @@ use Rattle.pgq_db.specs.Seen.{seen_database, no_database}
 use Rattle.pgq_db.specs.Waiters.{WaitersWithin, StaysWithin}
 use Rattle.pgq_db.specs.Gives.{is_worlds, Adds}
 use Rattle.pgq_db.proofs.Empty.{no_database-is}
+use Rattle.sky_world.specs.Hands.{HandAt}
 use Rattle.sky_world.specs.Views.{WorldView}
 use Rattle.sky_world.specs.Seen.{seen_world}
 use Rattle.sky_world.specs.Homes.{HomesWithin, NodesWithin}
@@ -89,10 +90,11 @@ homes-at v now who home same all lt is =
 none-there : {A : Type 0} (n : ℕ) (d : A) → get_or [] n d ≡ d
 none-there n d = get_or_past [] n d (omega arith)
 
-pub world-new : (sessions : NamedView (Option ℕ)) (databases : NamedView DbView) (daemons : List (ℕ × ℤ)) (nodes : List ℕ) → sessions ≡ record { names = []; values = [] } → databases ≡ record { names = []; values = [] }
-    → daemons ≡ [] → nodes ≡ [] → seen_world (record { now = pos 0; sessions = sessions; databases = databases; daemons = daemons; nodes = nodes; has_failed = false }) ≡ world_of []
-world-new sessions databases daemons nodes nobody nothing none no_node =
-    (λ i. seen_world (record { now = pos 0; sessions = nobody i; databases = nothing i; daemons = none i; nodes = no_node i; has_failed = false }))
+pub world-new : (sessions : NamedView (Option ℕ)) (databases : NamedView DbView) (daemons : List (ℕ × ℤ)) (nodes : List ℕ) (hands : List HandAt) → sessions ≡ record { names = []; values = [] } → databases ≡ record { names = []; values = [] }
+    → daemons ≡ [] → nodes ≡ [] → hands ≡ []
+    → seen_world (record { now = pos 0; sessions = sessions; databases = databases; daemons = daemons; nodes = nodes; hands = hands; has_failed = false }) ≡ world_of []
+world-new sessions databases daemons nodes hands nobody nothing none no_node no_hand =
+    (λ i. seen_world (record { now = pos 0; sessions = nobody i; databases = nothing i; daemons = none i; nodes = no_node i; hands = no_hand i; has_failed = false }))
     ∙ (λ i. record (world_of []) { homes = λ who. none-there who None i; database = λ d. (ap seen_database (none-there d no_database) ∙ no_database-is) i })
 
 -- appending an entry that is read as those past the end changes nothing that is shown
@@ -102,7 +104,7 @@ seen-push f [] x d (suc n) same = refl
 seen-push f (y ∷ xs) x d zero same = refl
 seen-push f (y ∷ xs) x d (suc n) same = seen-push f xs x d n same
 
-get_or-changed : {A : Type 0} (xs : List A) (i n : ℕ) (x d : A) → i < length xs → get_or (slice_set xs i x) n d ≡ (if i == n then x else get_or xs n d)
+pub get_or-changed : {A : Type 0} (xs : List A) (i n : ℕ) (x d : A) → i < length xs → get_or (slice_set xs i x) n d ≡ (if i == n then x else get_or xs n d)
 get_or-changed xs i n x d lt = by (i == n) refl
   where
     by : (b : Bool) → (i == n) ≡ b → get_or (slice_set xs i x) n d ≡ (if b then x else get_or xs n d)

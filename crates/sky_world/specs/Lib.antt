@@ -1,3 +1,4 @@
+pub mod Hands
 pub mod Views
 pub mod Seen
 pub mod Homes
@@ -7,3 +8,4 @@ pub mod Waiters
 pub mod Made
 pub mod Adds
 pub mod Nodes
+pub mod Workers

@@ -1,5 +1,5 @@
 -- What the world's methods on nodes give, by what the world showed.
-use Rattle.std.specs.Prelude.{◌≡◌, ℕ, ℤ, List, Bool, true, not, map, Option, Some, None, option_map, Result, Ok, Err, is_ok}
+use Rattle.std.specs.Prelude.{◌≡◌, ℕ, ℤ, List, [], ◌∷◌, All, Bool, true, not, Option, Some, None, option_map, Result, Ok, Err, is_ok}
 use Rattle.sky_val.specs.declared.column.Column.{Column}
 use Rattle.sky_keys.specs.Waits.{is_waiting}
 use Rattle.londiste_state.specs.Nodes.{Leaf}
@@ -11,18 +11,19 @@ use Rattle.sky_model.specs.declared.reply.Refusal.{Refusal}
 use Rattle.sky_model.specs.declared.reply.Refusal.TheVariants.{NotInSet, NotProvider, SchemaDiffers}
 use Rattle.sky_model.specs.declared.stop.Stop.{Stop}
 use Rattle.sky_model.specs.declared.stop.Stop.TheVariants.{Refused, NoMemory}
-use Rattle.sky_model.specs.History.{Fact, within}
+use Rattle.sky_model.specs.History.{Fact}
 use Rattle.sky_model.specs.State.{Database}
 use Rattle.sky_model.specs.World.{World, after_facts}
-use Rattle.sky_model.specs.Outcome.{Checked, marks_of, ◌>>=◌, refused_if, found_or, or_refused}
+use Rattle.sky_model.specs.Outcome.{Checked, ◌>>=◌, refused_if, found_or, or_refused}
 use Rattle.sky_model.specs.Reader.{database_by_itself, within_part}
 use Rattle.sky_model.specs.Settling.{Turn, turn_of, with_settling}
 use Rattle.sky_model.specs.SessionMarks.{failing}
 use Rattle.sky_model.specs.Printed.{ReplyHasMoments}
 use Rattle.sky_model.specs.Allowed.{allowed}
 use Rattle.sky_model.specs.StepQueue.{newest_id}
-use Rattle.sky_model.specs.StepNode.{set_queue, joins, NodeCall, joining, node_does}
+use Rattle.sky_model.specs.StepNode.{set_queue, joins, joining, node_does}
 use Rattle.sky_model.specs.NodesOfWorld.{WorldOutcome, node_called, provides, are_columns, columns_called, leaf_of}
+use Rattle.sky_model.specs.WorkersOfWorld.{call_facts}
 use Rattle.sky_world.specs.Views.{WorldView}
 use Rattle.sky_world.specs.Seen.{seen_world}
 
@@ -61,19 +62,26 @@ pub record Happened (old new : WorldView) (facts : List Fact) : Type 0 where
 -- a statement on nodes did what its definition says, with this answer
 pub record Does (old new : WorldView) (reply : Reply) (checked : Checked WorldOutcome) : Type 0 where
   pub facts : List Fact
-  pub outcome : checked ≡ Ok (record { reply = reply; facts = facts })
+  pub outcome : checked ≡ Ok (record { replies = reply ∷ []; facts = facts })
   pub moments : ReplyHasMoments reply
   pub happened : Happened old new facts
+
+-- it is refused, and nothing is changed; or memory ran out
+abbrev pub Stopped : (old new : WorldView) → Stop → Checked WorldOutcome → Type 0
+Stopped old new (Refused refusal) checked = (checked ≡ Err refusal) × Stays old new
+Stopped old new NoMemory checked = Unit {0}
 
 -- a statement on nodes was run: it does what its definition says, or is refused as it says, and then changes nothing
 abbrev pub Ran : (old new : WorldView) → Result Reply Stop → Checked WorldOutcome → Type 0
 Ran old new (Ok reply) checked = Does old new reply checked
-Ran old new (Err (Refused refusal)) checked = (checked ≡ Err refusal) × Stays old new
-Ran old new (Err NoMemory) checked = Unit {0}
+Ran old new (Err stop) checked = Stopped old new stop checked
 
--- what a call for a node changes in its database, in the world
-abbrev pub call_facts : World → ℕ → NodeCall → List Fact
-call_facts w database call = map (within database) (marks_of (node_does (w.database database) call))
+-- it did so, with these answers
+pub record DoesAll (old new : WorldView) (replies : List Reply) (checked : Checked WorldOutcome) : Type 0 where
+  pub facts : List Fact
+  pub outcome : checked ≡ Ok (record { replies = replies; facts = facts })
+  pub moments : All ReplyHasMoments replies
+  pub happened : Happened old new facts
 
 -- the newest tick of the queue of a database's set
 abbrev pub set_tick : Database → Option ℕ

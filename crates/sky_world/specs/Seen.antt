@@ -5,6 +5,7 @@ use Rattle.std.specs.BTreeMap.{is_at}
 use Rattle.std.specs.Map.{lookup}
 use Rattle.sky_model.specs.World.{World}
 use Rattle.pgq_db.specs.Seen.{seen_database, no_database}
+use Rattle.sky_world.specs.Hands.{hand_at}
 use Rattle.sky_world.specs.Views.{WorldView}
 
 abbrev pub seen_world : WorldView → World
@@ -16,4 +17,5 @@ seen_world w = record {
   database = λ d. seen_database (slice_index_or w.databases.values d no_database);
   daemons = λ d. lookup (is_at (nat_cmp d)) w.daemons;
   nodes = w.nodes;
+  hands = hand_at w.hands;
 }

@@ -2,6 +2,7 @@
 use Rattle.std.specs.Prelude.{ℕ, ℤ, Bool, List, Option}
 use Rattle.sky_names.specs.Named.{NamedView}
 use Rattle.pgq_db.specs.Views.{DbView}
+use Rattle.sky_world.specs.Hands.{HandAt}
 
 pub record WorldView : Type 0 where
   pub now : ℤ
@@ -12,5 +13,7 @@ pub record WorldView : Type 0 where
   pub daemons : List (ℕ × ℤ)
   -- the databases that have a node, in the order in which they got it
   pub nodes : List ℕ
+  -- the workers that copy tables, in the order of their first moves, each with what it has in hand
+  pub hands : List HandAt
   -- whether memory ran out once
   pub has_failed : Bool

@@ -7,7 +7,9 @@
 #![tactic(auto)]
 
 mod clock;
+mod hands;
 mod nodes;
+mod workers;
 mod world;
 
 pub use world::{World, WorldFault};

@@ -1,7 +1,8 @@
 //! The nodes of sets: `create_root`, and the statements that concern two databases, or the database whose node has a
 //! given name.
 
-ghost use Rattle.std.specs.Prelude.{◌≡◌, ◌<◌, ◌&&◌, ◌∷◌, [], true, false, Some, None, Ok, IfOk, IfErr, OnOk, IfSome, MatchOption, length, option_copied, option_map, is_some};
+ghost use Rattle.std.specs.Prelude.{◌≡◌, ◌<◌, ◌&&◌, ◌∷◌, ◌++◌, map, [], true, false, Some, None, Ok, IfOk, IfErr, OnOk, IfSome, MatchOption, length, option_copied, option_map, is_some};
+ghost use Rattle.londiste_state.specs.Nodes.{of_leaf, table_of, LeafTable};
 ghost use Rattle.sky_model.specs.declared.reply.Reply.TheVariants.{Done};
 ghost use Rattle.sky_model.specs.declared.reply.Refusal.TheVariants.{NotProvider, TableInUse};
 ghost use Rattle.sky_model.specs.Outcome.{found_or, refused_by};
@@ -10,19 +11,23 @@ ghost use Rattle.sky_model.specs.History.{within, node_made, noded, leaf_made};
 ghost use Rattle.sky_model.specs.Stops.{StopsAs};
 ghost use Rattle.sky_model.specs.World.{after_fact};
 ghost use Rattle.sky_model.specs.Reader.{within_database, by_world};
-ghost use Rattle.sky_model.specs.StepNode.{set_queue, table_number, may_serve, node_does, adding, removing, listing, unlisting};
-ghost use Rattle.sky_model.specs.NodesOfWorld.{node_called, done_in, provides, same_columns, uses, first_user, create_leaf, add_table, remove_table, table_state, node_form};
+ghost use Rattle.sky_model.specs.StepNode.{set_queue, table_number, may_serve, node_does, adding, listing, unlisting};
+ghost use Rattle.sky_model.specs.NodesOfWorld.{node_called, done_in, provides, same_columns, uses, first_user, create_leaf, add_table, table_state};
+ghost use Rattle.sky_model.specs.WorkersOfWorld.{parts_for, remove_table, node_form};
 ghost use Rattle.sky_model.specs.Calls.{database_turn, world_does, node_stmt_does, roots_in, session_does};
 ghost use Rattle.sky_world.specs.Seen.{seen_world};
 ghost use Rattle.sky_world.specs.Adds.{AddsDeed};
-ghost use Rattle.sky_world.specs.Nodes.{may_outside, root_name, Stays, Happened, Does, Ran, Joined, leaf_from, provided_as};
+ghost use Rattle.sky_world.specs.Nodes.{may_outside, root_name, Stays, Happened, Does, DoesAll, Stopped, Ran, Joined, leaf_from, provided_as};
+ghost use Rattle.sky_world.specs.Workers.{parts_with, is_copy_step};
 
+use crate::workers::is_on_way;
 use crate::world::World;
+use londiste_copy::copy_consumer;
 use londiste_state::{Leaf, Node};
 use pgq_db::{JoinFault, RootFault};
 use sky_model::{Limit, NodeStmt, Refusal, Replies, Reply, Stmt, Stop};
 use sky_val::{Column, NoMemory, SessionId, Text};
-use std::alloc::AllocError;
+use std::alloc::{AllocError, Global};
 
 impl World {
     /// Runs `create_root`. It is refused if there is a node of the name, even in another database. Unless it is refused
@@ -121,8 +126,8 @@ impl World {
         ensures failed { OnOk result (self.new.has_failed ≡ self.old.has_failed) }
     {
         match self.run_form(database, form) {
-            Ok(reply) => {
-                replies.push(who, reply)?;
+            Ok(given) => {
+                answer_all(who, given, replies)?;
                 Ok(())
             }
             Err(Stop::Refused(refusal)) => {
@@ -133,7 +138,23 @@ impl World {
         }
     }
 
-    fn run_form(&mut self, database: usize, form: &NodeStmt) -> Result<Reply, Stop>
+    /// Runs a statement on nodes. `copy_step` alone may have more than one answer.
+    fn run_form(&mut self, database: usize, form: &NodeStmt) -> Result<Vec<Reply>, Stop>
+        requires database { database < length self.old.databases.names }
+        requires sound { self.old.has_failed ≡ false }
+        ensures ok { IfOk result (λ given. DoesAll self.old self.new given.items (node_form (seen_world self.old) database form.now)) }
+        ensures err { IfErr result (λ stop. Stopped self.old self.new stop (node_form (seen_world self.old) database form.now)) }
+    {
+        if let NodeStmt::CopyStep { name, table } = form {
+            return self.copy_step(name, table);
+        }
+        let reply = self.run_single(database, form)?;
+        Ok(single(self.alloc, reply)?)
+    }
+
+    /// The same of one that has one answer.
+    fn run_single(&mut self, database: usize, form: &NodeStmt) -> Result<Reply, Stop>
+        requires single { is_copy_step form.now ≡ false }
         requires database { database < length self.old.databases.names }
         requires sound { self.old.has_failed ≡ false }
         ensures { Ran self.old self.new result (node_form (seen_world self.old) database form.now) }
@@ -143,6 +164,10 @@ impl World {
             NodeStmt::AddTable { name, table } => self.add_table(name, table),
             NodeStmt::RemoveTable { name, table } => self.remove_table(name, table),
             NodeStmt::TableState { name, table } => self.table_state(name, table),
+            NodeStmt::CopyStep { .. } => unreachable!(),
+            NodeStmt::Restart { name } => self.restart(name),
+            NodeStmt::RestartTable { name, table } => self.restart_table(name, table),
+            NodeStmt::LondisteStep { name } => self.londiste_step(name),
         }
     }
 
@@ -179,7 +204,7 @@ impl World {
     }
 
     /// Whether the node of a database is a root whose queue exists. If not, it is refused as no provider.
-    fn check_provider(&self, database: usize, name: &Text) -> Result<(), Stop>
+    pub(crate) fn check_provider(&self, database: usize, name: &Text) -> Result<(), Stop>
         requires { database < length self.now.databases.names }
         ensures ok { OnOk result (is_some (set_queue ((seen_world self.now).database database)) ≡ true) }
         ensures err { IfErr result (λ stop. StopsAs stop (found_or (set_queue ((seen_world self.now).database database)) (NotProvider name.now))) }
@@ -280,7 +305,7 @@ impl World {
     }
 
     /// The node of a name, and the number of its database.
-    fn find_node(&self, name: &Text) -> Option<(usize, &Node)>
+    pub(crate) fn find_node(&self, name: &Text) -> Option<(usize, &Node)>
         ensures node { MatchOption result (node_called (seen_world self.now) name.now ≡ None)
             (λ found. node_called (seen_world self.now) name.now ≡ Some (record { database = found.0; node = found.1.now })) }
         ensures there { IfSome result (λ found. ((seen_world self.now).database found.0).node ≡ Some found.1.now) }
@@ -315,7 +340,7 @@ impl World {
     }
 
     /// The database of the node of this name, if the node has this table.
-    fn provides(&self, name: &Text, table: &Text) -> Option<usize>
+    pub(crate) fn provides(&self, name: &Text, table: &Text) -> Option<usize>
         ensures database { result ≡ provides table.now (node_called (seen_world self.now) name.now) }
         ensures within { IfSome result (λ database. database < length self.now.databases.names) }
     {
@@ -389,7 +414,29 @@ impl World {
                 self.check_unused(root.name(), table)?;
                 Ok(self.drop_from_root(database, table))
             }
-            Node::Leaf(_) => Ok(self.drop_from_leaf(database, table)),
+            Node::Leaf(leaf) => {
+                let provider = self.source(leaf, table)?;
+                let consumer = self.copys_consumer(node, leaf, table)?;
+                Ok(self.leave_leaf(provider, database, table, consumer.as_ref()))
+            }
+        }
+    }
+
+    /// The consumer of the copies of a leaf's tables, if the copy of this one has it.
+    fn copys_consumer(
+        &self,
+        node: &Node,
+        leaf: &Leaf,
+        table: &Text,
+    ) -> Result<Option<Text>, NoMemory>
+        requires { node.now ≡ of_leaf leaf.now }
+        ensures { IfOk result (λ consumer. parts_with consumer ≡ parts_for (Some node.now) (option_map LeafTable.state (table_of table.now leaf.now))) }
+    {
+        match leaf.table(table) {
+            Some(table) if is_on_way(table.state()) => {
+                Ok(Some(copy_consumer(self.alloc, Some(node))?))
+            }
+            _ => Ok(None),
         }
     }
 
@@ -432,18 +479,6 @@ impl World {
         Reply::Done
     }
 
-    /// A table leaves the leaf of a database.
-    fn drop_from_leaf(&mut self, database: usize, table: &Text) -> Reply
-        requires database { database < length self.old.databases.names }
-        requires may { may_serve (removing table.now) ((seen_world self.old).database database).node ≡ true }
-        requires sound { self.old.has_failed ≡ false }
-        ensures { Does self.old self.new result (done_in database Done (node_does ((seen_world self.old).database database) (removing table.now))) }
-    {
-        let store = self.databases.get_mut(database);
-        store.leaf_drop(table);
-        Reply::Done
-    }
-
     /// Runs `table_state`: the state of a leaf's table.
     fn table_state(&self, name: &Text, table: &Text) -> Result<Reply, Stop>
         ensures { Ran self.now self.now result (table_state (seen_world self.now) name.now table.now) }
@@ -478,8 +513,27 @@ fn uses(node: &Node, provider: &Text, table: &Text) -> bool
     }
 }
 
+/// One answer as a list.
+fn single(alloc: Global, reply: Reply) -> Result<Vec<Reply>, NoMemory>
+    ensures { IfOk result (λ given. given.items ≡ reply ∷ []) }
+{
+    let mut given = Vec::new(alloc);
+    given.push(reply)?;
+    Ok(given)
+}
+
+/// The answers of a statement, in order.
+fn answer_all(who: SessionId, given: Vec<Reply>, replies: &mut Replies) -> Result<(), NoMemory>
+    ensures { OnOk result (replies.new ≡ replies.old ++ map (λ reply. (who, reply)) given.items) }
+{
+    for reply in given {
+        replies.push(who, reply)?;
+    }
+    Ok(())
+}
+
 /// Whether columns are the same, in order: by name, kind, and whether they are part of the key.
-fn same_columns(columns: &[Column], others: &[Column]) -> bool
+pub(crate) fn same_columns(columns: &[Column], others: &[Column]) -> bool
     ensures { result ≡ same_columns columns.now others.now }
 {
     *columns == *others

@@ -19,6 +19,7 @@ ghost use Rattle.sky_world.specs.Adds.{AddsDeed, AddsCall};
 ghost use Rattle.sky_world.specs.Nodes.{outside_allowed, refused_turn, failed_turn, Stays};
 ghost use Rattle.sky_world.specs.Works.{is_clock, is_pgqd, is_on_nodes};
 
+use crate::hands::Hands;
 use pgq_db::Db;
 use sky_model::{Limit, Refusal, Replies, Reply, RowStmt, Stmt};
 use sky_names::Named;
@@ -50,6 +51,10 @@ pub struct World {
     pub(crate) daemons: BTreeMap<usize, i64>,
     // The databases that have a node, in the order in which they got it.
     pub(crate) nodes: Vec<usize>,
+    // What the workers that copy tables have in hand.
+    pub(crate) hands: Hands,
+    // An empty database, with which one is exchanged while a worker goes by two.
+    pub(crate) spare: Db,
     // Whether memory ran out once. Then it isn't known who waits in a database, so no further statement is run.
     pub(crate) has_failed: bool,
 }
@@ -62,14 +67,17 @@ impl Model for World {
     ghost use Rattle.sky_world.specs.Daemons.{StartedBy};
     ghost use Rattle.sky_world.specs.Waiters.{AllWaitersWithin, AllAtRest};
     ghost use Rattle.sky_world.specs.Made.{AllMade};
+    ghost use Rattle.std.specs.Prelude.{[]};
+    ghost use Rattle.sky_model.specs.State.{database_of};
+    ghost use Rattle.pgq_db.specs.Seen.{seen_database};
 
     ghost Value = { WorldView };
 
-    ghost view = { λ w. record { now = w.clock; sessions = w.sessions; databases = w.databases; daemons = w.daemons.entries; nodes = w.nodes.items; has_failed = w.has_failed } };
+    ghost view = { λ w. record { now = w.clock; sessions = w.sessions; databases = w.databases; daemons = w.daemons.entries; nodes = w.nodes.items; hands = w.hands; has_failed = w.has_failed } };
 
     ghost invariant = { λ w. IsTime w.clock × HomesWithin (length w.databases.names) w.sessions.values × StartedBy w.clock w.daemons.entries
         × (w.has_failed ≡ false → AllWaitersWithin (length w.sessions.names) w.databases.values) × NodesWithin (length w.databases.names) w.nodes.items
-        × (w.has_failed ≡ false → AllAtRest w.databases.values) × (w.has_failed ≡ false → AllMade w.databases.values) };
+        × (w.has_failed ≡ false → AllAtRest w.databases.values) × (w.has_failed ≡ false → AllMade w.databases.values) × (w.has_failed ≡ false → seen_database w.spare ≡ database_of []) };
 }
 
 impl World {
@@ -85,6 +93,8 @@ impl World {
             databases: Named::new(alloc),
             daemons: BTreeMap::new(alloc),
             nodes: Vec::new(alloc),
+            hands: Hands::new(alloc),
+            spare: Db::new(alloc),
             has_failed: false,
         }
     }

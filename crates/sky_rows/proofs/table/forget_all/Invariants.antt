@@ -1,5 +1,6 @@
 use Rattle.std.proofs.Common.{◌≡◌}
 use Rattle.sky_keys.specs.Versions.{forgotten}
+use Rattle.sky_rows.specs.Rows.{rows_in}
 use Rattle.sky_rows.specs.Written.{AllKept}
 use Rattle.sky_rows.specs.Kept.{all_versions, AreOwn}
 use Rattle.sky_rows.proofs.ForgetLemmas.{may_have}
@@ -7,6 +8,6 @@ use Rattle.sky_rows.proofs.table.forget_all.Given as goal
 
 abbrev pub invariant-loop-key : goal.invariant-loop-key
 invariant-loop-key l =
-    AllKept (may_have l.txid l.key-iterator) (all_versions l.older l.rows.entries)
-    × (forgotten l.txid (all_versions l.older l.rows.entries) ≡ forgotten l.txid (all_versions l.initial.older l.initial.rows.entries))
-    × AreOwn l.older l.rows.entries
+    AllKept (may_have l.txid l.key-iterator) (all_versions l.older (rows_in l.rows))
+    × (forgotten l.txid (all_versions l.older (rows_in l.rows)) ≡ forgotten l.txid (all_versions l.initial.older (rows_in l.initial.rows)))
+    × AreOwn l.older (rows_in l.rows)

@@ -1,11 +1,13 @@
 -- One more column is written after those before it; if none is left, the text is whole.
-use Rattle.std.proofs.Common.{rules, ◌≡◌, ◌⊎◌, length, subst, List, [], ◌∷◌, ◌++◌, ◌+◌, ◌∙◌, sym, ap, inl, inr, append-nil, string_bytes}
+use Rattle.std.proofs.Common.{rules, ◌≡◌, ◌⊎◌, length, subst, List, [], ◌∷◌, ◌++◌, ◌+◌, ◌∙◌, sym, ap, inl, inr, append-nil, string_bytes, Ok, None}
+use Rattle.std.proofs.lemmas.Result.{IfOk-weaker}
+use Rattle.sky_val.specs.Schemas.{row_fault}
 use Rattle.sky_urlenc.proofs.ReadBack.{read_back}
 use Rattle.sky_val.specs.declared.val.Val.{Val}
 use Rattle.sky_val.specs.declared.column.Column.{Column}
 use Rattle.sky_urlenc.specs.Held.{HoldsAll}
 use Rattle.sky_urlenc.specs.ReadRow.{read_row}
-use Rattle.sky_urlenc.specs.RowText.{column_text, column_texts}
+use Rattle.sky_urlenc.specs.RowText.{column_text, column_texts, row_text}
 use Rattle.sky_urlenc.proofs.RowTexts.{left_text, next_behind, next_first, left-end, none_held}
 use Rattle.sky_urlenc.proofs.encode.encode_row.Goals as goal
 use Rattle.sky_urlenc.proofs.encode.encode_row.Goals.{then-place-gt0+in_ok-push, else-place-gt0}
@@ -37,9 +39,12 @@ returns c =
     let row = c.loop-place.place-iterator.iter.b.rest.now in
     let ended : (length columns ≡ 0) ⊎ (length row ≡ 0) = elim c.in-None.ensures.steps.0 [ inl w ↦ inl w.1.0 | inr w ↦ inr w.1.0 ] in
     let left = left-end c.loop-place.place-iterator.count columns row ended in
-    let text = c.from_string.ensures ∙ sym (append-nil _) ∙ ap (λ text. string_bytes c.loop-place.text ++ text) (sym left) ∙ c.loop-place.invariant.text in
+    let whole = sym (append-nil _) ∙ ap (λ text. string_bytes c.loop-place.text ++ text) (sym left) ∙ c.loop-place.invariant.text in
     let held = c.loop-place.invariant.held (none_held columns row ended) in
     record {
-      text = text;
-      back = λ fits. ap (read_row c.args.schema.now) text ∙ read_back c.args.schema.now c.args.row.now c.columns-columns.ensures.sound.apart fits held c.columns-columns.ensures.sound.named;
+      text = IfOk-weaker c.kept.result (λ text. text ≡ string_bytes c.loop-place.text) (λ text. text ≡ row_text c.args.schema.now c.args.row.now) (λ _ same. same ∙ whole) c.kept.ensures;
+      back = IfOk-weaker c.kept.result (λ text. text ≡ string_bytes c.loop-place.text)
+          (λ text. row_fault c.args.schema.now c.args.row.now ≡ None → read_row c.args.schema.now text ≡ Ok c.args.row.now)
+          (λ _ same fits. ap (read_row c.args.schema.now) (same ∙ whole) ∙ read_back c.args.schema.now c.args.row.now c.columns-columns.ensures.sound.apart fits held c.columns-columns.ensures.sound.named)
+          c.kept.ensures;
     }

@@ -6,7 +6,7 @@ use Rattle.pgq_tables.proofs.Places.{in_order, Counts, pushed}
 use Rattle.pgq_tables.proofs.table.Table.push.Goals as goal
 
 pub count_up_to-at-requires : goal.count_up_to-at-requires
-count_up_to-at-requires c = subst AreInOrder (sym (c.deref.ensures.value ∙ c.in_ok-reserve-2.ensures.items)) (in_order c.self.inside.events.items c.self.inside.places.items c.self.invariant)
+count_up_to-at-requires c = subst AreInOrder (sym (c.deref-2.ensures.value ∙ c.in_ok-reserve-2.ensures.items)) (in_order c.self.inside.events.items c.self.inside.places.items c.self.invariant)
 
 pub invariant_of-self-2 : goal.invariant_of-self-2
 invariant_of-self-2 c =
@@ -15,7 +15,7 @@ invariant_of-self-2 c =
     let place : c.len-place.result ≡ length c.self.inside.events.items = let same = ap length events_are in omega (arith, c.len-place.ensures, c.in_ok-reserve.ensures.len) in
     let txid : c.in_ok-stored.stored.event.ev_txid ≡ c.args.event.ev_txid = ap (λ (s : Stored). s.event.ev_txid) c.in_ok-stored.ensures in
     let counts : Counts c.args.event.ev_txid c.self.inside.places.items c.count_up_to-at.result =
-    subst (λ ps. Counts c.args.event.ev_txid ps c.count_up_to-at.result) (c.deref.ensures.value ∙ places_are) (c.count_up_to-at.ensures.within, c.count_up_to-at.ensures.below, c.count_up_to-at.ensures.above) in
+    subst (λ ps. Counts c.args.event.ev_txid ps c.count_up_to-at.result) (c.deref-2.ensures.value ∙ places_are) (c.count_up_to-at.ensures.within, c.count_up_to-at.ensures.below, c.count_up_to-at.ensures.above) in
     let at_end = pushed c.self.inside.events.items c.self.inside.places.items c.in_ok-stored.stored c.count_up_to-at.result c.self.invariant (subst (λ t. Counts t c.self.inside.places.items c.count_up_to-at.result) (sym txid) counts) in
     let inserted : c.insert_reserved.new.places.items ≡ insert c.reserve-2.new.self.items c.count_up_to-at.result (record { txid = c.args.event.ev_txid; place = c.len-place.result }) = c.insert_reserved.ensures in
     let appended : c.push_reserved.new.self.items ≡ c.reserve.new.self.items ++ c.in_ok-stored.stored ∷ [] = c.push_reserved.ensures.items in

@@ -9,7 +9,7 @@ pub returns-in-Some : goal.returns-in-Some
 returns-in-Some c equal =
     let names = c.args.self.now in
     let there = c.in-Some.there.now in
-    let one : there ≡ c.args.name.now = same_name there c.args.name.now (sym c.eq.ensures ∙ equal) in
+    let one : there ≡ c.args.name.now = sym c.as_str.ensures ∙ same_name c.as_str.result.now c.args.name.now (sym c.eq.ensures ∙ equal) in
     let read = c.in-Some.ensures.lookup in
     let lt : c.args.place < length c.as_slice.result.now = grind (arith, nat_tests, read.0) in
     let at : slice_get c.as_slice.result.now c.args.place ≡ Some there = slice_get_read c.as_slice.result.now (length c.as_slice.result.now) c.args.place there refl lt read.1 in

@@ -4,7 +4,7 @@ use Rattle.std.specs.Option.{option_copied}
 use Rattle.sky_chain.specs.Chains.{IsLinked}
 use Rattle.sky_keys.specs.declared.version.Version.{Version}
 use Rattle.sky_rows.specs.Older.{OlderView, node_at, IsFilled}
-use Rattle.sky_rows.proofs.Everywhere.{is_linked}
+use Rattle.sky_rows.proofs.Linked.{is_linked}
 use Rattle.sky_rows.proofs.older.Older.version.Goals as goal
 
 linked_if_any : (older : OlderView) (node : _) (o : Option (Bor Version)) → IsFilled older.chains older.nodes → option_copied o ≡ node_at older.nodes node → OnSome o (IsLinked older.chains node)

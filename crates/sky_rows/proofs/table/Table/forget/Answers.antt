@@ -1,24 +1,30 @@
-use Rattle.std.proofs.Common.{◌≡◌, ◌∙◌, refl, ap, subst, sym, Some, None}
+use Rattle.std.proofs.Common.{◌≡◌, ◌∙◌, refl, ap, subst, sym, Some, None, true}
 use Rattle.sky_keys.specs.Versions.{forgotten}
+use Rattle.sky_rows.specs.Rows.{rows_in}
 use Rattle.sky_rows.specs.Table.{TableView}
 use Rattle.sky_rows.specs.Kept.{all_versions}
 use Rattle.sky_rows.specs.Written.{AllKept, wrote}
+use Rattle.sky_rows.proofs.TableLemmas.{all_kept_more}
 use Rattle.sky_rows.proofs.ForgetLemmas.{wrote-listed, may_have-wrote, kept_forgotten, kept_unlisted, forgotten-none}
 use Rattle.sky_rows.proofs.table.Table.forget.Goals as goal
 
-pub forget_everywhere-requires : goal.forget_everywhere-requires
-forget_everywhere-requires c = c.self.invariant.0
+pub forget_everywhere-requires-clause-kept : goal.forget_everywhere-requires-clause-kept
+forget_everywhere-requires-clause-kept c =
+    all_kept_more (wrote c.self.inside.written) (λ _ _. true) (all_versions c.self.inside.older (rows_in c.self.inside.rows)) (λ t q none. absurd (cc none)) c.self.invariant.1
+
+pub forget_everywhere-requires-clause-own : goal.forget_everywhere-requires-clause-own
+forget_everywhere-requires-clause-own c = c.self.invariant.0
 
 pub invariant_of-self : goal.invariant_of-self
 invariant_of-self c = (
   c.forget_everywhere.ensures.own,
   subst (AllKept (wrote c.self.inside.written)) (sym c.forget_everywhere.ensures.entries)
-      (kept_forgotten (wrote c.self.inside.written) (wrote c.self.inside.written) c.args.txid (all_versions c.self.inside.older c.self.inside.rows.entries) (λ t q other. refl) c.self.invariant.1),
+      (kept_forgotten (wrote c.self.inside.written) (wrote c.self.inside.written) c.args.txid (all_versions c.self.inside.older (rows_in c.self.inside.rows)) (λ t q other. refl) c.self.invariant.1),
 )
 
 pub forget_all-requires-clause-kept : goal.forget_all-requires-clause-kept
 forget_all-requires-clause-kept c =
-    may_have-wrote (wrote c.self.inside.written) c.args.txid c.in-Some.keys.keys (all_versions c.self.inside.older c.self.inside.rows.entries)
+    may_have-wrote (wrote c.self.inside.written) c.args.txid c.in-Some.keys.keys (all_versions c.self.inside.older (rows_in c.self.inside.rows))
     (λ q. wrote-listed c.self.inside.written c.args.txid q (Some c.in-Some.keys) (sym c.tells.ensures ∙ c.if-not-tells.false) c.in-Some.ensures.taken) c.self.invariant.1
 
 pub forget_all-requires-clause-own : goal.forget_all-requires-clause-own
@@ -28,19 +34,19 @@ pub invariant_of-self-in-Some : goal.invariant_of-self-in-Some
 invariant_of-self-in-Some c = (
   c.forget_all.ensures.own,
   subst (AllKept (wrote c.take.new.self)) (sym c.forget_all.ensures.entries)
-      (kept_forgotten (wrote c.self.inside.written) (wrote c.take.new.self) c.args.txid (all_versions c.self.inside.older c.self.inside.rows.entries) c.in-Some.ensures.others c.self.invariant.1),
+      (kept_forgotten (wrote c.self.inside.written) (wrote c.take.new.self) c.args.txid (all_versions c.self.inside.older (rows_in c.self.inside.rows)) c.in-Some.ensures.others c.self.invariant.1),
 )
 
 pub invariant_of-self-in_default : goal.invariant_of-self-in_default
 invariant_of-self-in_default c = (
   c.self.invariant.0,
-  kept_unlisted (wrote c.self.inside.written) (wrote c.take.new.self) c.args.txid (all_versions c.self.inside.older c.self.inside.rows.entries) c.in_default.ensures.others
+  kept_unlisted (wrote c.self.inside.written) (wrote c.take.new.self) c.args.txid (all_versions c.self.inside.older (rows_in c.self.inside.rows)) c.in_default.ensures.others
       (λ q. wrote-listed c.self.inside.written c.args.txid q None (sym c.tells.ensures ∙ c.if-not-tells.false) c.in_default.ensures.taken) c.self.invariant.1,
 )
 
 pub returns-in_default : goal.returns-in_default
 returns-in_default c =
-    let before = all_versions c.self.inside.older c.self.inside.rows.entries in
+    let before = all_versions c.self.inside.older (rows_in c.self.inside.rows) in
     let none : forgotten c.args.txid before ≡ before = forgotten-none (wrote c.self.inside.written) c.args.txid before
     (λ q. wrote-listed c.self.inside.written c.args.txid q None (sym c.tells.ensures ∙ c.if-not-tells.false) c.in_default.ensures.taken) c.self.invariant.1 in
     ap (λ es. record { columns = c.self.inside.schema; versions = es }) (sym none)

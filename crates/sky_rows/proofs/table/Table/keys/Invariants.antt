@@ -1,3 +1,4 @@
+use Rattle.sky_rows.specs.Rows.{rows_of}
 use Rattle.sky_rows.specs.Kept.{all_versions, AreOwn}
 use Rattle.sky_rows.specs.Written.{wrote}
 use Rattle.sky_rows.proofs.KeyLemmas.{AreListed}
@@ -5,5 +6,5 @@ use Rattle.sky_rows.proofs.table.Table.keys.Given as goal
 
 abbrev pub invariant-loop-key : goal.invariant-loop-key
 invariant-loop-key l =
-    AreListed (wrote l.self-inside.written) l.snapshot l.own l.self.versions (all_versions l.self-inside.older l.key-iterator) l.found.items
-    × AreOwn l.self-inside.older l.key-iterator
+    AreListed (wrote l.self-inside.written) l.snapshot l.own l.self.versions (all_versions l.self-inside.older (rows_of l.self-inside.rows.slots l.key-iterator)) l.found.items
+    × AreOwn l.self-inside.older (rows_of l.self-inside.rows.slots l.key-iterator)

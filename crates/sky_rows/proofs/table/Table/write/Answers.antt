@@ -1,21 +1,22 @@
 use Rattle.std.proofs.Common.{◌∙◌, sym}
+use Rattle.sky_rows.specs.Rows.{rows_in}
 use Rattle.sky_rows.specs.Kept.{all_versions}
 use Rattle.sky_rows.specs.Written.{wrote}
 use Rattle.sky_rows.proofs.TableLemmas.{all_kept_more, kept_at, kept_either}
 use Rattle.sky_rows.proofs.table.Table.write.Goals as goal
 
 pub invariant_of-self : goal.invariant_of-self
-invariant_of-self c = (c.self.invariant.0, all_kept_more (wrote c.self.inside.written) (wrote c.add.new.self) (all_versions c.self.inside.older c.self.inside.rows.entries) c.add.ensures.kept c.self.invariant.1)
+invariant_of-self c = (c.self.invariant.0, all_kept_more (wrote c.self.inside.written) (wrote c.add.new.self) (all_versions c.self.inside.older (rows_in c.self.inside.rows)) c.add.ensures.kept c.self.invariant.1)
 
-pub put_version-requires-clause-first : goal.put_version-requires-clause-first
-put_version-requires-clause-first c = λ first. kept_at (wrote c.self.inside.written) c.args.txid c.args.key (all_versions c.self.inside.older c.self.inside.rows.entries) c.self.invariant.1 (sym c.in_ok-again.ensures.again ∙ first)
+pub put-requires-clause-first : goal.put-requires-clause-first
+put-requires-clause-first c = λ first. kept_at (wrote c.self.inside.written) c.args.txid c.args.key (all_versions c.self.inside.older (rows_in c.self.inside.rows)) c.self.invariant.1 (sym c.in_ok-again.ensures.again ∙ first)
 
-pub put_version-requires-clause-own : goal.put_version-requires-clause-own
-put_version-requires-clause-own c = c.self.invariant.0
+pub put-requires-clause-own : goal.put-requires-clause-own
+put-requires-clause-own c = c.self.invariant.0
 
 pub invariant_of-self-2 : goal.invariant_of-self-2
 invariant_of-self-2 c = (
-  c.put_version.ensures.own,
-  kept_either (wrote c.self.inside.written) (wrote c.add.new.self) c.args.txid c.args.key c.args.row (all_versions c.self.inside.older c.self.inside.rows.entries) (all_versions c.put_version.new.older c.put_version.new.rows.entries) c.put_version.result
-      c.in_ok-again.ensures.listed c.in_ok-again.ensures.kept c.put_version.ensures.ok c.put_version.ensures.err c.self.invariant.1,
+  c.put.ensures.own,
+  kept_either (wrote c.self.inside.written) (wrote c.add.new.self) c.args.txid c.args.key c.args.row (all_versions c.self.inside.older (rows_in c.self.inside.rows)) (all_versions c.put.new.older (rows_in c.put.new.self)) c.put.result
+      c.in_ok-again.ensures.listed c.in_ok-again.ensures.kept c.put.ensures.ok c.put.ensures.err c.self.invariant.1,
 )

@@ -18,6 +18,7 @@ invariant_of-self c = (
   (λ whole. rest-set c.args.database c.self.inside.databases.values c.fail_into.new.self c.in-Ok.ensures.rests (c.self.invariant.5 whole)),
   (λ whole. made-called c.args.database c.self.inside.databases.values c.get_mut-store.result.now c.fail_into.new.self _ _ c.get_mut-store.ensures.within c.get_mut-store.ensures.value
       c.in-Ok.ensures.steps tt (c.self.invariant.6 whole)),
+  c.self.invariant.7,
 )
 
 pub returns-in-Ok-clause-adds : goal.returns-in-Ok-clause-adds

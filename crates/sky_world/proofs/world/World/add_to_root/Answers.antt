@@ -17,6 +17,7 @@ invariant_of-self c = (
   c.self.invariant.4,
   (λ whole. rest-same c.args.database _ c.get_mut-store.result.now c.root_add.new.self c.get_mut-store.ensures.within c.get_mut-store.ensures.value (ready-served _ _ _ (subst (λ busy. ServesUnlessBusy busy (seen_database c.get_mut-store.result.now) (seen_database c.root_add.new.self) (listing c.args.table.now)) c.in-Ok-None.field-0-is c.in-Ok-None.ensures.serves)) (c.self.invariant.5 whole)),
   (λ whole. made-called c.args.database _ c.get_mut-store.result.now c.root_add.new.self _ _ c.get_mut-store.ensures.within c.get_mut-store.ensures.value c.in-Ok-None.ensures.steps tt (c.self.invariant.6 whole)),
+  c.self.invariant.7,
 )
 
 pub returns-in-Ok-None : goal.returns-in-Ok-None

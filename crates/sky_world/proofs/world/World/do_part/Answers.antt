@@ -23,4 +23,5 @@ invariant_of-self c = (
       (ready-worked (seen_database c.get_mut-store.result.now) (seen_database c.daemon.new.self) c.args.part (to_z w64 (of_z w64 c.self.inside.clock)) c.in-Ok.ensures.exact) (c.self.invariant.5 whole)),
   (λ whole. made-called c.args.database c.self.inside.databases.values c.get_mut-store.result.now c.daemon.new.self _ _ c.get_mut-store.ensures.within c.get_mut-store.ensures.value
       c.in-Ok.ensures.steps tt (c.self.invariant.6 whole)),
+  c.self.invariant.7,
 )

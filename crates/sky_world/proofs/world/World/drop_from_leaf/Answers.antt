@@ -4,7 +4,7 @@ use Rattle.sky_model.specs.StepNode.{removing}
 use Rattle.sky_world.proofs.Worlds.{waiters-same}
 use Rattle.sky_world.proofs.Resting.{ready-served, rest-same}
 use Rattle.sky_world.proofs.Made.{made-there, made-called}
-use Rattle.sky_world.proofs.ServedNodes.{waits-served, done-there}
+use Rattle.sky_world.proofs.ServedNodes.{waits-served, served-there}
 use Rattle.sky_world.proofs.world.World.drop_from_leaf.Goals as goal
 
 pub leaf_drop-requires-clause-made : goal.leaf_drop-requires-clause-made
@@ -20,7 +20,8 @@ invariant_of-self c = (
   c.self.invariant.4,
   (λ whole. rest-same c.args.database _ c.get_mut-store.result.now c.leaf_drop.new.self c.get_mut-store.ensures.within c.get_mut-store.ensures.value (ready-served _ _ _ c.leaf_drop.ensures.serves) (c.self.invariant.5 whole)),
   (λ whole. made-called c.args.database _ c.get_mut-store.result.now c.leaf_drop.new.self _ _ c.get_mut-store.ensures.within c.get_mut-store.ensures.value c.leaf_drop.ensures.steps tt (c.self.invariant.6 whole)),
+  c.self.invariant.7,
 )
 
 pub returns : goal.returns
-returns c = done-there _ _ c.args.database c.get_mut-store.result.now c.leaf_drop.new.self (removing c.args.table.now) c.self.view_is c.get_mut-store.ensures.within c.get_mut-store.ensures.value c.leaf_drop.ensures.serves
+returns c = served-there _ _ c.args.database c.get_mut-store.result.now c.leaf_drop.new.self (removing c.args.table.now) c.self.view_is c.get_mut-store.ensures.within c.get_mut-store.ensures.value c.leaf_drop.ensures.serves

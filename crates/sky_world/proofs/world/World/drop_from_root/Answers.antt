@@ -14,6 +14,7 @@ invariant_of-self c = (
   c.self.invariant.4,
   (λ whole. rest-same c.args.database _ c.get_mut-store.result.now c.root_drop.new.self c.get_mut-store.ensures.within c.get_mut-store.ensures.value (ready-served _ _ _ c.root_drop.ensures.serves) (c.self.invariant.5 whole)),
   (λ whole. made-called c.args.database _ c.get_mut-store.result.now c.root_drop.new.self _ _ c.get_mut-store.ensures.within c.get_mut-store.ensures.value c.root_drop.ensures.steps tt (c.self.invariant.6 whole)),
+  c.self.invariant.7,
 )
 
 pub returns : goal.returns

@@ -24,6 +24,7 @@ invariant_of-self-2 c =
       nodes-more _ _ c.self.inside.nodes.items more c.self.invariant.4,
       (λ whole. rest-founded c.self.inside.databases.values _ c.new.result (ap (λ (n : NamedView DbView). n.values) longer) c.new.ensures (c.self.invariant.5 whole)),
       (λ whole. made-founded c.self.inside.databases.values _ c.new.result (ap (λ (n : NamedView DbView). n.values) longer) c.new.ensures (c.self.invariant.6 whole)),
+      c.self.invariant.7,
     )
 
 pub returns-clause-fact : goal.returns-clause-fact

@@ -1,0 +1,4 @@
+mod Calls
+mod Pieces
+mod Begins
+mod Moves

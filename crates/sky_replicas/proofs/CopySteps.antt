@@ -1,0 +1,264 @@
+-- What a move of the worker that copies a table keeps.
+use Rattle.std.proofs.Common.{arith, ◌≡◌, ℕ, ◌==◌, ◌^◌, nat_le, List, [], ◌∷◌, ◌++◌, map, true, false, not, Option, Some, None, IfOk, option_map, append_assoc, find, refl, sym, ap, subst, ◌∙◌, if◌then◌else◌}
+use Rattle.std.proofs.lemmas.Bool.Decides.{nat_tests}
+use Rattle.sky_val.specs.declared.val.Val.{Val}
+use Rattle.sky_val.specs.declared.column.Column.{Column}
+use Rattle.sky_val.specs.Entries.{Entries, is_in_order}
+use Rattle.sky_names.specs.Places.{place_of}
+use Rattle.sky_txid.specs.Snapshot.{SnapshotView}
+use Rattle.sky_model.specs.History.{Mark, of_copy, began, ended, noded, copied, History, within, in_hand, Past}
+use Rattle.sky_model.specs.Hands.{CopyHand}
+use Rattle.sky_model.specs.Transactions.{next_txid, snapshot}
+use Rattle.sky_model.specs.Copies.{Copy, copies, is_copied_by, copy_txid}
+use Rattle.sky_model.specs.Rows.{Write, table_names, columns_of, writes as writes_of, put_all, rows}
+use Rattle.sky_model.specs.Nodes.{node}
+use Rattle.sky_model.specs.State.{RowPart, part_of, after_part}
+use Rattle.sky_model.specs.StepCopy.{copy_writes, deletions, insertions, rows_now}
+use Rattle.sky_model.specs.StepNode.{beginning_copy, copying_rows, ending_copy, may_copy}
+use Rattle.sky_model.specs.CopyMoves.{CopyMove, rows_of, last_key, only_prints}
+use Rattle.sky_model.specs.WorkersOfWorld.{move_facts}
+use Rattle.sky_model.specs.Settling.{marked}
+use Rattle.sky_model.specs.World.{world_of, history_in, hands, on_top}
+use Rattle.sky_model.proofs.Legal.{Legal}
+use Rattle.sky_model.proofs.Histories.{AllLegal}
+use Rattle.sky_model.proofs.Good.{same-session}
+use Rattle.sky_model.proofs.Guarded.{copy_txid-some}
+use Rattle.sky_model.proofs.RowKeys.{begun}
+use Rattle.sky_model.proofs.Cases.{by_test}
+use Rattle.sky_replicas.proofs.Pieces.{put-next, put-append, put-deletions, AreKeyed}
+use Rattle.sky_replicas.proofs.FittingRows.{AllFit, rows-fit}
+use Rattle.sky_replicas.proofs.NodeNames.{source_of}
+use Rattle.sky_replicas.proofs.Copying.{Runs, Holds, copy-found}
+use Rattle.sky_replicas.proofs.Keeping.{legal-before, Grows, grows, fine-within, Noded, noded-within, source-within, Copying, CopiedFrom, Kept, keeps-within, fits-step}
+use Rattle.sky_replicas.proofs.Others.{each_table, other_than, legal-under, KeptFree, names-differ, own-step, own-marks, own-marks-free, takes-up}
+use Rattle.sky_replicas.proofs.CallPasts.{call_marks, called, after_calls, on-move, history-called, history-elsewhere, own-call, copying-marks, ending-marks, beginning-marks, IsWritten, is-written}
+
+-- ---- facts within databases
+
+pub grows-more : (h g f : History) → Grows h g → Grows g f → Grows h f
+grows-more h g f one two = record { later = two.later ++ one.later; is = two.is ∙ ap (λ x. two.later ++ x) one.is ∙ sym (append_assoc two.later one.later h) }
+
+pub grows-marks : (past : Past) (e : ℕ) (marks : List Mark) (d : ℕ) → Grows (history_in past d) (history_in (on_top past (map (within e) marks)) d)
+grows-marks past e [] d = record { later = []; is = refl }
+grows-marks past e (mark ∷ marks) d =
+    grows-more (history_in past d) (history_in (within e mark ∷ past) d) (history_in (on_top (within e mark ∷ past) (map (within e) marks)) d) (grows past (within e mark) d) (grows-marks (within e mark ∷ past) e marks d)
+
+-- a leaf has the provider's database that it had
+pub record StillFrom (past : Past) (d p : ℕ) : Type 0 where
+  pub all : Noded past
+  pub from : source_of past d ≡ Some p
+
+pub still-marks : (past : Past) (e : ℕ) (marks : List Mark) (d p : ℕ) → AllLegal (on_top past (map (within e) marks)) → StillFrom past d p → StillFrom (on_top past (map (within e) marks)) d p
+still-marks past e [] d p after s = s
+still-marks past e (mark ∷ marks) d p after s =
+    let next : AllLegal (within e mark ∷ past) = legal-under (within e mark ∷ past) (map (within e) marks) after in
+    let fine = fine-within past e mark next in
+    still-marks (within e mark ∷ past) e marks d p after (record { all = noded-within past e mark fine s.all; from = source-within past e mark d p s.all fine s.from })
+
+-- ---- what a move keeps
+
+abbrev pub MoveKept : Past → (p d : ℕ) → List ℕ → CopyMove → Type 0
+MoveKept past p d name move = Kept each_table (on_top past (move_facts (world_of past) p d name move))
+
+pub move-kept : (past : Past) (p d : ℕ) (name : List ℕ) (move : CopyMove) → Kept each_table (in_hand d name move.hand ∷ after_calls (after_calls past p move.provider) d move.replica) → MoveKept past p d name move
+move-kept past p d name move kept = subst (Kept each_table) (sym (on-move past p d name move)) kept
+
+-- nothing but what is printed
+pub prints-kept : (past : Past) (p d : ℕ) (name : List ℕ) (reply : _) (hand : Option CopyHand) → hands past d name ≡ hand → Kept each_table past
+    → IfOk (only_prints reply hand) (λ move. MoveKept past p d name move)
+prints-kept past p d name reply hand same kept = fits-step each_table past (in_hand d name hand) same kept
+
+-- ---- the copy in the replica's database
+
+-- a copy that runs there, of a table that is to be copied
+pub record AtCopy (h : History) (name : List ℕ) (table t : ℕ) (made : Entries (List Val)) : Type 0 where
+  pub runs : Runs h name table t made
+  pub found : copy_txid table (copies h) ≡ Some t
+  pub may : may_copy name (node h) ≡ true
+
+pub at-copy : (h : History) → Legal h → (name : List ℕ) (table t : ℕ) (made : Entries (List Val)) → Runs h name table t made → may_copy name (node h) ≡ true → AtCopy h name table t made
+at-copy h l name table t made runs may = record { runs = runs; found = copy-found h l table t runs.runs; may = may }
+
+keyed : (columns : List Column) (es : Entries (List Val)) → AllFit columns es → AreKeyed columns es
+keyed columns [] fits = tt
+keyed columns (e ∷ es) fits = (fits.0.1, keyed columns es fits.1)
+
+-- it goes on with rows that fit the table and come after those that it has made
+goes-on : (h : History) (name : List ℕ) (table t : ℕ) (made piece rest : Entries (List Val)) → AtCopy h name table t made → AllFit (columns_of table h) piece → is_in_order (made ++ (piece ++ rest)) ≡ true
+    → AtCopy (marked h (call_marks h (copying_rows name (rows_of piece)))) name table t (made ++ piece)
+goes-on h name table t made piece rest c fits order =
+    subst (λ ms. AtCopy (marked h ms) name table t (made ++ piece)) (sym (copying-marks h name table t (rows_of piece) c.may c.runs.named c.found (rows-fit (columns_of table h) piece fits))) there
+  where
+    ws : List Write
+    ws = insertions (columns_of table h) (rows_of piece)
+
+    g : History
+    g = marked h (copy_writes (part_of h) table t ws)
+
+    is : IsWritten h g table t ws
+    is = is-written (part_of h) table t ws h
+
+    there : AtCopy g name table t (made ++ piece)
+    there = record {
+      runs = record {
+        named = ap (place_of name) is.names ∙ c.runs.named;
+        runs = ap (is_copied_by table t) is.running ∙ c.runs.runs;
+        written = ap (λ x. put_all x []) is.writes ∙ put-append (writes_of table t h) ws [] ∙ ap (put_all ws) c.runs.written
+            ∙ put-next (columns_of table h) made piece rest order (keyed (columns_of table h) piece fits);
+        may = ap (may_copy name) is.node_is ∙ c.may;
+      };
+      found = ap (copy_txid table) is.running ∙ c.found;
+      may = ap (may_copy name) is.node_is ∙ c.may;
+    }
+
+-- it begins
+copied-last : (table t : ℕ) (cs : List Copy) → copy_txid table cs ≡ None → copy_txid table (cs ++ record { table = table; txid = t } ∷ []) ≡ Some t
+copied-last table t [] none = ap (λ b. option_map Copy.txid (if b then Some (record { table = table; txid = t }) else None)) (same-session table)
+copied-last table t (c ∷ cs) none =
+    by_test (λ b. option_map Copy.txid (if b then Some c else find (λ (x : Copy). x.table == table) cs) ≡ None
+    → option_map Copy.txid (if b then Some c else find (λ (x : Copy). x.table == table) (cs ++ record { table = table; txid = t } ∷ [])) ≡ Some t)
+    (c.table == table) (λ _ e. absurd (cc e)) (λ _ e. copied-last table t cs e) none
+
+pub record Begins (h g : History) (name : List ℕ) (table : ℕ) : Type 0 where
+  pub at : AtCopy g name table (next_txid h) []
+  pub columns : columns_of table g ≡ columns_of table h
+
+pub begins : (h : History) → Legal h → (name : List ℕ) (table : ℕ) → may_copy name (node h) ≡ true → place_of name (table_names h) ≡ Some table → copy_txid table (copies h) ≡ None
+    → nat_le (2 ^ 62) (next_txid h) ≡ false → Begins h (marked h (call_marks h (beginning_copy name))) name table
+begins h l name table may named none unspent =
+    subst (λ ms. Begins h (marked h ms) name table) (sym (beginning-marks h name table may named none unspent)) (record { at = there; columns = is.columns })
+  where
+    t : ℕ
+    t = next_txid h
+
+    first : History
+    first = began (of_copy table) t ∷ h
+
+    d : RowPart
+    d = after_part (part_of h) (began (of_copy table) t)
+
+    ws : List Write
+    ws = deletions (rows_now (part_of h) table)
+
+    g : History
+    g = marked first (copy_writes d table t ws)
+
+    is : IsWritten first g table t ws
+    is = is-written d table t ws first
+
+    found : copy_txid table (copies first) ≡ Some t
+    found = copied-last table t (copies h) none
+
+    there : AtCopy g name table t []
+    there = record {
+      runs = record {
+        named = ap (place_of name) is.names ∙ named;
+        runs = ap (is_copied_by table t) is.running ∙ copy_txid-some table t (copies first) found;
+        written = ap (λ x. put_all x []) (is.writes ∙ ap (λ x. x ++ ws) (begun h l table t (omega arith))) ∙ put-deletions (rows_now (part_of h) table);
+        may = ap (may_copy name) is.node_is ∙ may;
+      };
+      found = ap (copy_txid table) is.running ∙ found;
+      may = ap (may_copy name) is.node_is ∙ may;
+    }
+
+-- ---- the two ends of a piece
+
+-- the place of the provider whose rows are copied
+pub record Source (past : Past) (p : ℕ) (held : History) (name : List ℕ) (source : ℕ) : Type 0 where
+  pub grown : Grows held (history_in past p)
+  pub named : place_of name (table_names held) ≡ Some source
+
+-- the last piece: the copy ends
+pub ends : (past : Past) (d p : ℕ) (name : List ℕ) (table t : ℕ) (made piece : Entries (List Val)) (held : History) (source : ℕ) (under : SnapshotView) (tick : ℕ)
+    → AtCopy (history_in past d) name table t made → AllFit (columns_of table (history_in past d)) piece → is_in_order (made ++ (piece ++ [])) ≡ true
+    → Source past p held name source → snapshot held ≡ under → rows source held ≡ made ++ piece
+    → (AllLegal past → StillFrom past d p) → Kept (other_than d name) past → Kept (other_than d name) (after_calls past d (copying_rows name (rows_of piece) ∷ ending_copy name under tick ∷ []))
+ends past d p name table t made piece held source under tick c fits order s taken rows_are from kept =
+    subst (λ ms. Kept (other_than d name) (on_top second (map (within d) ms))) (sym (ending-marks (history_in second d) name table t under tick at.may at.runs.named at.found)) last
+  where
+    h : History
+    h = history_in past d
+
+    marks : List Mark
+    marks = call_marks h (copying_rows name (rows_of piece))
+
+    second : Past
+    second = called past d (copying_rows name (rows_of piece))
+
+    at : AtCopy (history_in second d) name table t (made ++ piece)
+    at = subst (λ g. AtCopy g name table t (made ++ piece)) (sym (history-called past d (copying_rows name (rows_of piece)))) (goes-on h name table t made piece [] c fits order)
+
+    kept-second : Kept (other_than d name) second
+    kept-second = own-marks past d name table marks c.runs.named (own-call h name table (copying_rows name (rows_of piece)) c.runs.named refl) kept
+
+    third : Past
+    third = within d (ended (of_copy table) t true) ∷ second
+
+    kept-third : Kept (other_than d name) third
+    kept-third = own-step second d name table (ended (of_copy table) t true) at.runs.named (same-session table) kept-second
+
+    found : AllLegal third → source_of third d ≡ Some p
+    found after =
+        let before : AllLegal second = legal-before second (within d (ended (of_copy table) t true)) after in
+        let still : StillFrom second d p = still-marks past d marks d p before (from (legal-under past (map (within d) marks) before)) in
+        source-within second d (ended (of_copy table) t true) d p still.all (fine-within second d (ended (of_copy table) t true) after) still.from
+
+    tells : AllLegal third → CopiedFrom third d (history_in third d) name under
+    tells after = record {
+      provider = p;
+      from = found after;
+      held = held;
+      grown = grows-more held (history_in second p) (history_in third p) (grows-more held (history_in past p) (history_in second p) s.grown (grows-marks past d marks p)) (grows second (within d (ended (of_copy table) t true)) p);
+      taken = taken;
+      source = source;
+      source_named = s.named;
+      table = table;
+      t = t;
+      below = history_in second d;
+      last = ap (λ b. if b then ended (of_copy table) t true ∷ history_in second d else history_in second d) (same-session d);
+      same = at.runs.written ∙ sym rows_are;
+    }
+
+    last : Kept (other_than d name) (within d (noded (copied name under tick)) ∷ third)
+    last = keeps-within (other_than d name) third d (noded (copied name under tick)) (λ after _. tells after) (λ _ _ e other hand is has x. record { replica = λ same. ap not (names-differ d name e other is same); provider = λ _. refl }) kept-third
+
+-- another piece: the copy stays in hand
+pub goes : (past : Past) (d p : ℕ) (name : List ℕ) (table t : ℕ) (made piece rest : Entries (List Val)) (held : History) (source : ℕ) (hand : CopyHand)
+    → (p == d) ≡ false → AtCopy (history_in past d) name table t made → AllFit (columns_of table (history_in past d)) piece → is_in_order (made ++ (piece ++ rest)) ≡ true
+    → Holds (history_in past p) hand.hold held → place_of name (table_names held) ≡ Some source → rows source held ≡ made ++ (piece ++ rest) → hand.last ≡ last_key None (made ++ piece)
+    → (AllLegal past → StillFrom past d p) → KeptFree p d name hand.hold past
+    → Kept each_table (in_hand d name (Some hand) ∷ called past d (copying_rows name (rows_of piece)))
+goes past d p name table t made piece rest held source hand other c fits order there named rows_are last from kept =
+    takes-up p d name hand second (own-marks-free p hand.hold past d name table marks c.runs.named (own-call h name table (copying_rows name (rows_of piece)) c.runs.named refl) kept) copying (λ after. (still after).from)
+  where
+    h : History
+    h = history_in past d
+
+    marks : List Mark
+    marks = call_marks h (copying_rows name (rows_of piece))
+
+    second : Past
+    second = called past d (copying_rows name (rows_of piece))
+
+    still : AllLegal second → StillFrom second d p
+    still after = still-marks past d marks d p after (from (legal-under past (map (within d) marks) after))
+
+    apart : (d == p) ≡ false
+    apart = grind (arith, nat_tests, other)
+
+    copying : AllLegal second → Copying second d name hand
+    copying after = record {
+      p = p;
+      from = (still after).from;
+      held = held;
+      there = subst (λ g. Holds g hand.hold held) (sym (history-elsewhere past d (copying_rows name (rows_of piece)) p apart)) there;
+      source = source;
+      source_named = named;
+      table = table;
+      t = t;
+      made = made ++ piece;
+      rest = rest;
+      here = (subst (λ g. AtCopy g name table t (made ++ piece)) (sym (history-called past d (copying_rows name (rows_of piece)))) (goes-on h name table t made piece rest c fits order)).runs;
+      rows_are = rows_are ∙ sym (append_assoc made piece rest);
+      last = last;
+    }

@@ -1,0 +1,327 @@
+-- What is left of a copy that was given up: nothing.
+use Rattle.std.proofs.Common.{arith, ◌≡◌, ℕ, ◌==◌, cond, List, [], ◌∷◌, ◌++◌, Bool, true, false, not, ◌&&◌, ◌||◌, Option, Some, None, Ok, Err, option_map, unwrap_or, refl, sym, ap, subst, ◌∙◌, if◌then◌else◌, find}
+use Rattle.std.specs.Option.{option_and_then}
+use Rattle.std.specs.List.{list_any}
+use Rattle.std.specs.Ordering.{eq_by_cmp}
+use Rattle.std.proofs.lemmas.Bool.Decides.{nat_tests}
+use Rattle.std.proofs.lemmas.Bool.{and_parts, false_from_ne_true, eqb-true}
+use Rattle.sky_val.specs.declared.val.Val.{Val}
+use Rattle.sky_val.specs.Order.{key_cmp}
+use Rattle.sky_val.specs.Entries.{Entries, at, is_in_order}
+use Rattle.sky_val.proofs.EntryLemmas.{same_entries}
+use Rattle.sky_keys.specs.declared.version.Version.{Version}
+use Rattle.sky_keys.specs.Versions.{with_version, without, version_of, versions_at, written, unless_empty, forgotten}
+use Rattle.sky_keys.proofs.EntryLemmas.{key_ties-is, at-written, is_in_order-written, at-forgotten, is_in_order-forgotten}
+use Rattle.sky_keys.proofs.VersionLemmas.{without-none}
+use Rattle.sky_names.specs.Places.{place_of}
+use Rattle.londiste_state.specs.Nodes.{of_leaf, Leaf}
+use Rattle.sky_model.specs.declared.reply.Reply.TheVariants.{Done, Null}
+use Rattle.sky_model.specs.declared.reply.Refusal.TheVariants.{NoNode}
+use Rattle.sky_model.specs.History.{Mark, of_copy, began, ended, tabled, wrote, noded, restarted, hold_ended, History, in_hand, Past}
+use Rattle.sky_model.specs.Hands.{CopyHand}
+use Rattle.sky_model.specs.Transactions.{next_txid, has_ended}
+use Rattle.sky_model.specs.Copies.{Copy, copies, is_copied, is_copied_by, copy_txid, Hold, holds, without_hold}
+use Rattle.sky_model.specs.Rows.{table_names, is_read_only, writes as writes_of, has_written}
+use Rattle.sky_model.specs.Versions.{versions}
+use Rattle.sky_model.specs.Nodes.{node}
+use Rattle.sky_model.specs.State.{database_of}
+use Rattle.sky_model.specs.Outcome.{Checked, ◌>>=◌, found_or, answers, does_marks, marks_of}
+use Rattle.sky_model.specs.StepCopy.{given_up}
+use Rattle.sky_model.specs.StepNode.{letting_go, giving_up_copy, may_copy, if_there, call_form}
+use Rattle.sky_model.specs.CopyMoves.{copy_running, goes_on, leaf_state, moves_in}
+use Rattle.sky_model.specs.NodesOfWorld.{WorldOutcome}
+use Rattle.sky_model.specs.WorkersOfWorld.{move_facts, moves, source, leaf_table, restarting}
+use Rattle.sky_model.specs.Settling.{marked}
+use Rattle.sky_model.specs.World.{World, world_of, history_in, hands, on_top}
+use Rattle.sky_model.specs.Calls.{past_of}
+use Rattle.sky_model.proofs.Legal.{Fine, writes, copies_row, ends_copy, Legal, legal-below_mark, fine_mark}
+use Rattle.sky_model.proofs.Snapshots.{sound, ender-unended, begun-next}
+use Rattle.sky_model.proofs.SnapshotLaws.{legal_place}
+use Rattle.sky_model.proofs.Guarded.{copied_by-push, copied_by-without, copied-by, IsGuarded, copies-guarded, one-copy, gone}
+use Rattle.sky_model.proofs.Holders.{copy-alone}
+use Rattle.sky_model.proofs.RowKeys.{begun, is_in_order-versions}
+use Rattle.sky_model.proofs.RowWrites.{has_written-last_of}
+use Rattle.sky_model.proofs.KeyVersions.{kept, key_holds}
+use Rattle.sky_model.proofs.NodeDeeds.{called-there}
+use Rattle.sky_model.proofs.Histories.{legal_past}
+use Rattle.sky_model.proofs.Good.{same-session}
+use Rattle.sky_model.proofs.Cases.{by_test, by_same}
+use Rattle.sky_replicas.specs.LawsOfReplicas.{IsUndone, GivenUpCopiesLeaveNothing, IsRestarted, RestartsBeginAnew}
+use Rattle.sky_replicas.proofs.InCopyTables.{in-copy-state}
+use Rattle.sky_replicas.proofs.HandsAt.{at-itself, hand-is}
+use Rattle.sky_replicas.proofs.Copying.{copy-found}
+use Rattle.sky_replicas.proofs.Keeping.{Copying, Keeps}
+use Rattle.sky_replicas.proofs.Others.{each_table}
+use Rattle.sky_replicas.proofs.CallPasts.{call_marks, called, on-move, history-called, history-elsewhere}
+use Rattle.sky_replicas.proofs.Sources.{IsSource, source-is}
+use Rattle.sky_replicas.proofs.KeptCalls.{kept-past, leaf-is, HasSource, has-source}
+use Rattle.sky_replicas.proofs.LaterRows.{still-copied, ran-before, unseen}
+
+-- ---- versions of a key
+
+without-with : (t : ℕ) (row : Option (List Val)) (vs : List Version) → without t (with_version t row vs) ≡ without t vs
+without-with t row [] = ap (λ b. if b then [] else record { txid = t; row = row } ∷ []) (same-session t)
+without-with t row (v ∷ vs) = grind (arith, nat_tests, without-with t row vs)
+
+-- some list, if it has items
+has-items : (t : ℕ) (row : Option (List Val)) (vs : List Version) → unless_empty (with_version t row vs) ≡ Some (with_version t row vs)
+has-items t row [] = refl
+has-items t row (v ∷ vs) = by_test (λ b. unless_empty (if b then record { txid = t; row = row } ∷ vs else v ∷ with_version t row vs) ≡ Some (if b then record { txid = t; row = row } ∷ vs else v ∷ with_version t row vs))
+    (t == v.txid) (λ _. refl) (λ _. refl)
+
+unless-twice : (vs : List Version) → option_and_then unless_empty (unless_empty vs) ≡ unless_empty vs
+unless-twice [] = refl
+unless-twice (v ∷ vs) = refl
+
+abbrev left_of : ℕ → List Version → Option (List Version)
+left_of t vs = unless_empty (without t vs)
+
+-- a key with versions has some
+full : (h : History) (table : ℕ) (key : List Val) → option_and_then unless_empty (at key (versions table h)) ≡ at key (versions table h)
+full [] table key = refl
+full (tabled (wrote whose t n k old new) ∷ h) table key =
+    by_test (λ b. option_and_then unless_empty (at key (if b then written t k new (versions table h) else versions table h)) ≡ at key (if b then written t k new (versions table h) else versions table h)) (n == table)
+    (λ _. ap (option_and_then unless_empty) (at-written key t k new (versions table h)) ∙ of (eq_by_cmp key_cmp key k) (full h table key) ∙ sym (at-written key t k new (versions table h))) (λ _. full h table key)
+  where
+    of : (b : Bool) → option_and_then unless_empty (at key (versions table h)) ≡ at key (versions table h)
+        → option_and_then unless_empty (cond b (Some (with_version t new (versions_at k (versions table h)))) (at key (versions table h))) ≡ cond b (Some (with_version t new (versions_at k (versions table h)))) (at key (versions table h))
+    of true ih = has-items t new (versions_at k (versions table h))
+    of false ih = ih
+full (ended whose t false ∷ h) table key =
+    ap (option_and_then unless_empty) (at-forgotten t key (versions table h) (is_in_order-versions table h)) ∙ of (at key (versions table h)) ∙ sym (at-forgotten t key (versions table h) (is_in_order-versions table h))
+  where
+    of : (o : Option (List Version)) → option_and_then unless_empty (option_and_then (left_of t) o) ≡ option_and_then (left_of t) o
+    of None = refl
+    of (Some vs) = unless-twice (without t vs)
+full (_ ∷ h) table key = full h table key
+
+-- a transaction that has no version there leaves all as it was
+forgotten-none : (h : History) (table u : ℕ) → ((key : List Val) → version_of u (kept h table key) ≡ None) → forgotten u (versions table h) ≡ versions table h
+forgotten-none h table u none =
+    same_entries (forgotten u (versions table h)) (versions table h) (is_in_order-forgotten u (versions table h) (is_in_order-versions table h)) (is_in_order-versions table h)
+    (λ key. at-forgotten u key (versions table h) (is_in_order-versions table h) ∙ of (at key (versions table h)) (none key) (full h table key))
+  where
+    of : (o : Option (List Version)) → version_of u (unwrap_or o []) ≡ None → option_and_then unless_empty o ≡ o → option_and_then (left_of u) o ≡ o
+    of None none is = refl
+    of (Some vs) none is = ap unless_empty (without-none u vs none) ∙ is
+
+-- its own write is forgotten too
+forgotten-own : (h : History) (table t : ℕ) (key : List Val) (row : Option (List Val)) → forgotten t (written t key row (versions table h)) ≡ forgotten t (versions table h)
+forgotten-own h table t key row =
+    same_entries (forgotten t (written t key row vs)) (forgotten t vs) (is_in_order-forgotten t (written t key row vs) (is_in_order-written t key row vs order)) (is_in_order-forgotten t vs order)
+    (λ k. at-forgotten t k (written t key row vs) (is_in_order-written t key row vs order) ∙ ap (option_and_then (left_of t)) (at-written k t key row vs)
+    ∙ by_test (λ b. eq_by_cmp key_cmp k key ≡ b → option_and_then (left_of t) (cond b (Some (with_version t row (versions_at key vs))) (at k vs)) ≡ option_and_then (left_of t) (at k vs)) (eq_by_cmp key_cmp k key)
+    (λ _ ties. ap unless_empty (without-with t row (versions_at key vs)) ∙ of (at key vs) ∙ ap (λ x. option_and_then (left_of t) (at x vs)) (sym (key_ties-is k key ties))) (λ _ _. refl) refl
+    ∙ sym (at-forgotten t k vs order))
+  where
+    vs : Entries (List Version)
+    vs = versions table h
+
+    order : is_in_order vs ≡ true
+    order = is_in_order-versions table h
+
+    of : (o : Option (List Version)) → left_of t (unwrap_or o []) ≡ option_and_then (left_of t) o
+    of None = refl
+    of (Some ws) = refl
+
+-- a transaction that hasn't begun has no version
+fresh-at : (h : History) → Legal h → (table : ℕ) (key : List Val) → version_of (next_txid h) (kept h table key) ≡ None
+fresh-at h l table key =
+    let unended : has_ended h (next_txid h) ≡ false = false_from_ne_true (has_ended h (next_txid h)) (λ is. let below = (sound h l).ended_below (next_txid h) is in absurd (omega arith)) in
+    let none = begun h l table (next_txid h) (omega arith) in
+    grind (arith, (key_holds h l table key).own (next_txid h) unended, none)
+
+-- nor has one that runs beside the copy
+beside-at : (h : History) → Legal h → (table t : ℕ) → is_copied_by table t (copies h) ≡ true → (u : ℕ) → has_ended h u ≡ false → (t == u) ≡ false → (key : List Val) → version_of u (kept h table key) ≡ None
+beside-at h l table t is u unended other key =
+    let quiet = false_from_ne_true (has_written key (writes_of table u h)) (copy-alone h l t table key is u unended other) in
+    grind (arith, has_written-last_of key (writes_of table u h), (key_holds h l table key).own u unended, quiet)
+
+-- ---- the versions while a copy runs, without its own
+
+-- only the copy writes its table
+own-write : (h : History) → Legal h → (table t : ℕ) → is_copied_by table t (copies h) ≡ true → {whose : _} {u n : ℕ} {key : List Val} {old new : Option (List Val)} → Fine h (tabled (wrote whose u n key old new)) → n ≡ table → t ≡ u
+own-write h l table t is (writes who u n key old new mine free stands) same =
+    let g : IsGuarded h table = copies-guarded h l table (copied-by table t (copies h) is) in
+    absurd (cc (sym (stands.writable g.leaf) ∙ ap (λ k. is_read_only k h) same ∙ g.guarded))
+own-write h l table t is (copies_row n u key old new may) same = one-copy h l table t u is (ap (λ k. is_copied_by k u (copies h)) (sym same) ∙ may.runs)
+
+forgets : (table t : ℕ) (q : History) (later : List Mark) → Legal (later ++ began (of_copy table) t ∷ q) → is_copied_by table t (copies (later ++ began (of_copy table) t ∷ q)) ≡ true
+    → forgotten t (versions table (later ++ began (of_copy table) t ∷ q)) ≡ versions table q
+forgets table t q [] l is =
+    let t-is : t ≡ next_txid q = begun-next q (of_copy table) t (fine_mark l) in
+    forgotten-none q table t (λ key. ap (λ u. version_of u (kept q table key)) t-is ∙ fresh-at q (legal-below_mark l) table key)
+forgets table t q (tabled (wrote whose u n key old new) ∷ later) l is =
+    let h : History = later ++ began (of_copy table) t ∷ q in
+    by_same (λ b. forgotten t (if b then written u key new (versions table h) else versions table h) ≡ versions table q) n table
+    (λ same. let mine : t ≡ u = own-write h (legal-below_mark l) table t is (fine_mark l) same in
+    ap (λ v. forgotten t (written v key new (versions table h))) (sym mine) ∙ forgotten-own h table t key new ∙ forgets table t q later (legal-below_mark l) is)
+    (λ _. forgets table t q later (legal-below_mark l) is)
+forgets table t q (ended whose u false ∷ later) l is =
+    let h : History = later ++ began (of_copy table) t ∷ q in
+    let still = still-copied h (legal-below_mark l) whose u false (fine_mark l) table t is in
+    ap (forgotten t) (forgotten-none h table u (beside-at h (legal-below_mark l) table t still.0 u (ender-unended h (legal-below_mark l) whose u false (fine_mark l)) still.1))
+    ∙ forgets table t q later (legal-below_mark l) still.0
+forgets table t q (mark ∷ later) l is = forgets table t q later (legal-below_mark l) (ran-before table t q later mark l is)
+
+-- ---- a copy that is given up
+
+undone : (table t : ℕ) (q : History) (later : List Mark) → Legal (later ++ began (of_copy table) t ∷ q) → is_copied_by table t (copies (later ++ began (of_copy table) t ∷ q)) ≡ true
+    → IsUndone (ended (of_copy table) t false ∷ later ++ began (of_copy table) t ∷ q) q table
+undone table t q later l is = record {
+  rows_are = unseen table t q later l is;
+  versions_are = forgets table t q later l is;
+  none = gone (later ++ began (of_copy table) t ∷ q) l table t is;
+}
+
+ends-running : {h : History} {table t : ℕ} → Fine h (ended (of_copy table) t false) → is_copied_by table t (copies h) ≡ true
+ends-running (ends_copy table t c may) = may.runs
+
+pub given_up_copies_leave_nothing : GivenUpCopiesLeaveNothing
+given_up_copies_leave_nothing later q table t is =
+    let l : Legal (ended (of_copy table) t false ∷ later ++ began (of_copy table) t ∷ q) = legal_place (ended (of_copy table) t false ∷ later ++ began (of_copy table) t ∷ q) is in
+    undone table t q later (legal-below_mark l) (ends-running (fine_mark l))
+
+-- ---- the beginning of a copy that runs
+
+record HasBegun (h : History) (table t : ℕ) : Type 0 where
+  later : List Mark
+  q : History
+  is : h ≡ later ++ began (of_copy table) t ∷ q
+
+above-it : (mark : Mark) (h : History) (table t : ℕ) → HasBegun h table t → HasBegun (mark ∷ h) table t
+above-it mark h table t b = record { later = mark ∷ b.later; q = b.q; is = ap (λ g. mark ∷ g) b.is }
+
+has-begun : (h : History) (table t : ℕ) → is_copied_by table t (copies h) ≡ true → HasBegun h table t
+has-begun [] table t is = absurd (cc is)
+has-begun (began (of_copy n) u ∷ h) table t is =
+    by_test (λ b. (n == table && u == t) ≡ b → (is_copied_by table t (copies h) || b) ≡ true → HasBegun (began (of_copy n) u ∷ h) table t) (n == table && u == t)
+    (λ _ own _. let both = and_parts (n == table) (u == t) own in
+    let one : n ≡ table = eqb-true n table both.0 in
+    let two : u ≡ t = eqb-true u t both.1 in
+    record { later = []; q = h; is = λ i. began (of_copy (one i)) (two i) ∷ h })
+    (λ _ _ old. above-it (began (of_copy n) u) h table t (has-begun h table t (grind (arith, old)))) refl (sym (copied_by-push table t (copies h) (record { table = n; txid = u })) ∙ is)
+has-begun (ended (of_copy n) u c ∷ h) table t is =
+    above-it (ended (of_copy n) u c) h table t (has-begun h table t (and_parts (is_copied_by table t (copies h)) (not (t == u)) (sym (copied_by-without table u t (copies h)) ∙ is)).0)
+has-begun (mark ∷ h) table t is = above-it mark h table t (has-begun h table t is)
+
+-- ---- restarts
+
+uncopied : (table : ℕ) (cs : List Copy) → is_copied table cs ≡ false → copy_txid table cs ≡ None
+uncopied table [] none = refl
+uncopied table (c ∷ cs) none =
+    by_test (λ b. (b || is_copied table cs) ≡ false → option_map Copy.txid (if b then Some c else find (λ (x : Copy). x.table == table) cs) ≡ None) (c.table == table)
+    (λ _ e. absurd (cc e)) (λ _ e. uncopied table cs e) none
+
+giving-up-marks : (h : History) (name : List ℕ) (table t : ℕ) → may_copy name (node h) ≡ true → place_of name (table_names h) ≡ Some table → copy_txid table (copies h) ≡ Some t
+    → call_marks h (giving_up_copy name) ≡ ended (of_copy table) t false ∷ noded (restarted name) ∷ []
+giving-up-marks h name table t may there runs =
+    ap (λ b. marks_of (if b then call_form (database_of h) (giving_up_copy name) else answers Null)) may
+    ∙ ap (λ o. marks_of (if_there o (λ n. does_marks Done (given_up n name (copy_txid n (copies h)))))) there
+    ∙ ap (given_up table name) runs
+
+none-left : (number : ℕ) (held : List Hold) → list_any (λ (x : Hold). x.number == number) (without_hold number held) ≡ false
+none-left number [] = refl
+none-left number (x ∷ held) =
+    by_test (λ b. list_any (λ (y : Hold). y.number == number) (if not b then x ∷ without_hold number held else without_hold number held) ≡ false) (x.number == number)
+    (λ _. none-left number held) (λ other. ap (λ b. b || list_any (λ (y : Hold). y.number == number) (without_hold number held)) other ∙ none-left number held)
+
+let-go : (h : History) (number : ℕ) → list_any (λ (x : Hold). x.number == number) (holds (marked h (call_marks h (letting_go number)))) ≡ false
+let-go h number =
+    by_test (λ b. list_any (λ (x : Hold). x.number == number) (holds (marked h (marks_of (if b then does_marks Done (noded (hold_ended number) ∷ []) else answers Null)))) ≡ false)
+    (list_any (λ (x : Hold). x.number == number) (holds h)) (λ _. none-left number (holds h)) (λ none. none)
+
+is-restarted : (past : Past) (d p : ℕ) (name : List ℕ) (hand : CopyHand) → Legal (history_in past d) → IsSource past d p → Copying past d name hand
+    → IsRestarted past (in_hand d name None ∷ called (called past p (letting_go hand.hold)) d (giving_up_copy name)) d name hand
+is-restarted past d p name hand l s c = record {
+  put_down = nothing;
+  leaf = f.leaf;
+  is_leaf = f.is_leaf;
+  provider = f.provider;
+  found = f.found;
+  let_go = ap (λ g. list_any (λ (x : Hold). x.number == hand.hold) (holds g)) there ∙ let-go (history_in past p) hand.hold;
+  table = c.table;
+  named = named;
+  later = b.later;
+  before = b.q;
+  t = c.t;
+  ran = b.is;
+  undone = subst (λ g. IsUndone g b.q c.table) (sym now-is) after;
+  anew = λ from. ap (λ x. moves_in x (database_of (history_in now from)) (database_of (history_in now d)) name (hands now d name)) (ap (λ g. leaf_state name (node g)) now-is ∙ in-copy-state name (node (history_in past d)) c.here.may)
+      ∙ ap (λ o. goes_on (database_of (history_in now from)) (database_of (history_in now d)) name (hands now d name) o) idle;
+}
+  where
+    h : History
+    h = history_in past d
+
+    first : Past
+    first = called past p (letting_go hand.hold)
+
+    now : Past
+    now = in_hand d name None ∷ called first d (giving_up_copy name)
+
+    first-d : history_in first d ≡ h
+    first-d = history-elsewhere past p (letting_go hand.hold) d s.other
+
+    now-is : history_in now d ≡ noded (restarted name) ∷ ended (of_copy c.table) c.t false ∷ h
+    now-is =
+        history-called first d (giving_up_copy name) ∙ ap (λ g. marked g (call_marks g (giving_up_copy name))) first-d
+        ∙ ap (marked h) (giving-up-marks h name c.table c.t c.here.may c.here.named (copy-found h l c.table c.t c.here.runs))
+
+    f : HasSource past d p
+    f = has-source past d p s.from
+
+    -- what stands in the provider's database
+    there : history_in now f.provider.database ≡ marked (history_in past p) (call_marks (history_in past p) (letting_go hand.hold))
+    there =
+        ap (history_in now) f.is ∙ history-elsewhere first d (giving_up_copy name) p (grind (arith, nat_tests, s.other)) ∙ history-called past p (letting_go hand.hold)
+
+    b : HasBegun h c.table c.t
+    b = has-begun h c.table c.t c.here.runs
+
+    after : IsUndone (noded (restarted name) ∷ ended (of_copy c.table) c.t false ∷ h) b.q c.table
+    after =
+        let u : IsUndone (ended (of_copy c.table) c.t false ∷ h) b.q c.table = subst (λ g. IsUndone (ended (of_copy c.table) c.t false ∷ g) b.q c.table) (sym b.is)
+        (undone c.table c.t b.q b.later (subst Legal b.is l) (ap (λ g. is_copied_by c.table c.t (copies g)) (sym b.is) ∙ c.here.runs)) in
+        record { rows_are = u.rows_are; versions_are = u.versions_are; none = u.none }
+
+    named : place_of name (table_names (history_in now d)) ≡ Some c.table
+    named = ap (λ g. place_of name (table_names g)) now-is ∙ c.here.named
+
+    nothing : hands now d name ≡ None
+    nothing = hand-is (called first d (giving_up_copy name)) d name None d name ∙ ap (λ x. if x then None else hands (called first d (giving_up_copy name)) d name) (at-itself d name)
+
+    idle : copy_running (database_of (history_in now d)) name ≡ None
+    idle =
+        ap (λ o. option_and_then (λ n. copy_txid n (copies (history_in now d))) o) named
+        ∙ ap (λ g. copy_txid c.table (copies g)) now-is ∙ uncopied c.table (copies (noded (restarted name) ∷ ended (of_copy c.table) c.t false ∷ h)) after.none
+
+pub restarts_begin_anew : RestartsBeginAnew
+restarts_begin_anew calls name table n hand outcome found has is =
+    at-leaf (leaf_table name table n.node) refl (sym (ap (λ o. found_or o (NoNode name) >>= (λ m. leaf_table name table m.node >>= (λ l. source w l table >>= (λ p. moves w p m.database table (Ok (restarting table (w.hands m.database table))))))) found) ∙ is)
+  where
+    past : Past
+    past = past_of calls
+
+    w : World
+    w = world_of past
+
+    d : ℕ
+    d = n.database
+
+    at-source : (l : Leaf) → n.node ≡ of_leaf l → (c : Checked ℕ) → source w l table ≡ c → (c >>= (λ p. moves w p d table (Ok (restarting table (w.hands d table))))) ≡ Ok outcome
+        → IsRestarted past (on_top past outcome.facts) d table hand
+    at-source l leaf (Err refusal) from e = absurd (cc e)
+    at-source l leaf (Ok p) from e =
+        let one : record { replies = (restarting table (w.hands d table)).replies; facts = move_facts w p d table (restarting table (w.hands d table)) } ≡ outcome = cc e in
+        let stands : node (history_in past d) ≡ Some n.node = called-there w name n found in
+        let k : Keeps each_table past = kept-past calls (legal_past calls) in
+        subst (λ (o : WorldOutcome). IsRestarted past (on_top past o.facts) d table hand) one
+        (subst (λ x. IsRestarted past (on_top past (move_facts w p d table (restarting table x))) d table hand) (sym has)
+        (subst (λ q. IsRestarted past q d table hand) (sym (on-move past p d table (restarting table (Some hand))))
+        (is-restarted past d p table hand (legal_past calls d) (source-is past d p l table (stands ∙ ap Some leaf) from) (k.copying d table hand refl has))))
+
+    at-leaf : (c : Checked Leaf) → leaf_table name table n.node ≡ c → (c >>= (λ l. source w l table >>= (λ p. moves w p d table (Ok (restarting table (w.hands d table)))))) ≡ Ok outcome
+        → IsRestarted past (on_top past outcome.facts) d table hand
+    at-leaf (Err refusal) leaf e = absurd (cc e)
+    at-leaf (Ok l) leaf e = at-source l (leaf-is name table n.node l leaf) (source w l table) refl e

@@ -1,0 +1,399 @@
+-- What holds of all copies in hand, and of all tables that have been copied, is kept by each call of the world.
+use Rattle.std.proofs.Common.{◌≡◌, ℕ, ℤ, List, [], ◌∷◌, ◌++◌, map, length, nat_le, Bool, true, false, not, ◌&&◌, ◌||◌, Option, Some, None, Ok, Err, IfOk, is_some, option_map, refl, sym, ap, subst, ◌∙◌, if◌then◌else◌}
+use Rattle.std.proofs.lemmas.Bool.{and_parts}
+use Rattle.sky_names.specs.Places.{place_of}
+use Rattle.londiste_state.specs.declared.state.TableState.{TableState}
+use Rattle.londiste_state.specs.declared.state.TableState.TheVariants.{InCopy}
+use Rattle.londiste_state.specs.Nodes.{Node, of_root, of_leaf, Leaf, LeafTable, is_among, table_of, tables_of}
+use Rattle.sky_model.specs.declared.stmt.Stmt.{Stmt}
+use Rattle.sky_model.specs.declared.stmt.Stmt.TheVariants.{CreateRoot, Node as OnNodes, Clock, PgqdOn, PgqdOff}
+use Rattle.sky_model.specs.declared.stmt.NodeStmt.{NodeStmt}
+use Rattle.sky_model.specs.declared.stmt.NodeStmt.TheVariants.{CreateLeaf, AddTable, RemoveTable, TableState as ShowState, CopyStep, Restart, RestartTable, LondisteStep}
+use Rattle.sky_model.specs.declared.daemon.DaemonPart.{DaemonPart}
+use Rattle.sky_model.specs.declared.reply.Reply.{Reply}
+use Rattle.sky_model.specs.declared.reply.Reply.TheVariants.{Done, TableMoved}
+use Rattle.sky_model.specs.declared.reply.Refusal.{Refusal}
+use Rattle.sky_model.specs.declared.reply.Refusal.TheVariants.{AlreadyInSet, NodeExists, NoNode, NoTable, NotInSet, NotProvider, SchemaDiffers, TableInUse}
+use Rattle.sky_model.specs.History.{Mark, of_copy, ended, noded, copied, leaf_made, History, Fact, appeared, founded, entered, within, clock_at, node_made, in_hand, Past}
+use Rattle.sky_model.specs.Hands.{CopyHand}
+use Rattle.sky_model.specs.Rows.{table_names, writes as writes_of, put_all}
+use Rattle.sky_model.specs.Nodes.{node}
+use Rattle.sky_model.specs.State.{Database, database_of, after_marks}
+use Rattle.sky_model.specs.Outcome.{Outcome, Checked, ◌>>=◌, ◌>>◌, refused_if, refused_by, found_or, answers}
+use Rattle.sky_model.specs.Reader.{by_past, within_database, Deed, appears}
+use Rattle.sky_model.specs.Settling.{Turn, marked}
+use Rattle.sky_model.specs.Daemon.{daemon_does}
+use Rattle.sky_model.specs.Clock.{deed_in, waits_at}
+use Rattle.sky_model.specs.StepQueue.{newest_id}
+use Rattle.sky_model.specs.StepNode.{NodeCall, joining, parting, removing, moving, letting_go, giving_up_copy, if_there, set_queue, joins, lists, adds, unlists, may_serve, call_form, node_does}
+use Rattle.sky_model.specs.CopyMoves.{CopyMove, copy_move, copy_consumer}
+use Rattle.sky_model.specs.NodesOfWorld.{WorldOutcome, node_called, done_in, leaf_of, create_leaf, provides, are_columns, columns_called, adds_to, first_user, shows_state, Located}
+use Rattle.sky_model.specs.WorkersOfWorld.{move_facts, moves, source, source_alike, leaf_table, restarts, restarting, is_on_way, next_to_copy, starts_next, leaf_steps, lets_go_for, parts_for, leaves_leaf, removes_from, node_form}
+use Rattle.sky_model.specs.World.{World, world_of, session_names, database_names, home, history_in, hands, on_top, nodes}
+use Rattle.sky_model.specs.Calls.{opening, opens, outside_does, left_if, is_leaving, may_make, of_daemon_if, beside, database_turn, gets_node, node_if, world_does, does_at, session_does, turn, Call, called as call_does, past_of}
+use Rattle.sky_keys.specs.Waits.{is_waiting}
+use Rattle.sky_model.specs.LawsOfCopies.{HasCopied}
+use Rattle.sky_model.proofs.Histories.{AllLegal, same-turn-within, same-daemon-within, world_place, legal_past}
+use Rattle.sky_model.proofs.PastHistories.{on_top-append, history-marks}
+use Rattle.sky_model.proofs.ClockSteps.{after-clock}
+use Rattle.sky_model.proofs.NodeDeeds.{called-there}
+use Rattle.sky_model.proofs.Marks.{database_of-marks}
+use Rattle.sky_model.proofs.Good.{same-session}
+use Rattle.sky_model.proofs.CopyLaws.{copies_leave_their_rows}
+use Rattle.sky_model.proofs.StatementMarks.{EachMark, each-rest, each-given, when-true, Gives, AnyReply, after, either}
+use Rattle.sky_model.proofs.Cases.{by_test}
+use Rattle.sky_replicas.specs.LawsOfReplicas.{CopiedTablesHaveProvidersRows}
+use Rattle.std.specs.Option.{option_and_then}
+use Rattle.sky_replicas.proofs.NodeNames.{provider_of, database_among, names_in, source_of, called-database}
+use Rattle.sky_replicas.proofs.QuietStatements.{quiet-turn, quiet-daemon}
+use Rattle.sky_replicas.proofs.Keeping.{CopiedFrom, Copying, Keeps, Kept, is_quiet, FactsFit, fits-step, fits-steps}
+use Rattle.sky_replicas.proofs.Others.{each_table, other_than, by-before, fewer, own-free, own-marks, quiet-marks, puts-down}
+use Rattle.sky_replicas.proofs.CallPasts.{call_marks, called, after_calls, histories-elsewhere, quiet-consumer, lets-go, own-call}
+use Rattle.sky_replicas.proofs.Sources.{IsSource, source-is, alike-is}
+use Rattle.sky_replicas.proofs.CopySteps.{MoveKept, move-kept}
+use Rattle.sky_replicas.proofs.KeptMoves.{copy-kept}
+
+-- ---- facts that fit
+
+fit-marks : (past : Past) (e : ℕ) (marks : List Mark) → EachMark is_quiet marks → FactsFit past (map (within e) marks)
+fit-marks past e [] each = tt
+fit-marks past e (mark ∷ marks) each = (when-true (EachMark is_quiet marks) (is_quiet mark) each, fit-marks (within e mark ∷ past) e marks (each-rest is_quiet mark marks each))
+
+fit-append : (past : Past) (xs ys : List Fact) → FactsFit past xs → FactsFit (on_top past xs) ys → FactsFit past (xs ++ ys)
+fit-append past [] ys fit also = also
+fit-append past (x ∷ xs) ys fit also = (fit.0, fit-append (x ∷ past) xs ys fit.1 also)
+
+fit-left : (past : Past) (who : ℕ) (leaving : Bool) → FactsFit past (left_if who leaving)
+fit-left past who true = (tt, tt)
+fit-left past who false = tt
+
+fit-daemon : (past : Past) (may : Bool) (d : ℕ) (start : Option ℤ) (stmt : Stmt) → FactsFit past (of_daemon_if may d start stmt)
+fit-daemon past true d None PgqdOn = (tt, tt)
+fit-daemon past true d (Some moment) PgqdOn = tt
+fit-daemon past true d None PgqdOff = (tt, tt)
+fit-daemon past true d (Some moment) PgqdOff = (tt, tt)
+fit-daemon past true d start _ = tt
+fit-daemon past false d start stmt = tt
+
+fit-beside : (past : Past) (w : World) (who : ℕ) (stmt : Stmt) (d : ℕ) → FactsFit past (beside w who stmt d)
+fit-beside past w who stmt d =
+    let leaves : List Fact = left_if who (is_leaving (is_waiting who (w.database d).part.waiting) stmt) in
+    fit-append past leaves (of_daemon_if (may_make (w.database d) who stmt) d (w.daemons d) stmt) (fit-left past who (is_leaving (is_waiting who (w.database d).part.waiting) stmt))
+    (fit-daemon (on_top past leaves) (may_make (w.database d) who stmt) d (w.daemons d) stmt)
+
+-- ---- statements of sessions
+
+kept-if : (past : Past) (b : Bool) (x y : Deed) → Kept each_table (on_top past x.facts) → Kept each_table (on_top past y.facts) → Kept each_table (on_top past (if b then x else y).facts)
+kept-if past true x y kept also = kept
+kept-if past false x y kept also = also
+
+quiet-within : (past : Past) (d : ℕ) (now : ℤ) (who : ℕ) (stmt : Stmt) → EachMark is_quiet (database_turn (within_database by_past d) past now who stmt).marks
+quiet-within past d now who stmt = subst (λ (x : Turn). EachMark is_quiet x.marks) (sym (same-turn-within past d now who stmt)) (quiet-turn (history_in past d) now who stmt)
+
+kept-deed : (past : Past) (d who : ℕ) (stmt : Stmt) (outside : List Fact)
+    → FactsFit (on_top past (map (within d) (database_turn (within_database by_past d) past (world_of past).now who stmt).marks)) outside → Kept each_table past
+    → Kept each_table (on_top past (deed_in d outside (database_turn (within_database by_past d) past (world_of past).now who stmt)).facts)
+kept-deed past d who stmt outside fit kept =
+    let turn_within : Turn = database_turn (within_database by_past d) past (world_of past).now who stmt in
+    fits-steps each_table past (map (within d) turn_within.marks ++ outside)
+    (fit-append past (map (within d) turn_within.marks) outside (fit-marks past d turn_within.marks (quiet-within past d (world_of past).now who stmt)) fit) kept
+
+kept-opens : (past : Past) (who : ℕ) (stmt : Stmt) (name : List ℕ) (found : Option ℕ) → Kept each_table past → Kept each_table (on_top past (opens by_past past who stmt name found).facts)
+kept-opens past who stmt name (Some d) kept = kept-deed past d who stmt (entered who d ∷ []) (tt, tt) kept
+kept-opens past who stmt name None kept =
+    let d : ℕ = length (database_names past) in
+    kept-if past (nat_le 16 d) _ _ kept (kept-deed (founded name ∷ past) d who stmt (entered who d ∷ []) (tt, tt) (fits-step each_table past (founded name) tt kept))
+
+kept-outside : (past : Past) (who : ℕ) (stmt : Stmt) (name : Option (List ℕ)) → Kept each_table past → Kept each_table (on_top past (outside_does by_past past who stmt name).facts)
+kept-outside past who stmt None kept = kept
+kept-outside past who stmt (Some name) kept = kept-opens past who stmt name (place_of name (database_names past)) kept
+
+-- ---- statements on nodes
+
+after-append : (past : Past) (d : ℕ) (xs ys : List NodeCall) → after_calls past d (xs ++ ys) ≡ after_calls (after_calls past d xs) d ys
+after-append past d [] ys = refl
+after-append past d (x ∷ xs) ys = after-append (called past d x) d xs ys
+
+-- a leaf's table
+pub leaf-is : (name table : List ℕ) (n : Node) (l : Leaf) → leaf_table name table n ≡ Ok l → n ≡ of_leaf l
+leaf-is name table (of_root r) l is = absurd (cc is)
+leaf-is name table (of_leaf m) l is =
+    by_test (λ b. (refused_if b (NotInSet table) >> Ok m) ≡ Ok l → of_leaf m ≡ of_leaf l) (not (is_among table (tables_of (of_leaf m)))) (λ _ e. absurd (cc e)) (λ _ e. let same : m ≡ l = cc e in ap of_leaf same) is
+
+module _ (past : Past) (kept : Kept each_table past) where
+  abbrev w : World
+  w = world_of past
+
+  abbrev KeptIfOk : Checked WorldOutcome → Type 0
+  KeptIfOk c = IfOk c (λ o. Kept each_table (on_top past o.facts))
+
+  if-test : (b : Bool) (refusal : Refusal) (c : Checked WorldOutcome) → KeptIfOk c → KeptIfOk (refused_if b refusal >> c)
+  if-test true refusal c holds = tt
+  if-test false refusal c holds = holds
+
+  if-refused : (o : Option Refusal) (c : Checked WorldOutcome) → KeptIfOk c → KeptIfOk (refused_by o >> c)
+  if-refused None c holds = holds
+  if-refused (Some refusal) c holds = tt
+
+  if-found : {A : Type 0} (o : Option A) (refusal : Refusal) (next : A → Checked WorldOutcome) → ((a : A) → o ≡ Some a → KeptIfOk (next a)) → KeptIfOk (found_or o refusal >>= next)
+  if-found None refusal next holds = tt
+  if-found (Some a) refusal next holds = holds a refl
+
+  if-checked : {A : Type 0} (c : Checked A) (next : A → Checked WorldOutcome) → ((a : A) → c ≡ Ok a → KeptIfOk (next a)) → KeptIfOk (c >>= next)
+  if-checked (Ok a) next holds = holds a refl
+  if-checked (Err refusal) next holds = tt
+
+  kept-done : (d : ℕ) (reply : Reply) (c : Checked Outcome) → Gives AnyReply is_quiet c → KeptIfOk (done_in d reply c)
+  kept-done d reply (Ok o) given = fits-steps each_table past (map (within d) o.marks) (fit-marks past d o.marks given.1) kept
+  kept-done d reply (Err refusal) given = tt
+
+  kept-leaf : (d p : ℕ) (name provider : List ℕ) (tick : ℕ) (c : Checked Outcome) → Gives AnyReply is_quiet c → KeptIfOk (leaf_of d p name provider tick c)
+  kept-leaf d p name provider tick (Err refusal) given = tt
+  kept-leaf d p name provider tick (Ok o) given =
+      let q : Past = on_top past (map (within p) o.marks) in
+      fits-steps each_table past (map (within p) o.marks ++ within d (noded (leaf_made name provider tick)) ∷ node_made d ∷ [])
+      (fit-append past (map (within p) o.marks) (within d (noded (leaf_made name provider tick)) ∷ node_made d ∷ []) (fit-marks past p o.marks given.1)
+      (refl, (ap (λ b. is_some (node (if b then noded (leaf_made name provider tick) ∷ history_in q d else history_in q d))) (same-session d), tt))) kept
+
+  kept-create_leaf : (d : ℕ) (name provider : List ℕ) → KeptIfOk (create_leaf w d name provider)
+  kept-create_leaf d name provider =
+      if-test (is_some (node_called w name) || is_some (w.database d).node) (NodeExists name) _
+      (if-found (node_called w provider) (NoNode provider) _ (λ p _.
+      if-found (set_queue (w.database p.database)) (NotProvider provider) _ (λ queue is.
+      kept-leaf d p.database name provider (newest_id ((w.database p.database).queue queue)) (joins (w.database p.database) queue name)
+      (subst (λ o. Gives AnyReply is_quiet (if_there o (λ q. joins (w.database p.database) q name))) is (quiet-consumer (w.database p.database) (joining name) refl)))))
+
+  quiet-lists : (d : Database) (queue table : ℕ) (name : List ℕ) → Gives AnyReply is_quiet (lists d queue table name)
+  quiet-lists d queue table name = search (after)
+
+  quiet-adds : (d : Database) (table : ℕ) (name : List ℕ) → Gives AnyReply is_quiet (adds d table name)
+  quiet-adds d table name = search (after)
+
+  kept-adds : (d table : ℕ) (name : List ℕ) (n : Node) → KeptIfOk (adds_to w d table name n)
+  kept-adds d table name (of_root r) =
+      if-found (set_queue (w.database d)) (NotProvider r.name) _ (λ queue _. kept-done d Done (lists (w.database d) queue table name) (quiet-lists (w.database d) queue table name))
+  kept-adds d table name (of_leaf l) =
+      if-found (provides name (node_called w l.provider)) (NotInSet name) _ (λ p _.
+      if-test (not (are_columns ((w.database d).part.columns table) (columns_called name (w.database p)))) (SchemaDiffers name) _
+      (kept-done d Done (adds (w.database d) table name) (quiet-adds (w.database d) table name)))
+
+  -- the worker's hold is let go
+  kept-lets : (d p : ℕ) (name : List ℕ) (hand : Option CopyHand) → AllLegal past → Keeps each_table past → hands past d name ≡ hand → IsSource past d p → Kept (other_than d name) (after_calls past p (lets_go_for hand))
+  kept-lets d p name None legal k has s = fewer d name past k
+  kept-lets d p name (Some hand) legal k has s = lets-go p d name hand.hold past (λ l. (fewer d name past k l, own-free past p d name hand k has s.from))
+
+  kept-parts : (q : Past) (d p : ℕ) (name : List ℕ) (n : Option Node) (o : Option TableState) → Kept (other_than d name) q → Kept (other_than d name) (after_calls q p (parts_for n o))
+  kept-parts q d p name n None holds = holds
+  kept-parts q d p name n (Some state) holds =
+      by_test (λ b. Kept (other_than d name) (after_calls q p (if b then parting (copy_consumer n) ∷ [] else []))) (is_on_way state)
+      (λ _. quiet-marks q p d name (call_marks (history_in q p) (parting (copy_consumer n)))
+      (each-given AnyReply is_quiet (node_does (database_of (history_in q p)) (parting (copy_consumer n))) (quiet-consumer (database_of (history_in q p)) (parting (copy_consumer n)) refl)) holds) (λ _. holds)
+
+  kept-remove : (d p table : ℕ) (name : List ℕ) (l : Leaf) → place_of name (table_names (history_in past d)) ≡ Some table → IsSource past d p → MoveKept past p d name (leaves_leaf l name (hands past d name))
+  kept-remove d p table name l named s = by-before past (move_facts w p d name (leaves_leaf l name (hands past d name))) so kept
+    where
+      lets : List NodeCall
+      lets = lets_go_for (hands past d name)
+
+      parts : List NodeCall
+      parts = parts_for (Some (of_leaf l)) (option_map LeafTable.state (table_of name l))
+
+      q : Past
+      q = after_calls past p (lets ++ parts)
+
+      so : AllLegal past → Keeps each_table past → MoveKept past p d name (leaves_leaf l name (hands past d name))
+      so legal k =
+          let there : place_of name (table_names (history_in q d)) ≡ Some table = ap (λ g. place_of name (table_names g)) (histories-elsewhere past p (lets ++ parts) d s.other) ∙ named in
+          move-kept past p d name (leaves_leaf l name (hands past d name))
+          (puts-down d name (called q d (removing name))
+          (own-marks q d name table (call_marks (history_in q d) (removing name)) there (own-call (history_in q d) name table (removing name) there refl)
+          (subst (Kept (other_than d name)) (sym (after-append past p lets parts))
+          (kept-parts (after_calls past p lets) d p name (Some (of_leaf l)) (option_map LeafTable.state (table_of name l)) (kept-lets d p name (hands past d name) legal k refl s)))))
+
+  kept-restart : (d p : ℕ) (name : List ℕ) (hand : Option CopyHand) → hands past d name ≡ hand → IsSource past d p → MoveKept past p d name (restarting name hand)
+  kept-restart d p name None has s = fits-step each_table past (in_hand d name None) has kept
+  kept-restart d p name (Some hand) has s = by-before past (move_facts w p d name (restarting name (Some hand))) so kept
+    where
+      q : Past
+      q = called past p (letting_go hand.hold)
+
+      so : AllLegal past → Keeps each_table past → MoveKept past p d name (restarting name (Some hand))
+      so legal k =
+          let c : Copying past d name hand = k.copying d name hand refl has in
+          let there : place_of name (table_names (history_in q d)) ≡ Some c.table =
+          ap (λ g. place_of name (table_names g)) (histories-elsewhere past p (letting_go hand.hold ∷ []) d s.other) ∙ c.here.named in
+          move-kept past p d name (restarting name (Some hand))
+          (puts-down d name (called q d (giving_up_copy name))
+          (own-marks q d name c.table (call_marks (history_in q d) (giving_up_copy name)) there (own-call (history_in q d) name c.table (giving_up_copy name) there refl)
+          (kept-lets d p name (Some hand) legal k has s)))
+
+  kept-removes : (d table : ℕ) (name : List ℕ) (n : Node) → (w.database d).node ≡ Some n → place_of name (w.database d).part.tables ≡ Some table → KeptIfOk (removes_from w d table name n)
+  kept-removes d table name (of_root r) stands there =
+      if-refused (option_map TableInUse (first_user w r.name name)) _ (kept-done d Done (unlists table name) (tt, tt))
+  kept-removes d table name (of_leaf l) stands there =
+      if-checked (source w l name) _ (λ p is. kept-remove d p table name l there (source-is past d p l name stands is))
+
+  kept-state : (name table : List ℕ) (n : Node) → KeptIfOk (shows_state name table n)
+  kept-state name table (of_root r) = tt
+  kept-state name table (of_leaf l) = if-found (table_of table l) (NotInSet table) _ (λ t _. kept)
+
+  kept-restarts : (name : List ℕ) (n : Node) → KeptIfOk (restarts name n)
+  kept-restarts name (of_root r) = tt
+  kept-restarts name (of_leaf l) = kept
+
+  kept-next : (d : ℕ) (o : Option (List ℕ)) → KeptIfOk (starts_next w d o)
+  kept-next d None = kept
+  kept-next d (Some table) =
+      kept-done d (TableMoved table InCopy) (node_does (w.database d) (moving table InCopy))
+      (either AnyReply is_quiet (may_serve (moving table InCopy) (w.database d).node) (call_form (w.database d) (moving table InCopy)) (answers _) (tt, tt) (tt, tt))
+
+  kept-steps : (d : ℕ) (name : List ℕ) (n : Node) → KeptIfOk (leaf_steps w d name n)
+  kept-steps d name (of_root r) = tt
+  kept-steps d name (of_leaf l) = kept-next d (next_to_copy l)
+
+  kept-moves : (p d : ℕ) (table : List ℕ) (c : Checked CopyMove) → IfOk c (λ move. MoveKept past p d table move) → KeptIfOk (moves w p d table c)
+  kept-moves p d table (Ok move) holds = holds
+  kept-moves p d table (Err refusal) holds = tt
+
+  kept-form : (d : ℕ) (s : NodeStmt) → KeptIfOk (node_form w d s)
+  kept-form d (CreateLeaf name provider) = kept-create_leaf d name provider
+  kept-form d (AddTable name table_name) =
+      if-found (node_called w name) (NoNode name) _ (λ n found.
+      if-found (place_of table_name (w.database n.database).part.tables) (NoTable table_name) _ (λ table there.
+      if-test (is_among table_name (tables_of n.node)) (AlreadyInSet table_name) _ (kept-adds n.database table table_name n.node)))
+  kept-form d (RemoveTable name table_name) =
+      if-found (node_called w name) (NoNode name) _ (λ n found.
+      if-test (not (is_among table_name (tables_of n.node))) (NotInSet table_name) _
+      (if-found (place_of table_name (w.database n.database).part.tables) (NoTable table_name) _ (λ table there.
+      kept-removes n.database table table_name n.node (called-there w name n found) there)))
+  kept-form d (ShowState name table) = if-found (node_called w name) (NoNode name) _ (λ n _. kept-state name table n.node)
+  kept-form d (CopyStep name table) =
+      if-found (node_called w name) (NoNode name) _ (λ n found.
+      if-checked (leaf_table name table n.node) _ (λ l leaf.
+      if-checked (source_alike w n.database l table) _ (λ p alike.
+      kept-moves p n.database table (copy_move (w.database p) (w.database n.database) table (w.hands n.database table))
+      (copy-kept past n.database p table kept (alike-is past n.database p l table (called-there w name n found ∙ ap Some (leaf-is name table n.node l leaf)) alike)))))
+  kept-form d (Restart name) = if-found (node_called w name) (NoNode name) _ (λ n _. kept-restarts name n.node)
+  kept-form d (RestartTable name table) =
+      if-found (node_called w name) (NoNode name) _ (λ n found.
+      if-checked (leaf_table name table n.node) _ (λ l leaf.
+      if-checked (source w l table) _ (λ p is.
+      kept-restart n.database p table (hands past n.database table) refl (source-is past n.database p l table (called-there w name n found ∙ ap Some (leaf-is name table n.node l leaf)) is))))
+  kept-form d (LondisteStep name) = if-found (node_called w name) (NoNode name) _ (λ n _. kept-steps n.database name n.node)
+
+  kept-does : (who : ℕ) (c : Checked WorldOutcome) → KeptIfOk c → Kept each_table (on_top past (world_does who c).facts)
+  kept-does who (Ok o) holds = holds
+  kept-does who (Err refusal) holds = kept
+
+-- ---- any statement
+
+-- a database that gets its node has one
+fit-node : (past : Past) (d : ℕ) (old : Database) (marks : List Mark) (deed : Turn) → old ≡ database_of (history_in past d) → deed.marks ≡ marks → (got : Bool) → gets_node old deed ≡ got
+    → FactsFit (on_top past (map (within d) marks)) (node_if got d)
+fit-node past d old marks deed is same false got = tt
+fit-node past d old marks deed is same true got = (
+  ap (λ g. is_some (node g)) (history-marks past d marks d ∙ ap (λ b. if b then marked (history_in past d) marks else history_in past d) (same-session d))
+      ∙ ap (λ (x : Database). is_some x.node) (database_of-marks (history_in past d) marks)
+      ∙ ap (λ (x : Database). is_some (after_marks x marks).node) (sym is) ∙ ap (λ ms. is_some (after_marks old ms).node) (sym same) ∙ has,
+  tt,
+)
+  where
+    has : is_some (after_marks old deed.marks).node ≡ true
+    has = (and_parts (not (is_some old.node)) (is_some (after_marks old deed.marks).node) got).1
+
+kept-at : (past : Past) (who : ℕ) (stmt : Stmt) (d : ℕ) → Kept each_table past → Kept each_table (on_top past (does_at by_past past who stmt d).facts)
+kept-at past who (OnNodes s) d kept =
+    kept-if past (may_make ((world_of past).database d) who (OnNodes s)) _ _ (kept-does past kept who (node_form (world_of past) d s) (kept-form past kept d s)) (kept-deed past d who (OnNodes s) [] tt kept)
+kept-at past who (CreateRoot name queue) d kept =
+    let turn_within : Turn = database_turn (within_database by_past d) past (world_of past).now who (CreateRoot name queue) in
+    let got : Bool = gets_node ((world_of past).database d) turn_within in
+    kept-if past (may_make ((world_of past).database d) who (CreateRoot name queue) && is_some (node_called (world_of past) name)) _ _ kept
+    (kept-deed past d who (CreateRoot name queue) (node_if got d) (fit-node past d ((world_of past).database d) turn_within.marks turn_within refl refl got refl) kept)
+kept-at past who stmt d kept = kept-deed past d who stmt (beside (world_of past) who stmt d) (fit-beside (on_top past (map (within d) (database_turn (within_database by_past d) past (world_of past).now who stmt).marks)) (world_of past) who stmt d) kept
+
+kept-session : (past : Past) (who : ℕ) (stmt : Stmt) (at : Option ℕ) → Kept each_table past → Kept each_table (on_top past (session_does by_past past who stmt at).facts)
+kept-session past who stmt None kept = kept-outside past who stmt (opening stmt) kept
+kept-session past who stmt (Some d) kept = kept-at past who stmt d kept
+
+kept-works : (past : Past) (d : ℕ) (part : DaemonPart) (now : ℤ) → Kept each_table past → Kept each_table (on_top past (map (within d) (daemon_does (within_database by_past d) past part now).marks))
+kept-works past d part now kept =
+    let deed : Turn = daemon_does (within_database by_past d) past part now in
+    fits-steps each_table past (map (within d) deed.marks)
+    (fit-marks past d deed.marks (subst (λ (x : Turn). EachMark is_quiet x.marks) (sym (same-daemon-within past d part now)) (quiet-daemon (history_in past d) part now))) kept
+
+kept-statement : (past : Past) (who : ℕ) (stmt : Stmt) → Kept each_table past → Kept each_table (on_top past (turn by_past who stmt past).facts)
+kept-statement past who (Clock time) kept =
+    after-clock (Kept each_table) (λ p moment holds. fits-step each_table p (clock_at moment) tt holds) kept-works past who time (waits_at (world_of past) who (home past who)) kept
+kept-statement past who stmt kept = kept-session past who stmt (home past who) kept
+
+kept-called : (past : Past) (call : Call) (found : Option ℕ) → Kept each_table past → Kept each_table (on_top past (call_does by_past past call found).facts)
+kept-called past call (Some who) kept = kept-statement past who call.stmt kept
+kept-called past call None kept =
+    kept-if past (nat_le 256 (length (session_names past))) _ _ kept
+    (subst (Kept each_table) (sym (on_top-append past (appears call.who).facts (turn by_past (length (session_names past)) call.stmt (appeared call.who ∷ past)).facts))
+    (kept-statement (appeared call.who ∷ past) (length (session_names past)) call.stmt (fits-step each_table past (appeared call.who) tt kept)))
+
+kept-none : Kept each_table []
+kept-none legal = record {
+  all_noded = λ d there. absurd (cc there);
+  all_copied = λ d later p name under tick is. absurd (nothing later p (noded (copied name under tick)) is);
+  copying = λ d name hand _ has. absurd (cc has);
+  apart = λ d name e other one two p _ _ _ has. absurd (cc has);
+}
+  where
+    nothing : (later : List Mark) (p : History) (mark : Mark) → [] ≡ later ++ mark ∷ p → ⊥
+    nothing [] p mark is = absurd (cc is)
+    nothing (x ∷ later) p mark is = absurd (cc is)
+
+pub kept-past : (calls : List Call) → Kept each_table (past_of calls)
+kept-past [] = kept-none
+kept-past (call ∷ calls) = kept-called (past_of calls) call (place_of call.who (session_names (past_of calls))) (kept-past calls)
+
+-- ---- the law
+
+-- the leaf of a database, and its provider, of which this is the database
+pub record HasSource (past : Past) (d p : ℕ) : Type 0 where
+  pub leaf : Leaf
+  pub is_leaf : node (history_in past d) ≡ Some (of_leaf leaf)
+  pub provider : Located
+  pub found : node_called (world_of past) leaf.provider ≡ Some provider
+  pub is : provider.database ≡ p
+
+pub has-source : (past : Past) (d p : ℕ) → source_of past d ≡ Some p → HasSource past d p
+has-source past d p from = of (node (history_in past d)) refl from
+  where
+    at : (l : Leaf) → node (history_in past d) ≡ Some (of_leaf l) → (o : Option Located) → node_called (world_of past) l.provider ≡ o → option_map Located.database o ≡ Some p → HasSource past d p
+    at l leaf None found e = absurd (cc e)
+    at l leaf (Some n) found e = record { leaf = l; is_leaf = leaf; provider = n; found = found; is = cc e }
+
+    of : (n : Option Node) → node (history_in past d) ≡ n → option_and_then (λ provider. database_among (names_in past) provider (nodes past)) (provider_of (node (history_in past d))) ≡ Some p → HasSource past d p
+    of None is e = absurd (cc (sym e ∙ ap (λ n. option_and_then (λ provider. database_among (names_in past) provider (nodes past)) (provider_of n)) is))
+    of (Some (of_root r)) is e = absurd (cc (sym e ∙ ap (λ n. option_and_then (λ provider. database_among (names_in past) provider (nodes past)) (provider_of n)) is))
+    of (Some (of_leaf l)) is e =
+        at l is (node_called (world_of past) l.provider) refl
+        (called-database past l.provider ∙ sym (ap (λ n. option_and_then (λ provider. database_among (names_in past) provider (nodes past)) (provider_of n)) is) ∙ e)
+
+pub copied_tables_have_providers_rows : CopiedTablesHaveProvidersRows
+copied_tables_have_providers_rows calls in_form database later p name under tick is =
+    let k : Keeps each_table (past_of calls) = kept-past calls (legal_past calls) in
+    let c : CopiedFrom (past_of calls) database p name under = k.all_copied database later p name under tick is in
+    let h : HasCopied p name = copies_leave_their_rows p name under tick (world_place calls database later (noded (copied name under tick) ∷ p) in_form is) in
+    let one : ended (of_copy h.table) h.t true ∷ h.below ≡ ended (of_copy c.table) c.t true ∷ c.below = sym h.last ∙ c.last in
+    let table_is : h.table ≡ c.table = cc one in
+    let t_is : h.t ≡ c.t = cc one in
+    let f : HasSource (past_of calls) database c.provider = has-source (past_of calls) database c.provider c.from in
+    record {
+      leaf = f.leaf;
+      is_leaf = f.is_leaf;
+      provider = f.provider;
+      found = f.found;
+      later = c.grown.later;
+      held = c.held;
+      place = ap (history_in (past_of calls)) f.is ∙ c.grown.is;
+      taken = c.taken;
+      table = h.table;
+      named = h.named;
+      source = c.source;
+      source_named = c.source_named;
+      same = h.whole ∙ ap (λ n. put_all (writes_of n h.t p) []) table_is ∙ ap (λ n. put_all (writes_of c.table n p) []) t_is ∙ ap (λ q. put_all (writes_of c.table c.t q) []) c.last ∙ c.same;
+    }

@@ -1,0 +1,436 @@
+-- What `copy_step` keeps.
+use Rattle.std.proofs.Common.{arith, ◌≡◌, ℕ, ◌==◌, ◌^◌, nat_le, nat_lt, List, [], ◌∷◌, ◌++◌, map, length, take, drop, Bool, true, false, Option, Some, None, Ok, IfOk, option_map, option_and_then, unwrap_or, append-nil, take-append-drop, refl, sym, ap, subst, ◌∙◌, if◌then◌else◌}
+use Rattle.std.proofs.lemmas.Bool.Decides.{nat_tests}
+use Rattle.sky_val.specs.declared.val.Val.{Val}
+use Rattle.sky_val.specs.Entries.{Entries, is_in_order}
+use Rattle.sky_names.specs.Places.{place_of}
+use Rattle.sky_txid.specs.Ids.{contains}
+use Rattle.sky_txid.specs.Snapshot.{SnapshotView}
+use Rattle.londiste_state.specs.declared.state.TableState.{TableState}
+use Rattle.londiste_state.specs.declared.state.TableState.TheVariants.{Absent, InCopy, CatchingUp, Synced}
+use Rattle.londiste_state.specs.Nodes.{Node, of_root, of_leaf, LeafTable, table_of}
+use Rattle.sky_model.specs.declared.reply.Reply.TheVariants.{TableMoved, RowsCopied, AwaitsTable, Idle}
+use Rattle.sky_model.specs.declared.reply.Refusal.TheVariants.{IdsSpent, TooMany, TxidsSpent}
+use Rattle.sky_model.specs.declared.reply.Limit.TheVariants.{Consumers}
+use Rattle.sky_model.specs.History.{Mark, queued, noded, joined, parted, History, within, Past}
+use Rattle.sky_model.specs.Hands.{CopyHand}
+use Rattle.sky_model.specs.Transactions.{next_txid, snapshot}
+use Rattle.sky_model.specs.Copies.{copies, copy_txid, Hold, holds, least_free}
+use Rattle.sky_model.specs.Rows.{table_names, columns_of, rows}
+use Rattle.sky_model.specs.Nodes.{node}
+use Rattle.sky_model.specs.State.{part_of, Database, database_of}
+use Rattle.sky_model.specs.ShownRows.{snapshot_now}
+use Rattle.sky_model.specs.Outcome.{Checked, ◌>>=◌, ◌>>◌, refused_if}
+use Rattle.sky_model.specs.StepConsumer.{sub_ids_spent}
+use Rattle.sky_model.specs.StepNode.{NodeCall, joining, parting, holding, letting_go, beginning_copy, copying_rows, ending_copy, is_full, is_in_copy, may_copy, node_does}
+use Rattle.sky_model.specs.CopyMoves.{CopyMove, piece_size, held_snapshot, rows_from, rows_of, last_key, copies_piece, next_piece, behind_calls, copy_consumer, first_hand, starts_copy, copy_running, under_way, continues, goes_on, leaf_state, moves_in, copy_move}
+use Rattle.sky_model.specs.WorkersOfWorld.{move_facts}
+use Rattle.sky_model.specs.Settling.{marked}
+use Rattle.sky_model.specs.World.{world_of, history_in, hands, on_top}
+use Rattle.sky_model.proofs.Histories.{AllLegal}
+use Rattle.sky_model.proofs.Good.{same-session}
+use Rattle.sky_model.proofs.LeastNumbers.{least-free}
+use Rattle.sky_model.proofs.NodeCalls.{is_for_consumers, gives-consumers}
+use Rattle.sky_model.proofs.StatementMarks.{EachMark, each-given, each-rest, AnyReply}
+use Rattle.sky_model.proofs.Cases.{by_test, by_same}
+use Rattle.sky_replicas.proofs.Pieces.{last_key-append, all-taken}
+use Rattle.sky_replicas.proofs.FittingRows.{AllFit, fit-front, fit-back}
+use Rattle.sky_replicas.proofs.HeldRows.{piece-is, held-fit, rows-in-order}
+use Rattle.sky_replicas.proofs.Sources.{IsAlike}
+use Rattle.sky_replicas.proofs.Copying.{Holds, held_at}
+use Rattle.sky_replicas.proofs.Keeping.{Grows, Copying, Keeps, Kept, is_quiet}
+use Rattle.sky_replicas.proofs.Others.{each_table, other_than, by-before, legal-under, fewer, Free, own-free, KeptFree, is_own, own-marks, own-marks-free, quiet-marks, quiet-marks-free, puts-down}
+use Rattle.sky_replicas.proofs.CallPasts.{call_marks, called, after_calls, history-called, history-elsewhere, quiet-consumer, lets-go, own-call}
+use Rattle.sky_replicas.proofs.CopySteps.{grows-more, grows-marks, StillFrom, still-marks, MoveKept, move-kept, prints-kept, AtCopy, at-copy, Begins, begins, ends, goes}
+
+-- the first rows of some, and the others
+record Cut (n : ℕ) (es : Entries (List Val)) : Type 0 where
+  piece : Entries (List Val)
+  others : Entries (List Val)
+  is : es ≡ piece ++ others
+  taken : take n es ≡ piece
+  all : nat_lt (length piece) n ≡ true → others ≡ []
+
+cut : (n : ℕ) (es : Entries (List Val)) → Cut n es
+cut n es = record { piece = take n es; others = drop n es; is = sym (take-append-drop n es); taken = refl; all = all-taken n es }
+
+-- the two ends of a piece
+abbrev last_move : List ℕ → SnapshotView → CopyHand → Entries (List Val) → CopyMove
+last_move name under hand piece = record {
+  provider = letting_go hand.hold ∷ [];
+  replica = copying_rows name (rows_of piece) ∷ ending_copy name under hand.tick ∷ [];
+  replies = RowsCopied (length piece) ∷ TableMoved name CatchingUp ∷ [];
+  hand = None;
+}
+
+abbrev next_move : List ℕ → CopyHand → Entries (List Val) → CopyMove
+next_move name hand piece = record {
+  provider = [];
+  replica = copying_rows name (rows_of piece) ∷ [];
+  replies = RowsCopied (length piece) ∷ [];
+  hand = Some (record hand { last = last_key hand.last piece });
+}
+
+-- a leaf has still the provider's database that it had after a call
+still-called : (past : Past) (e : ℕ) (call : NodeCall) (d p : ℕ) → (AllLegal past → StillFrom past d p) → AllLegal (called past e call) → StillFrom (called past e call) d p
+still-called past e call d p from after =
+    still-marks past e (call_marks (history_in past e) call) d p after (from (legal-under past (map (within e) (call_marks (history_in past e) call)) after))
+
+-- ---- a copy that is in hand goes on
+
+module _ (past : Past) (d p : ℕ) (name : List ℕ) (hand : CopyHand) (under : SnapshotView) (legal : AllLegal past) (k : Keeps each_table past) (has : hands past d name ≡ Some hand)
+    (alike : IsAlike past d p name) (may : may_copy name (node (history_in past d)) ≡ true) (is_held : held_snapshot (database_of (history_in past p)) hand.hold ≡ Some under) where
+  abbrev c : Copying past d name hand
+  c = k.copying d name hand refl has
+
+  same-p : c.p ≡ p
+  same-p = let one : Some c.p ≡ Some p = sym c.from ∙ alike.source.from in cc one
+
+  there : Holds (history_in past p) hand.hold c.held
+  there = subst (λ q. Holds (history_in past q) hand.hold c.held) same-p c.there
+
+  under-is : under ≡ snapshot c.held
+  under-is = let one : Some under ≡ Some (snapshot c.held) = sym is_held ∙ there.is in cc one
+
+  fit-there : (place_of name (table_names (history_in past p)) ≡ Some c.source) × AllFit (columns_of c.source (history_in past p)) (rows c.source c.held)
+  fit-there = held-fit (history_in past p) (legal p) there.later c.held there.place name c.source c.source_named
+
+  columns-are : columns_of c.source (history_in past p) ≡ columns_of c.table (history_in past d)
+  columns-are =
+      let one : Some alike.number ≡ Some c.source = sym alike.there ∙ fit-there.0 in
+      let two : Some alike.table ≡ Some c.table = sym alike.here ∙ c.here.named in
+      let m : alike.number ≡ c.source = cc one in
+      let n : alike.table ≡ c.table = cc two in
+      ap (λ x. columns_of x (history_in past p)) (sym m) ∙ sym alike.columns ∙ ap (λ x. columns_of x (history_in past d)) n
+
+  free : KeptFree p d name hand.hold past
+  free l = (fewer d name past k l, own-free past p d name hand k has alike.source.from)
+
+  continue-piece : (piece others : Entries (List Val)) → c.rest ≡ piece ++ others → (nat_lt (length piece) piece_size ≡ true → others ≡ []) → MoveKept past p d name (copies_piece name under hand piece)
+  continue-piece piece others cut_is all =
+      by_test (λ b. nat_lt (length piece) piece_size ≡ b → MoveKept past p d name (if b then last_move name under hand piece else next_move name hand piece)) (nat_lt (length piece) piece_size)
+      (λ _ less. last-piece (all less)) (λ _ _. next-piece) refl
+    where
+      rows-are : rows c.source c.held ≡ c.made ++ (piece ++ others)
+      rows-are = c.rows_are ∙ ap (λ x. c.made ++ x) cut_is
+
+      order : is_in_order (c.made ++ (piece ++ others)) ≡ true
+      order = ap is_in_order (sym rows-are) ∙ rows-in-order c.source c.held
+
+      fits : AllFit (columns_of c.table (history_in past d)) piece
+      fits = fit-front (columns_of c.table (history_in past d)) piece others
+          (fit-back (columns_of c.table (history_in past d)) c.made (piece ++ others) (subst (λ cs. AllFit cs (c.made ++ (piece ++ others))) columns-are (subst (AllFit (columns_of c.source (history_in past p))) rows-are fit-there.1)))
+
+      at : AtCopy (history_in past d) name c.table c.t c.made
+      at = at-copy (history_in past d) (legal d) name c.table c.t c.made c.here may
+
+      first : Past
+      first = called past p (letting_go hand.hold)
+
+      still-here : history_in past d ≡ history_in first d
+      still-here = sym (history-elsewhere past p (letting_go hand.hold) d alike.source.other)
+
+      last-piece : others ≡ [] → MoveKept past p d name (last_move name under hand piece)
+      last-piece none =
+          move-kept past p d name (last_move name under hand piece)
+          (puts-down d name (after_calls first d (copying_rows name (rows_of piece) ∷ ending_copy name under hand.tick ∷ []))
+          (ends first d p name c.table c.t c.made piece c.held c.source under hand.tick
+          (subst (λ g. AtCopy g name c.table c.t c.made) still-here at) (subst (λ g. AllFit (columns_of c.table g) piece) still-here fits)
+          (subst (λ x. is_in_order (c.made ++ (piece ++ x)) ≡ true) none order)
+          (record {
+            grown = grows-more c.held (history_in past p) (history_in first p) (record { later = there.later; is = there.place }) (grows-marks past p (call_marks (history_in past p) (letting_go hand.hold)) p);
+            named = c.source_named;
+          })
+          (sym under-is) (rows-are ∙ ap (λ x. c.made ++ x) (ap (λ x. piece ++ x) none ∙ append-nil piece))
+          (still-called past p (letting_go hand.hold) d p (λ _. record { all = k.all_noded; from = alike.source.from })) (lets-go p d name hand.hold past free)))
+
+      next-piece : MoveKept past p d name (next_move name hand piece)
+      next-piece =
+          move-kept past p d name (next_move name hand piece)
+          (goes past d p name c.table c.t c.made piece others c.held c.source (record hand { last = last_key hand.last piece }) alike.source.other at fits order there c.source_named rows-are
+          (ap (λ o. last_key o piece) c.last ∙ sym (last_key-append None c.made piece)) (λ _. record { all = k.all_noded; from = alike.source.from }) free)
+
+  pub continue-kept : MoveKept past p d name (next_piece (database_of (history_in past p)) name under hand)
+  continue-kept =
+      let x : Cut piece_size c.rest = cut piece_size c.rest in
+      subst (λ rs. MoveKept past p d name (copies_piece name under hand rs))
+      (sym (ap (λ s. rows_from (database_of (history_in past p)) name s hand.last piece_size) under-is
+      ∙ piece-is (history_in past p) (legal p) there.later c.held there.place name c.source c.source_named c.made c.rest c.rows_are hand.last c.last piece_size ∙ x.taken))
+      (continue-piece x.piece x.others x.is x.all)
+
+-- ---- a copy begins
+
+-- calls for consumers leave holds and the snapshot as they are
+record IsAsRead (h g : History) : Type 0 where
+  holds_are : holds g ≡ holds h
+  snapshot_is : snapshot g ≡ snapshot h
+
+consumers-same : (h : History) (marks : List Mark) → EachMark is_for_consumers marks → IsAsRead h (marked h marks)
+consumers-same h [] each = record { holds_are = refl; snapshot_is = refl }
+consumers-same h (queued mark ∷ marks) each = (let rest = consumers-same (queued mark ∷ h) marks (each-rest is_for_consumers (queued mark) marks each) in record { holds_are = rest.holds_are; snapshot_is = rest.snapshot_is })
+consumers-same h (noded (joined consumer) ∷ marks) each = (let rest = consumers-same (noded (joined consumer) ∷ h) marks each in record { holds_are = rest.holds_are; snapshot_is = rest.snapshot_is })
+consumers-same h (noded (parted consumer) ∷ marks) each = (let rest = consumers-same (noded (parted consumer) ∷ h) marks each in record { holds_are = rest.holds_are; snapshot_is = rest.snapshot_is })
+consumers-same h (_ ∷ marks) each = absurd each
+
+held-none : (n : ℕ) (hs : List Hold) → contains n (map Hold.number hs) ≡ false → held_at n hs ≡ None
+held-none n [] none = refl
+held-none n (x ∷ hs) none = grind (arith, nat_tests, none, held-none n hs)
+
+held-last : (n : ℕ) (hs : List Hold) (s : SnapshotView) → contains n (map Hold.number hs) ≡ false → held_at n (hs ++ record { number = n; snapshot = s } ∷ []) ≡ Some s
+held-last n [] s none = ap (λ b. option_map Hold.snapshot (if b then Some (record { number = n; snapshot = s }) else None)) (same-session n)
+held-last n (x ∷ hs) s none = grind (arith, nat_tests, none, held-last n hs s)
+
+module _ (past : Past) (d p : ℕ) (name consumer : List ℕ) (legal : AllLegal past) (k : Keeps each_table past)
+    (alike : IsAlike past d p name) (may : may_copy name (node (history_in past d)) ≡ true) (none : copy_txid alike.table (copies (history_in past d)) ≡ None)
+    (unspent : nat_le (2 ^ 62) (next_txid (history_in past d)) ≡ false) where
+  abbrev h : History
+  h = history_in past d
+
+  abbrev first : Past
+  first = called past p (parting consumer)
+
+  abbrev second : Past
+  second = called first p (joining consumer)
+
+  abbrev third : Past
+  third = called second p holding
+
+  abbrev hand : CopyHand
+  hand = first_hand (database_of (history_in past p))
+
+  as-read : IsAsRead (history_in past p) (history_in second p)
+  as-read =
+      let one = consumers-same (history_in past p) (call_marks (history_in past p) (parting consumer))
+      (each-given AnyReply is_for_consumers (node_does (database_of (history_in past p)) (parting consumer)) (gives-consumers (database_of (history_in past p)) (parting consumer) refl)) in
+      let two = consumers-same (history_in (called past p (parting consumer)) p) (call_marks (history_in (called past p (parting consumer)) p) (joining consumer))
+      (each-given AnyReply is_for_consumers (node_does (database_of (history_in (called past p (parting consumer)) p)) (joining consumer))
+      (gives-consumers (database_of (history_in (called past p (parting consumer)) p)) (joining consumer) refl)) in
+      record {
+        holds_are = ap holds (history-called (called past p (parting consumer)) p (joining consumer)) ∙ two.holds_are ∙ ap holds (history-called past p (parting consumer)) ∙ one.holds_are;
+        snapshot_is = ap snapshot (history-called (called past p (parting consumer)) p (joining consumer)) ∙ two.snapshot_is ∙ ap snapshot (history-called past p (parting consumer)) ∙ one.snapshot_is;
+      }
+
+  second-d : history_in second d ≡ history_in past d
+  second-d = history-elsewhere first p (joining consumer) d alike.source.other ∙ history-elsewhere past p (parting consumer) d alike.source.other
+
+  third-d : history_in third d ≡ history_in past d
+  third-d = history-elsewhere second p holding d alike.source.other ∙ second-d
+
+  kept-second : Kept (other_than d name) second
+  kept-second =
+      quiet-marks first p d name (call_marks (history_in first p) (joining consumer))
+      (each-given AnyReply is_quiet (node_does (database_of (history_in first p)) (joining consumer)) (quiet-consumer (database_of (history_in first p)) (joining consumer) refl))
+      (quiet-marks past p d name (call_marks (history_in past p) (parting consumer))
+      (each-given AnyReply is_quiet (node_does (database_of (history_in past p)) (parting consumer)) (quiet-consumer (database_of (history_in past p)) (parting consumer) refl)) (fewer d name past k))
+
+  -- the number of the hold is new
+  number-is : least_free (map Hold.number (holds (history_in second p))) ≡ hand.hold
+  number-is = ap (λ hs. least_free (map Hold.number hs)) as-read.holds_are
+
+  new : contains hand.hold (map Hold.number (holds (history_in second p))) ≡ false
+  new = ap (λ n. contains n (map Hold.number (holds (history_in second p)))) (sym number-is) ∙ (least-free (map Hold.number (holds (history_in second p)))).0
+
+  free-second : KeptFree p d name hand.hold second
+  free-second after = (kept-second after, free)
+    where
+      free : Free second p d name hand.hold
+      free e other theirs differ has from =
+          by_same (λ b. b ≡ false) hand.hold theirs.hold
+          (λ same.
+          let x : Copying second e other theirs = (kept-second after).copying e other theirs differ has in
+          let one : Some x.p ≡ Some p = sym x.from ∙ from in
+          let q : x.p ≡ p = cc one in
+          let held : held_at theirs.hold (holds (history_in second p)) ≡ Some (snapshot x.held) = ap (λ r. held_at theirs.hold (holds (history_in second r))) (sym q) ∙ x.there.is in
+          absurd (cc (sym (held-none hand.hold (holds (history_in second p)) new) ∙ ap (λ n. held_at n (holds (history_in second p))) same ∙ held))) (λ _. refl)
+
+  free-third : KeptFree p d name hand.hold third
+  free-third = quiet-marks-free p hand.hold second p d name (call_marks (history_in second p) holding) tt free-second
+
+  grown-third : Grows (history_in past p) (history_in third p)
+  grown-third =
+      grows-more (history_in past p) (history_in second p) (history_in third p)
+      (grows-more (history_in past p) (history_in first p) (history_in second p) (grows-marks past p (call_marks (history_in past p) (parting consumer)) p) (grows-marks first p (call_marks (history_in first p) (joining consumer)) p))
+      (grows-marks second p (call_marks (history_in second p) holding) p)
+
+  held-third : held_at hand.hold (holds (history_in third p)) ≡ Some (snapshot (history_in past p))
+  held-third =
+      ap (λ g. held_at hand.hold (holds g)) (history-called second p holding)
+      ∙ ap (λ n. held_at hand.hold (holds (history_in second p) ++ record { number = n; snapshot = snapshot (history_in second p) } ∷ [])) number-is
+      ∙ held-last hand.hold (holds (history_in second p)) (snapshot (history_in second p)) new
+      ∙ ap Some as-read.snapshot_is
+
+  held-there : Holds (history_in third p) hand.hold (history_in past p)
+  held-there = record { later = grown-third.later; place = grown-third.is; is = held-third }
+
+  from-third : AllLegal third → StillFrom third d p
+  from-third =
+      still-called second p holding d p
+      (still-called first p (joining consumer) d p (still-called past p (parting consumer) d p (λ _. record { all = k.all_noded; from = alike.source.from })))
+
+  apart : (d == p) ≡ false
+  apart = let o : (p == d) ≡ false = alike.source.other in grind (arith, nat_tests, o)
+
+  abbrev t : ℕ
+  t = next_txid (history_in past d)
+
+  -- the database of the replica once the copy has begun, at a past in which it was as before
+  begun-at : (q : Past) → history_in q d ≡ history_in past d → Begins (history_in past d) (history_in (called q d (beginning_copy name)) d) name alike.table
+  begun-at q same =
+      subst (λ g. Begins (history_in past d) g name alike.table)
+      (ap (λ g. marked g (call_marks g (beginning_copy name))) (sym same) ∙ sym (history-called q d (beginning_copy name)))
+      (begins (history_in past d) (legal d) name alike.table may alike.here none unspent)
+
+  all-fit : AllFit (columns_of alike.table (history_in past d)) (rows alike.number (history_in past p))
+  all-fit = subst (λ cs. AllFit cs (rows alike.number (history_in past p))) (sym alike.columns) (held-fit (history_in past p) (legal p) [] (history_in past p) refl name alike.number alike.there).1
+
+  begin-piece : (piece others : Entries (List Val)) → rows alike.number (history_in past p) ≡ piece ++ others → (nat_lt (length piece) piece_size ≡ true → others ≡ [])
+      → MoveKept past p d name (behind_calls (parting consumer ∷ joining consumer ∷ holding ∷ []) (beginning_copy name ∷ []) (copies_piece name (snapshot (history_in past p)) hand piece))
+  begin-piece piece others rows-are all =
+      by_test (λ b. nat_lt (length piece) piece_size ≡ b
+      → MoveKept past p d name (behind_calls (parting consumer ∷ joining consumer ∷ holding ∷ []) (beginning_copy name ∷ []) (if b then last_move name under hand piece else next_move name hand piece)))
+      (nat_lt (length piece) piece_size) (λ _ less. last-piece (all less)) (λ _ _. next-piece) refl
+    where
+      under : SnapshotView
+      under = snapshot (history_in past p)
+
+      order : is_in_order (piece ++ others) ≡ true
+      order = ap is_in_order (sym rows-are) ∙ rows-in-order alike.number (history_in past p)
+
+      fits : AllFit (columns_of alike.table (history_in past d)) piece
+      fits = fit-front (columns_of alike.table (history_in past d)) piece others (subst (AllFit (columns_of alike.table (history_in past d))) rows-are all-fit)
+
+      own : (g : History) → place_of name (table_names g) ≡ Some alike.table → EachMark (is_own name alike.table) (call_marks g (beginning_copy name))
+      own g at = own-call g name alike.table (beginning_copy name) at refl
+
+      last-piece : others ≡ [] → MoveKept past p d name (behind_calls (parting consumer ∷ joining consumer ∷ holding ∷ []) (beginning_copy name ∷ []) (last_move name under hand piece))
+      last-piece no_more =
+          move-kept past p d name (behind_calls (parting consumer ∷ joining consumer ∷ holding ∷ []) (beginning_copy name ∷ []) (last_move name under hand piece))
+          (puts-down d name (after_calls fifth d (copying_rows name (rows_of piece) ∷ ending_copy name under hand.tick ∷ []))
+          (ends fifth d p name alike.table t [] piece (history_in past p) alike.number under hand.tick start.at
+          (subst (λ cs. AllFit cs piece) (sym start.columns) fits) (subst (λ x. is_in_order (piece ++ x) ≡ true) no_more order)
+          (record {
+            grown = grows-more (history_in past p) (history_in fourth p) (history_in fifth p)
+                (grows-more (history_in past p) (history_in third p) (history_in fourth p) grown-third (grows-marks third p (call_marks (history_in third p) (letting_go hand.hold)) p))
+                (grows-marks fourth d (call_marks (history_in fourth d) (beginning_copy name)) p);
+            named = alike.there;
+          })
+          refl (rows-are ∙ ap (λ x. piece ++ x) no_more ∙ append-nil piece)
+          (still-called fourth d (beginning_copy name) d p (still-called third p (letting_go hand.hold) d p from-third)) kept-fifth))
+        where
+          fourth : Past
+          fourth = called third p (letting_go hand.hold)
+
+          fourth-d : history_in fourth d ≡ history_in past d
+          fourth-d = history-elsewhere third p (letting_go hand.hold) d alike.source.other ∙ third-d
+
+          fifth : Past
+          fifth = called fourth d (beginning_copy name)
+
+          start : Begins (history_in past d) (history_in fifth d) name alike.table
+          start = begun-at fourth fourth-d
+
+          kept-fifth : Kept (other_than d name) fifth
+          kept-fifth =
+              let at : place_of name (table_names (history_in fourth d)) ≡ Some alike.table = ap (λ g. place_of name (table_names g)) fourth-d ∙ alike.here in
+              own-marks fourth d name alike.table (call_marks (history_in fourth d) (beginning_copy name)) at (own (history_in fourth d) at) (lets-go p d name hand.hold third free-third)
+
+      next-piece : MoveKept past p d name (behind_calls (parting consumer ∷ joining consumer ∷ holding ∷ []) (beginning_copy name ∷ []) (next_move name hand piece))
+      next-piece =
+          move-kept past p d name (behind_calls (parting consumer ∷ joining consumer ∷ holding ∷ []) (beginning_copy name ∷ []) (next_move name hand piece))
+          (goes fourth d p name alike.table t [] piece others (history_in past p) alike.number (record hand { last = last_key hand.last piece }) alike.source.other start.at
+          (subst (λ cs. AllFit cs piece) (sym start.columns) fits) order
+          (subst (λ g. Holds g hand.hold (history_in past p)) (sym (history-elsewhere third d (beginning_copy name) p apart)) held-there) alike.there rows-are refl
+          (still-called third d (beginning_copy name) d p from-third) free-fourth)
+        where
+          fourth : Past
+          fourth = called third d (beginning_copy name)
+
+          start : Begins (history_in past d) (history_in fourth d) name alike.table
+          start = begun-at third third-d
+
+          free-fourth : KeptFree p d name hand.hold fourth
+          free-fourth =
+              let at : place_of name (table_names (history_in third d)) ≡ Some alike.table = ap (λ g. place_of name (table_names g)) third-d ∙ alike.here in
+              own-marks-free p hand.hold third d name alike.table (call_marks (history_in third d) (beginning_copy name)) at (own (history_in third d) at) free-third
+
+  pub begin-kept : MoveKept past p d name (behind_calls (parting consumer ∷ joining consumer ∷ holding ∷ []) (beginning_copy name ∷ [])
+      (next_piece (database_of (history_in past p)) name (snapshot_now (part_of (history_in past p))) (first_hand (database_of (history_in past p)))))
+  begin-kept =
+      let x : Cut piece_size (rows alike.number (history_in past p)) = cut piece_size (rows alike.number (history_in past p)) in
+      subst (λ rs. MoveKept past p d name (behind_calls (parting consumer ∷ joining consumer ∷ holding ∷ []) (beginning_copy name ∷ []) (copies_piece name (snapshot (history_in past p)) hand rs)))
+      (sym (piece-is (history_in past p) (legal p) [] (history_in past p) refl name alike.number alike.there [] (rows alike.number (history_in past p)) refl None refl piece_size ∙ x.taken))
+      (begin-piece x.piece x.others x.is x.all)
+
+-- ---- the statement
+
+-- what is kept if it isn't refused
+abbrev IfKept : Past → (p d : ℕ) → List ℕ → Checked CopyMove → Type 0
+IfKept past p d name c = IfOk c (λ move. MoveKept past p d name move)
+
+-- what may be assumed of a past in which a move is made
+abbrev Assumed : Past → Type 0
+Assumed past = (facts : _) → (AllLegal past → Keeps each_table past → Kept each_table (on_top past facts)) → Kept each_table (on_top past facts)
+
+starts-kept : (past : Past) (d p : ℕ) (name : List ℕ) → Assumed past → (alike : IsAlike past d p name) → may_copy name (node (history_in past d)) ≡ true → copy_txid alike.table (copies (history_in past d)) ≡ None
+    → IfKept past p d name (starts_copy (database_of (history_in past p)) (database_of (history_in past d)) name)
+starts-kept past d p name assumed alike may none =
+    of (is_full there consumer) (sub_ids_spent there) (nat_le (2 ^ 62) (next_txid (history_in past d))) refl
+  where
+    there : Database
+    there = database_of (history_in past p)
+
+    consumer : List ℕ
+    consumer = copy_consumer (node (history_in past d))
+
+    move : CopyMove
+    move = behind_calls (parting consumer ∷ joining consumer ∷ holding ∷ []) (beginning_copy name ∷ []) (next_piece there name (snapshot_now (part_of (history_in past p))) (first_hand there))
+
+    of : (full spent last : Bool) → nat_le (2 ^ 62) (next_txid (history_in past d)) ≡ last
+        → IfKept past p d name (refused_if full (TooMany Consumers) >> (refused_if spent IdsSpent >> ((refused_if last TxidsSpent >> Ok (next_txid (history_in past d))) >>= (λ t. Ok move))))
+    of true spent last is = tt
+    of false true last is = tt
+    of false false true is = tt
+    of false false false is = assumed (move_facts (world_of past) p d name move) (λ legal k. begin-kept past d p name consumer legal k alike may none is)
+
+pub copy-kept : (past : Past) (d p : ℕ) (name : List ℕ) → Kept each_table past → IsAlike past d p name
+    → IfKept past p d name (copy_move (database_of (history_in past p)) (database_of (history_in past d)) name (hands past d name))
+copy-kept past d p name kept alike = in-state (leaf_state name (node (history_in past d))) refl
+  where
+    assumed : Assumed past
+    assumed facts so = by-before past facts so kept
+
+    -- a table that is to be copied
+    may : (n : Option Node) → leaf_state name n ≡ InCopy → may_copy name n ≡ true
+    may None e = absurd (cc e)
+    may (Some (of_root r)) e = absurd (cc e)
+    may (Some (of_leaf l)) e = of (table_of name l) e
+      where
+        of : (o : Option LeafTable) → unwrap_or (option_map LeafTable.state o) Absent ≡ InCopy → unwrap_or (option_map (λ t. is_in_copy t.state) o) false ≡ true
+        of None e = absurd (cc e)
+        of (Some t) e = ap is_in_copy e
+
+    going : (hand : Option CopyHand) → hands past d name ≡ hand → may_copy name (node (history_in past d)) ≡ true
+        → (o : Option (CopyHand × SnapshotView)) → under_way (database_of (history_in past p)) hand ≡ o → IfKept past p d name (continues (database_of (history_in past p)) name hand o)
+    going hand has may None way = prints-kept past p d name (AwaitsTable name) hand has kept
+    going None has may (Some x) way = absurd (cc way)
+    going (Some hand) has may (Some x) way = held (held_snapshot (database_of (history_in past p)) hand.hold) refl way
+      where
+        held : (o : Option SnapshotView) → held_snapshot (database_of (history_in past p)) hand.hold ≡ o → option_map (λ snapshot. (hand, snapshot)) o ≡ Some x
+            → MoveKept past p d name (next_piece (database_of (history_in past p)) name x.1 x.0)
+        held None is e = absurd (cc e)
+        held (Some under) is e =
+            let one : (hand, under) ≡ x = cc e in
+            subst (λ (y : CopyHand × SnapshotView). MoveKept past p d name (next_piece (database_of (history_in past p)) name y.1 y.0)) one
+            (assumed (move_facts (world_of past) p d name (next_piece (database_of (history_in past p)) name under hand)) (λ legal k. continue-kept past d p name hand under legal k has alike may is))
+
+    running : may_copy name (node (history_in past d)) ≡ true → (o : Option ℕ) → copy_running (database_of (history_in past d)) name ≡ o
+        → IfKept past p d name (goes_on (database_of (history_in past p)) (database_of (history_in past d)) name (hands past d name) o)
+    running may None is =
+        starts-kept past d p name assumed alike may (sym (ap (λ o. option_and_then (λ t. copy_txid t (copies (history_in past d))) o) alike.here) ∙ is)
+    running may (Some t) is = going (hands past d name) refl may (under_way (database_of (history_in past p)) (hands past d name)) refl
+
+    in-state : (state : TableState) → leaf_state name (node (history_in past d)) ≡ state
+        → IfKept past p d name (moves_in state (database_of (history_in past p)) (database_of (history_in past d)) name (hands past d name))
+    in-state InCopy is = running (may (node (history_in past d)) is) (copy_running (database_of (history_in past d)) name) refl
+    in-state Synced is = prints-kept past p d name Idle (hands past d name) refl kept
+    in-state state is = prints-kept past p d name (AwaitsTable name) (hands past d name) refl kept

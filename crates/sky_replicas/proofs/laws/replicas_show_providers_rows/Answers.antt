@@ -1,0 +1,11 @@
+use Rattle.sky_replicas.proofs.LaterRows as law
+use Rattle.sky_replicas.proofs.laws.replicas_show_providers_rows.Goals as goal
+
+pub returns-clause-shown : goal.returns-clause-shown
+returns-clause-shown c = law.replicas_show_providers_rows
+
+pub returns-clause-unseen : goal.returns-clause-unseen
+returns-clause-unseen c = law.copies_are_unseen
+
+pub returns-clause-seen : goal.returns-clause-seen
+returns-clause-seen c = law.sessions_see_providers_rows

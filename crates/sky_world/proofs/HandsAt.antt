@@ -1,0 +1,187 @@
+-- What the workers that copy tables have in hand, after the list that keeps it has changed.
+use Rattle.std.proofs.Common.{◌≡◌, ℕ, zero, suc, ◌<◌, ◌≤◌, ◌==◌, Bool, true, false, ◌&&◌, List, [], ◌∷◌, ◌++◌, length, get_or, slice_set, bytes_eq, find, position, Option, Some, None, option_and_then, refl, sym, ◌∙◌, ap, subst, arith, if◌then◌else◌}
+use Rattle.std.proofs.lemmas.Bool.Decides.{nat_tests}
+use Rattle.std.proofs.lemmas.Grind.{common_steps}
+use Rattle.std.proofs.lemmas.List.Quantifiers.{position-Some}
+use Rattle.std.proofs.lemmas.List.Sums.{fails_before_first}
+use Rattle.std.specs.List.{position_or_len}
+use Rattle.sky_names.proofs.PlaceLemmas.{bytes_eq_refl, same_name}
+use Rattle.sky_model.specs.Hands.{CopyHand}
+use Rattle.sky_model.specs.State.{changed_at, changed_for}
+use Rattle.sky_model.specs.History.{in_hand}
+use Rattle.sky_model.specs.World.{after_facts}
+use Rattle.sky_model.proofs.Cases.{by_test}
+use Rattle.sky_world.specs.Hands.{HandAt, is_hand_of, hand_at}
+use Rattle.sky_world.specs.Views.{WorldView}
+use Rattle.sky_world.specs.Seen.{seen_world}
+use Rattle.sky_world.specs.Nodes.{Happened}
+
+-- whether a table of a database is this one
+abbrev is_it : (d : ℕ) → (t : List ℕ) → (e : ℕ) → (n : List ℕ) → Bool
+is_it d t e n = d == e && bytes_eq n t
+
+-- a worker is that of the tables that are its own
+key-of : (d : ℕ) (t : List ℕ) (z : HandAt) → is_hand_of d t z ≡ true → (e : ℕ) (n : List ℕ) → is_hand_of e n z ≡ is_it d t e n
+key-of d t z is e n =
+    let number : z.database ≡ d = grind (arith, nat_tests, is) in
+    let name : t ≡ z.table = same_name t z.table (grind (arith, is)) in
+    ap (λ k. k == e && bytes_eq n z.table) number ∙ ap (λ m. d == e && bytes_eq n m) (sym name)
+
+-- one that is the worker of another table isn't that of this one
+other-key : (d : ℕ) (t : List ℕ) (z : HandAt) → is_hand_of d t z ≡ false → (e : ℕ) (n : List ℕ) → is_hand_of e n z ≡ true → is_it d t e n ≡ false
+other-key d t z isnt e n is =
+    by_test (λ b. is_it d t e n ≡ b → b ≡ false) (is_it d t e n)
+    (λ _ it. absurd (let number : e ≡ d = grind (arith, nat_tests, it) in
+    let name : n ≡ t = same_name n t (grind (arith, it)) in
+    let same : is_hand_of d t z ≡ true = ap (λ k. is_hand_of k t z) (sym number) ∙ ap (λ m. is_hand_of e m z) (sym name) ∙ is in cc (sym isnt ∙ same)))
+    (λ _ _. refl) refl
+
+-- ---- one of them changed
+
+set-first : (d : ℕ) (t : List ℕ) (hand : Option CopyHand) (hands : List HandAt) (at : ℕ) (x : HandAt) → at < length hands → is_hand_of d t (get_or hands at x) ≡ true
+    → ((k : ℕ) → k < at → is_hand_of d t (get_or hands k x) ≡ false) → (e : ℕ) (n : List ℕ)
+    → hand_at (slice_set hands at (record (get_or hands at x) { hand = hand })) e n ≡ (if is_it d t e n then hand else hand_at hands e n)
+set-first d t hand [] at x lt is before e n = absurd (omega (arith, lt))
+set-first d t hand (z ∷ zs) zero x lt is before e n =
+    by (is_it d t e n) (key-of d t (record z { hand = hand }) is e n) (key-of d t z is e n)
+  where
+    by : (b : Bool) → is_hand_of e n (record z { hand = hand }) ≡ b → is_hand_of e n z ≡ b
+        → hand_at (record z { hand = hand } ∷ zs) e n ≡ (if b then hand else hand_at (z ∷ zs) e n)
+    by true one also = ap (λ c. option_and_then HandAt.hand (if c then Some (record z { hand = hand }) else find (is_hand_of e n) zs)) one
+    by false one also =
+        ap (λ c. option_and_then HandAt.hand (if c then Some (record z { hand = hand }) else find (is_hand_of e n) zs)) one
+        ∙ sym (ap (λ c. option_and_then HandAt.hand (if c then Some z else find (is_hand_of e n) zs)) also)
+set-first d t hand (z ∷ zs) (suc at) x lt is before e n =
+    by (set-first d t hand zs at x (omega (arith, lt)) is (λ k less. before (suc k) (omega (arith, less))) e n) (is_hand_of e n z) refl
+  where
+    by : hand_at (slice_set zs at (record (get_or zs at x) { hand = hand })) e n ≡ (if is_it d t e n then hand else hand_at zs e n)
+        → (b : Bool) → is_hand_of e n z ≡ b → option_and_then HandAt.hand (if b then Some z else find (is_hand_of e n) (slice_set zs at (record (get_or zs at x) { hand = hand })))
+        ≡ (if is_it d t e n then hand else option_and_then HandAt.hand (if b then Some z else find (is_hand_of e n) zs))
+    by rest true one = sym (ap (λ c. if c then hand else z.hand) (other-key d t z (before zero (omega arith)) e n one))
+    by rest false one = rest
+
+-- as functions of the table
+as-changed : (d : ℕ) (t : List ℕ) (hand : Option CopyHand) (f g : ℕ → List ℕ → Option CopyHand) → ((e : ℕ) (n : List ℕ) → g e n ≡ (if is_it d t e n then hand else f e n)) → g ≡ changed_at d (changed_for t (λ _. hand)) f
+as-changed d t hand f g each = λ i e. by e (d == e) (λ n. each e n) i
+  where
+    by : (e : ℕ) (b : Bool) → ((n : List ℕ) → g e n ≡ (if b && bytes_eq n t then hand else f e n)) → g e ≡ (if b then changed_for t (λ _. hand) (f e) else f e)
+    by e true all = λ i n. all n i
+    by e false all = λ i n. all n i
+
+pub hand-set : (d : ℕ) (t : List ℕ) (hand : Option CopyHand) (hands : List HandAt) (at : ℕ) (x : HandAt) → position (is_hand_of d t) hands ≡ Some at
+    → hand_at (slice_set hands at (record (get_or hands at x) { hand = hand })) ≡ changed_at d (changed_for t (λ _. hand)) (hand_at hands)
+hand-set d t hand hands at x is =
+    let found = position-Some (is_hand_of d t) hands at x is in
+    as-changed d t hand (hand_at hands) _ (set-first d t hand hands at x found.0 found.1 found.2)
+
+-- what it had
+pub hand-there : (d : ℕ) (t : List ℕ) (hands : List HandAt) (at : ℕ) (x : HandAt) → position (is_hand_of d t) hands ≡ Some at → hand_at hands d t ≡ (get_or hands at x).hand
+hand-there d t hands at x is = let found = position-Some (is_hand_of d t) hands at x is in first hands at found.0 found.1 found.2
+  where
+    first : (hands : List HandAt) (at : ℕ) → at < length hands → is_hand_of d t (get_or hands at x) ≡ true → ((k : ℕ) → k < at → is_hand_of d t (get_or hands k x) ≡ false) → hand_at hands d t ≡ (get_or hands at x).hand
+    first [] at lt is before = absurd (omega (arith, lt))
+    first (z ∷ zs) zero lt is before = ap (λ b. option_and_then HandAt.hand (if b then Some z else find (is_hand_of d t) zs)) is
+    first (z ∷ zs) (suc at) lt is before =
+        ap (λ b. option_and_then HandAt.hand (if b then Some z else find (is_hand_of d t) zs)) (before zero (omega arith))
+        ∙ first zs at (omega (arith, lt)) is (λ k less. before (suc k) (omega (arith, less)))
+
+-- ---- none of them is that of the table
+
+none-before : (d : ℕ) (t : List ℕ) (hands : List HandAt) (x : HandAt) → position (is_hand_of d t) hands ≡ None → (k : ℕ) → k < length hands → is_hand_of d t (get_or hands k x) ≡ false
+none-before d t hands x none k lt =
+    let past : length hands ≤ position_or_len (is_hand_of d t) hands = grind (arith, common_steps, nat_tests, none) in
+    fails_before_first (is_hand_of d t) hands k x (omega (arith, lt, past))
+
+push-new : (d : ℕ) (t : List ℕ) (y : HandAt) (hands : List HandAt) → is_hand_of d t y ≡ true → ((k : ℕ) → k < length hands → is_hand_of d t (get_or hands k y) ≡ false) → (e : ℕ) (n : List ℕ)
+    → hand_at (hands ++ y ∷ []) e n ≡ (if is_it d t e n then y.hand else hand_at hands e n)
+push-new d t y [] is none e n = by (is_it d t e n) (key-of d t y is e n)
+  where
+    by : (b : Bool) → is_hand_of e n y ≡ b → hand_at (y ∷ []) e n ≡ (if b then y.hand else None)
+    by true one = ap (λ c. option_and_then HandAt.hand (if c then Some y else None)) one
+    by false one = ap (λ c. option_and_then HandAt.hand (if c then Some y else None)) one
+push-new d t y (z ∷ zs) is none e n = by (push-new d t y zs is (λ k less. none (suc k) (omega (arith, less))) e n) (is_hand_of e n z) refl
+  where
+    by : hand_at (zs ++ y ∷ []) e n ≡ (if is_it d t e n then y.hand else hand_at zs e n) → (b : Bool) → is_hand_of e n z ≡ b
+        → option_and_then HandAt.hand (if b then Some z else find (is_hand_of e n) (zs ++ y ∷ [])) ≡ (if is_it d t e n then y.hand else option_and_then HandAt.hand (if b then Some z else find (is_hand_of e n) zs))
+    by rest true one = sym (ap (λ c. if c then y.hand else z.hand) (other-key d t z (none zero (omega arith)) e n one))
+    by rest false one = rest
+
+-- one more
+pub hand-pushed : (d : ℕ) (t copied : List ℕ) (hand : Option CopyHand) (hands : List HandAt) → position (is_hand_of d t) hands ≡ None → copied ≡ t
+    → hand_at (hands ++ record { database = d; table = copied; hand = hand } ∷ []) ≡ changed_at d (changed_for t (λ _. hand)) (hand_at hands)
+hand-pushed d t copied hand hands none same =
+    as-changed d t hand (hand_at hands) _ (push-new d t y hands own (none-before d t hands y none))
+  where
+    y : HandAt
+    y = record { database = d; table = copied; hand = hand }
+
+    own : is_hand_of d t y ≡ true
+    own = let name : bytes_eq t copied ≡ true = ap (bytes_eq t) same ∙ bytes_eq_refl t in grind (arith, nat_tests, name)
+
+-- what is nothing stays nothing
+pub hand-none : (d : ℕ) (t : List ℕ) (hands : List HandAt) → position (is_hand_of d t) hands ≡ None → hand_at hands d t ≡ None
+hand-none d t hands none = all hands (none-before d t hands (record { database = d; table = t; hand = None }) none)
+  where
+    all : (hands : List HandAt) → ((k : ℕ) → k < length hands → is_hand_of d t (get_or hands k (record { database = d; table = t; hand = None })) ≡ false) → hand_at hands d t ≡ None
+    all [] each = refl
+    all (z ∷ zs) each =
+        ap (λ b. option_and_then HandAt.hand (if b then Some z else find (is_hand_of d t) zs)) (each zero (omega arith)) ∙ all zs (λ k less. each (suc k) (omega (arith, less)))
+
+-- what is put there again changes nothing
+pub put-back : (d : ℕ) (t : List ℕ) (hand : Option CopyHand) (f : ℕ → List ℕ → Option CopyHand) → f d t ≡ hand → changed_at d (changed_for t (λ _. hand)) f ≡ f
+put-back d t hand f is = sym (as-changed d t hand f f (λ e n. by e n (is_it d t e n) refl))
+  where
+    by : (e : ℕ) (n : List ℕ) (b : Bool) → is_it d t e n ≡ b → f e n ≡ (if b then hand else f e n)
+    by e n true it =
+        let number : d ≡ e = grind (arith, nat_tests, it) in
+        let name : n ≡ t = same_name n t (grind (arith, it)) in
+        ap (λ k. f k n) (sym number) ∙ ap (f d) name ∙ is
+    by e n false it = refl
+
+-- the last change of one counts
+pub changed-twice : (d : ℕ) (t : List ℕ) (hand first : Option CopyHand) (f : ℕ → List ℕ → Option CopyHand)
+    → changed_at d (changed_for t (λ _. hand)) (changed_at d (changed_for t (λ _. first)) f) ≡ changed_at d (changed_for t (λ _. hand)) f
+changed-twice d t hand first f = λ i e. by e (d == e) i
+  where
+    names : (g : List ℕ → Option CopyHand) (n : List ℕ) (b : Bool) → (if b then hand else (if b then first else g n)) ≡ (if b then hand else g n)
+    names g n true = refl
+    names g n false = refl
+
+    by : (e : ℕ) (b : Bool) → (if b then changed_for t (λ _. hand) (if b then changed_for t (λ _. first) (f e) else f e) else (if b then changed_for t (λ _. first) (f e) else f e)) ≡ (if b then changed_for t (λ _. hand) (f e) else f e)
+    by e true = λ i n. names (f e) n (bytes_eq n t) i
+    by e false = refl
+
+-- ---- as the code keeps it
+
+abbrev with_hand : HandAt → Option CopyHand → HandAt
+with_hand x hand = record x { hand = hand }
+
+-- what the worker at a place has in hand
+pub hand-of : (d : ℕ) (t : List ℕ) (hands now : List HandAt) (at : ℕ) (x z : HandAt) → hands ≡ now → position (is_hand_of d t) now ≡ Some at → x ≡ get_or hands at x → z ≡ x → hand_at now d t ≡ z.hand
+hand-of d t hands now at x z same is at_x z_x =
+    hand-there d t now at x is ∙ ap (λ hs. HandAt.hand (get_or hs at x)) (sym same) ∙ ap HandAt.hand (sym at_x ∙ sym z_x)
+
+-- it has this in hand from now on
+pub hand-stored : (d : ℕ) (t : List ℕ) (hand h : Option CopyHand) (hands now : List HandAt) (at : ℕ) (x z : HandAt) → hands ≡ now → position (is_hand_of d t) now ≡ Some at → x ≡ get_or hands at x → z ≡ x → h ≡ hand
+    → hand_at (slice_set hands at (record z { hand = h })) ≡ changed_at d (changed_for t (λ _. hand)) (hand_at now)
+hand-stored d t hand h hands now at x z same is at_x z_x h_is =
+    (λ i. hand_at (slice_set (same i) at (with_hand ((z_x ∙ at_x ∙ ap (λ hs. get_or hs at x) same) i) (h_is i))))
+    ∙ hand-set d t hand now at x is
+
+-- a new one has
+pub hand-added : (d : ℕ) (t copied : List ℕ) (hand : Option CopyHand) (hands now more : List HandAt) → hands ≡ now → position (is_hand_of d t) now ≡ None → copied ≡ t
+    → more ≡ hands ++ record { database = d; table = copied; hand = hand } ∷ [] → hand_at more ≡ changed_at d (changed_for t (λ _. hand)) (hand_at now)
+hand-added d t copied hand hands now more same none copied_is is =
+    ap hand_at (is ∙ ap (λ hs. hs ++ record { database = d; table = copied; hand = hand } ∷ []) same) ∙ hand-pushed d t copied hand now none copied_is
+
+-- ---- in the world
+
+-- a worker has nothing in hand
+pub emptied-there : (v now : WorldView) (d : ℕ) (table : List ℕ) (hands : List HandAt) → v ≡ now → hand_at hands ≡ changed_at d (changed_for table (λ _. None)) (hand_at v.hands)
+    → Happened now (record v { hands = hands }) (in_hand d table None ∷ [])
+emptied-there v now d table hands same is = record {
+  changed = (λ i. record (seen_world v) { hands = is i }) ∙ ap (λ (w : WorldView). after_facts (seen_world w) (in_hand d table None ∷ [])) same;
+  sessions = ap (λ (w : WorldView). w.sessions.names) same;
+  databases = ap (λ (w : WorldView). w.databases.names) same;
+  failed = ap (λ (w : WorldView). w.has_failed) same;
+}

@@ -1,0 +1,108 @@
+-- A table leaves a leaf, step by step.
+use Rattle.std.proofs.Common.{◌≡◌, ℕ, ◌==◌, List, [], ◌∷◌, ◌++◌, Bool, true, false, map, append-nil, Option, Some, None, Ok, option_map, is_some, refl, sym, ◌∙◌, ap, subst, if◌then◌else◌}
+use Rattle.std.specs.List.{list_any}
+use Rattle.sky_model.specs.declared.reply.Reply.TheVariants.{Done, Null}
+use Rattle.sky_model.specs.Hands.{CopyHand}
+use Rattle.sky_model.specs.History.{Fact, in_hand, noded, hold_ended}
+use Rattle.sky_model.specs.Copies.{Hold}
+use Rattle.sky_model.specs.State.{Database, after_marks}
+use Rattle.sky_model.specs.Outcome.{answers, does_marks, marks_of}
+use Rattle.sky_model.specs.StepNode.{NodeCall, removing, set_queue}
+use Rattle.sky_model.specs.World.{World, after_facts}
+use Rattle.sky_model.specs.WorkersOfWorld.{call_facts, calls_facts, move_facts, moves, lets_go_for}
+use Rattle.londiste_copy.specs.Moved.{after_calls}
+use Rattle.sky_world.specs.Views.{WorldView}
+use Rattle.sky_world.specs.Seen.{seen_world}
+use Rattle.sky_world.specs.Nodes.{Happened, Does}
+use Rattle.sky_world.specs.Workers.{lets_go_with, parts_with, leaving}
+use Rattle.sky_world.proofs.Worlds.{after_facts-append}
+use Rattle.sky_world.proofs.CallsInTurn.{marks_of_all, after-all, facts-all, changed-there, unchanged-there}
+
+-- one call as a list
+pub happened-one : (old new : WorldView) (d : ℕ) (call : NodeCall) → Happened old new (call_facts (seen_world old) d call) → Happened old new (calls_facts (seen_world old) d (call ∷ []))
+happened-one old new d call happened = subst (Happened old new) (sym (append-nil (call_facts (seen_world old) d call))) happened
+
+-- calls, and then others
+calls-then : (w : World) (d : ℕ) (calls others : List NodeCall)
+    → after_facts w (calls_facts w d (calls ++ others)) ≡ after_facts (after_facts w (calls_facts w d calls)) (calls_facts (after_facts w (calls_facts w d calls)) d others)
+calls-then w d [] others = refl
+calls-then w d (call ∷ calls) others =
+    after_facts-append w front (calls_facts v d (calls ++ others))
+    ∙ calls-then v d calls others
+    ∙ ap (λ x. after_facts x (calls_facts x d others)) (sym (after_facts-append w front (calls_facts v d calls)))
+  where
+    front : List Fact
+    front = call_facts w d call
+
+    v : World
+    v = after_facts w front
+
+-- ---- what the steps find
+
+-- a database after calls in it
+after-happened : (old new : WorldView) (d : ℕ) (calls : List NodeCall) → Happened old new (calls_facts (seen_world old) d calls) → (seen_world new).database d ≡ after_calls ((seen_world old).database d) calls
+after-happened old new d calls happened =
+    ap (λ (w : World). w.database d) (happened.changed ∙ ap (after_facts (seen_world old)) (facts-all (seen_world old) d calls))
+    ∙ changed-there (seen_world old) d (marks_of_all ((seen_world old).database d) calls)
+    ∙ sym (after-all ((seen_world old).database d) calls)
+
+-- and another one
+pub other-happened : (old new : WorldView) (p d : ℕ) (calls : List NodeCall) → (p == d) ≡ false → Happened old new (calls_facts (seen_world old) p calls) → (seen_world new).database d ≡ (seen_world old).database d
+other-happened old new p d calls apart happened =
+    ap (λ (w : World). w.database d) (happened.changed ∙ ap (after_facts (seen_world old)) (facts-all (seen_world old) p calls))
+    ∙ unchanged-there (seen_world old) p d (marks_of_all ((seen_world old).database p) calls) apart
+
+-- a hold that is let go leaves the set's queue
+queue-kept : (d : Database) (hold : Option ℕ) → set_queue (after_calls d (lets_go_with hold)) ≡ set_queue d
+queue-kept d None = refl
+queue-kept d (Some hold) = by (list_any (λ (x : Hold). x.number == hold) d.holds)
+  where
+    by : (b : Bool) → set_queue (after_marks d (marks_of (if b then does_marks Done (noded (hold_ended hold) ∷ []) else answers Null))) ≡ set_queue d
+    by true = refl
+    by false = refl
+
+pub queue-happened : (old new : WorldView) (p : ℕ) (hold : Option ℕ) → Happened old new (calls_facts (seen_world old) p (lets_go_with hold)) → is_some (set_queue ((seen_world old).database p)) ≡ true
+    → is_some (set_queue ((seen_world new).database p)) ≡ true
+queue-happened old new p hold happened root = ap (λ d. is_some (set_queue d)) (after-happened old new p (lets_go_with hold) happened) ∙ ap is_some (queue-kept ((seen_world old).database p) hold) ∙ root
+
+-- ---- all of them
+
+lets-go : (hand : Option CopyHand) → lets_go_with (option_map CopyHand.hold hand) ≡ lets_go_for hand
+lets-go None = refl
+lets-go (Some hand) = refl
+
+pub left-leaf : (old a b c new : WorldView) (p d : ℕ) (table : List ℕ) (hold : Option ℕ) (consumer : Option (List ℕ)) (hand : Option CopyHand) → hold ≡ option_map CopyHand.hold hand
+    → Happened old a (calls_facts (seen_world old) p (lets_go_with hold)) → Happened a b (calls_facts (seen_world a) p (parts_with consumer)) → Happened b c (call_facts (seen_world b) d (removing table))
+    → Happened c new (in_hand d table None ∷ []) → Does old new Done (moves (seen_world old) p d table (Ok (leaving table consumer hand)))
+left-leaf old a b c new p d table hold consumer hand is first second third last = record {
+  facts = move_facts w p d table (leaving table consumer hand);
+  outcome = refl;
+  moments = tt;
+  happened = record {
+    changed = last.changed ∙ ap (λ x. after_facts x (in_hand d table None ∷ [])) (third.changed ∙ ap (λ x. after_facts x (call_facts x d (removing table))) both) ∙ sym whole;
+    sessions = last.sessions ∙ third.sessions ∙ second.sessions ∙ first.sessions;
+    databases = last.databases ∙ third.databases ∙ second.databases ∙ first.databases;
+    failed = last.failed ∙ third.failed ∙ second.failed ∙ first.failed;
+  };
+}
+  where
+    w : World
+    w = seen_world old
+
+    calls : List NodeCall
+    calls = lets_go_for hand ++ parts_with consumer
+
+    v : World
+    v = after_facts w (calls_facts w p calls)
+
+    both : seen_world b ≡ v
+    both =
+        second.changed ∙ ap (λ x. after_facts x (calls_facts x p (parts_with consumer))) first.changed
+        ∙ sym (calls-then w p (lets_go_with hold) (parts_with consumer))
+        ∙ ap (λ xs. after_facts w (calls_facts w p (xs ++ parts_with consumer))) (ap lets_go_with is ∙ lets-go hand)
+
+    whole : after_facts w (move_facts w p d table (leaving table consumer hand)) ≡ after_facts (after_facts v (call_facts v d (removing table))) (in_hand d table None ∷ [])
+    whole =
+        after_facts-append w (calls_facts w p calls) (calls_facts v d (removing table ∷ []) ++ in_hand d table None ∷ [])
+        ∙ after_facts-append v (calls_facts v d (removing table ∷ [])) (in_hand d table None ∷ [])
+        ∙ ap (λ facts. after_facts (after_facts v facts) (in_hand d table None ∷ [])) (append-nil (call_facts v d (removing table)))

@@ -1,0 +1,21 @@
+use Rattle.std.proofs.Common.{sym, ◌∙◌, ap}
+use Rattle.sky_world.specs.Hands.{hand_at}
+use Rattle.sky_world.proofs.HandsAt.{hand-stored, hand-added}
+use Rattle.sky_world.proofs.hands.Hands.set.Goals as goal
+use Rattle.sky_world.proofs.hands.Hands.set.Goals.{in-Some+in-Some-before-2+in-One+in-Text-1, in-Some+in-Some-before-2+in-One+in-Null-1, in-Some+in-Some-before-2+in-Listed-1, in-Some+in-None-2, in-None-2}
+
+-- however what was there before is dropped
+pub returns-in-Some-clause-ok : goal.returns-in-Some-clause-ok
+returns-in-Some-clause-ok c =
+    let stored = hand-stored c.args.database c.args.table.now c.args.hand c.replace-before.new.dest _ c.args.self.now c.in-Some.at _ _ c.self.view_is (sym c.in-Some.ensures) c.index_mut.ensures.value c.behind-self.view_is
+    c.replace-before.ensures.after in elim c.match-before.branch [
+      | in-Some+in-Some-before-2+in-One+in-Text-1 w ↦ ap hand_at w.self-is ∙ stored
+      | in-Some+in-Some-before-2+in-One+in-Null-1 w ↦ ap hand_at w.self-is ∙ stored
+      | in-Some+in-Some-before-2+in-Listed-1 w ↦ ap hand_at w.self-is ∙ stored
+      | in-Some+in-None-2 w ↦ ap hand_at w.self-is ∙ stored
+      | in-None-2 w ↦ ap hand_at w.self-is ∙ stored
+    ]
+
+pub returns-in_ok-push-in-None-clause-ok : goal.returns-in_ok-push-in-None-clause-ok
+returns-in_ok-push-in-None-clause-ok c =
+    hand-added c.args.database c.args.table.now c.in_ok-table-in-None.table c.args.hand _ c.args.self.now c.push.new.self.items c.self.view_is (sym c.in-None.ensures) c.in_ok-table-in-None.ensures c.in_ok-push-in-None.ensures.items

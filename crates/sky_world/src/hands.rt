@@ -1,0 +1,117 @@
+//! What the workers that copy tables have in hand, from one move to the next.
+
+ghost use Rattle.std.specs.Prelude.{◌≡◌, [], None, IfSome, OnOk, OnErr, option_map, position};
+ghost use Rattle.sky_model.specs.State.{changed_at, changed_for};
+ghost use Rattle.sky_world.specs.Hands.{is_hand_of, hand_at};
+
+use londiste_copy::CopyHand;
+use sky_val::{NoMemory, Text};
+use std::alloc::Global;
+use std::marker::Model;
+use std::mem;
+
+/// What the worker of a table of a database has in hand.
+#[derive(Drop)]
+struct HandAt {
+    database: usize,
+    table: Text,
+    hand: Option<CopyHand>,
+}
+
+impl Model for HandAt {
+    ghost use Rattle.sky_world.specs.Hands.{HandAt};
+
+    ghost Value = { HandAt };
+
+    ghost view = { λ h. record { database = h.database; table = h.table; hand = h.hand } };
+}
+
+impl HandAt {
+    /// Whether it is that of a table.
+    fn is_of(&self, database: usize, table: &Text) -> bool
+        ensures { result ≡ is_hand_of database table.now self.now }
+    {
+        self.database == database && *table == self.table
+    }
+}
+
+/// What the workers that copy tables have in hand, in the order of their first moves.
+#[derive(Drop)]
+pub(crate) struct Hands {
+    alloc: Global,
+    hands: Vec<HandAt>,
+}
+
+impl Model for Hands {
+    ghost use Rattle.std.specs.Prelude.{List};
+    ghost use Rattle.sky_world.specs.Hands.{HandAt};
+
+    ghost Value = { List HandAt };
+
+    ghost view = { λ h. h.hands.items };
+}
+
+impl Hands {
+    /// Nothing.
+    pub(crate) fn new(alloc: Global) -> Hands
+        ensures { result ≡ [] }
+    {
+        Hands {
+            alloc,
+            hands: Vec::new(alloc),
+        }
+    }
+
+    /// The number of the hold of a copy that the worker of a table has in hand.
+    pub(crate) fn hold(&self, database: usize, table: &Text) -> Option<u64>
+        ensures { result ≡ option_map (λ hand. hand.hold) (hand_at self.now database table.now) }
+    {
+        let at = self.place(database, table)?;
+        let hand = self.hands[at].hand.as_ref()?;
+        Some(hand.hold())
+    }
+
+    /// Takes what the worker of a table has in hand, which is nothing then.
+    pub(crate) fn take(&mut self, database: usize, table: &Text) -> Option<CopyHand>
+        ensures hand { result ≡ hand_at self.old database table.now }
+        ensures nothing { hand_at self.new ≡ changed_at database (changed_for table.now (λ _. None)) (hand_at self.old) }
+    {
+        let at = self.place(database, table)?;
+        self.hands[at].hand.take()
+    }
+
+    /// From now on the worker of a table has this in hand, or nothing. If memory runs out, nothing changes.
+    pub(crate) fn set(
+        &mut self,
+        database: usize,
+        table: &Text,
+        hand: Option<CopyHand>,
+    ) -> Result<(), NoMemory>
+        ensures ok { OnOk result (hand_at self.new ≡ changed_at database (changed_for table.now (λ _. hand)) (hand_at self.old)) }
+        ensures err { OnErr result (self.new ≡ self.old) }
+    {
+        match self.place(database, table) {
+            Some(at) => {
+                let _before = mem::replace(&mut self.hands[at].hand, hand);
+            }
+            None => {
+                let table = table.copy(self.alloc)?;
+                self.hands.push(HandAt {
+                    database,
+                    table,
+                    hand,
+                })?;
+            }
+        }
+        Ok(())
+    }
+
+    /// The place of the worker of a table.
+    fn place(&self, database: usize, table: &Text) -> Option<usize>
+        ensures { result ≡ position (is_hand_of database table.now) self.now }
+    {
+        self.hands
+            .iter()
+            .position(|hand| hand.is_of(database, table))
+    }
+}
