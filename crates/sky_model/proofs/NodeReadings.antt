@@ -1,7 +1,7 @@
 -- What marks of a node leave of it: whether it is a root or a leaf, its tables, and the queue of its set.
 use Rattle.std.proofs.Common.{◌≡◌, ◌⊎◌, inl, inr, ℕ, Bool, true, false, not, List, [], ◌∷◌, ◌++◌, Option, Some, None, is_none, option_map, map, filter, bytes_eq, refl, sym, ◌∙◌, ap, if◌then◌else◌}
 use Rattle.londiste_state.specs.Nodes.{LeafTable, Root, Leaf, Node, of_root, of_leaf, all_but, changed_in, new_table}
-use Rattle.sky_model.specs.History.{NodeMark, root_made, listed, unlisted, joined, parted, leaf_made, leaf_added, leaf_removed, state_set, held, copied, applied, restarted, of_synced, copy_of, History, hold_begun, hold_ended}
+use Rattle.sky_model.specs.History.{NodeMark, root_made, listed, unlisted, joined, parted, leaf_made, leaf_added, leaf_removed, state_set, copied, applied, restarted, of_synced, copy_of, History, hold_begun, hold_ended}
 use Rattle.sky_model.specs.Nodes.{at_root, at_leaf, after_node, node, is_root, is_leaf, set_tables, leaf_tables}
 use Rattle.sky_model.specs.Queues.{NamedQueue, queue_number}
 use Rattle.sky_model.specs.State.{Database}
@@ -60,7 +60,6 @@ same-node (parted consumer) e n = root-changed _ (λ r. refl) n
 same-node (leaf_added table) e n = leaf-changed _ n
 same-node (leaf_removed table) e n = leaf-changed _ n
 same-node (state_set table state) e n = leaf-changed _ n
-same-node (held table tick) e n = itself n
 same-node (copied table snapshot tick) e n = leaf-changed _ n
 same-node (applied pick tick) e n = leaf-changed _ n
 same-node (restarted table) e n = itself n
@@ -78,7 +77,6 @@ leaf-before h (parted consumer) fits leaf = inl (sym (same-node (parted consumer
 leaf-before h (leaf_added table) fits leaf = inl (sym (same-node (leaf_added table) refl (node h)).leaf ∙ leaf)
 leaf-before h (leaf_removed table) fits leaf = inl (sym (same-node (leaf_removed table) refl (node h)).leaf ∙ leaf)
 leaf-before h (state_set table state) fits leaf = inl (sym (same-node (state_set table state) refl (node h)).leaf ∙ leaf)
-leaf-before h (held table tick) fits leaf = inl leaf
 leaf-before h (copied table snapshot tick) fits leaf = inl (sym (same-node (copied table snapshot tick) refl (node h)).leaf ∙ leaf)
 leaf-before h (applied pick tick) fits leaf = inl (sym (same-node (applied pick tick) refl (node h)).leaf ∙ leaf)
 leaf-before h (restarted table) fits leaf = inl leaf
@@ -166,7 +164,6 @@ abbrev pub keeps_tables : NodeMark → Bool
 keeps_tables (joined consumer) = true
 keeps_tables (parted consumer) = true
 keeps_tables (state_set table state) = true
-keeps_tables (held table tick) = true
 keeps_tables (copied table snapshot tick) = true
 keeps_tables (applied pick tick) = true
 keeps_tables (restarted table) = true
@@ -178,7 +175,6 @@ pub same-tables : (mark : NodeMark) → keeps_tables mark ≡ true → (n : Opti
 same-tables (joined consumer) e n = consumers-changed _ (λ r. refl) n
 same-tables (parted consumer) e n = consumers-changed _ (λ r. refl) n
 same-tables (state_set table state) e n = states-changed _ (λ l. map-changed table _ (λ t. refl) l.tables) n
-same-tables (held table tick) e n = same-itself n
 same-tables (copied table snapshot tick) e n = states-changed _ (λ l. map-changed table _ (λ t. refl) l.tables) n
 same-tables (applied of_synced tick) e n = states-changed _ (λ l. refl) n
 same-tables (applied (copy_of table) tick) e n = states-changed _ (λ l. map-changed table _ (λ t. refl) l.tables) n

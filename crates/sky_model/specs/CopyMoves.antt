@@ -138,7 +138,11 @@ moves_in state p r table hand = only_prints (AwaitsTable table) hand
 abbrev pub copy_move : (p r : Database) → List ℕ → Option CopyHand → Checked CopyMove
 copy_move p r table hand = moves_in (leaf_state table r.node) p r table hand
 
--- what is in hand is lost: the copy is given up, and its snapshot is held no longer
+-- the snapshot that is held for a copy is let go
+abbrev pub lets_go_for : Option CopyHand → List NodeCall
+lets_go_for None = []
+lets_go_for (Some hand) = letting_go hand.hold ∷ []
+
+-- what is in hand is lost: the copy is given up, if one runs, and its snapshot is held no longer
 abbrev pub gives_up_in : (table : List ℕ) → Option CopyHand → CopyMove
-gives_up_in table None = record { provider = []; replica = []; replies = []; hand = None }
-gives_up_in table (Some hand) = record { provider = letting_go hand.hold ∷ []; replica = giving_up_copy table ∷ []; replies = []; hand = None }
+gives_up_in table hand = record { provider = lets_go_for hand; replica = giving_up_copy table ∷ []; replies = []; hand = None }

@@ -102,8 +102,6 @@ pub data NodeMark : Type 0 where
   leaf_removed : (table : List ℕ) → NodeMark
   -- a table of the leaf is in this state from now on
   state_set : (table : List ℕ) (state : TableState) → NodeMark
-  -- a snapshot of the provider was taken for the copy of a table, whose consumer begins at a tick
-  held : (table : List ℕ) (tick : ℕ) → NodeMark
   -- the copy ended: the table has the rows under the snapshot
   copied : (table : List ℕ) (snapshot : SnapshotView) (tick : ℕ) → NodeMark
   -- events of a batch were applied, up to a tick

@@ -1,7 +1,7 @@
 -- The node of a database, as the marks of the database's history leave it.
 use Rattle.std.specs.Prelude.{List, ℕ, [], ◌∷◌, ◌&&◌, Bool, true, false, Option, Some, None, option_map, bytes_eq}
 use Rattle.londiste_state.specs.Nodes.{Root, Leaf, Node, of_root, of_leaf, is_among, tables_of, changed_in, with_root_table, without_root_table, with_consumer, without_consumer, with_leaf_table, without_leaf_table, with_state, with_tick, with_copied}
-use Rattle.sky_model.specs.History.{noded, Pick, of_synced, copy_of, NodeMark, root_made, listed, unlisted, joined, parted, leaf_made, leaf_added, leaf_removed, state_set, held, copied, applied, restarted, hold_begun, hold_ended, History}
+use Rattle.sky_model.specs.History.{noded, Pick, of_synced, copy_of, NodeMark, root_made, listed, unlisted, joined, parted, leaf_made, leaf_added, leaf_removed, state_set, copied, applied, restarted, hold_begun, hold_ended, History}
 
 -- a node changed if it is a root; a node changed if it is a leaf
 abbrev pub at_root : (Root → Root) → Node → Node
@@ -28,7 +28,6 @@ after_node (leaf_made name provider tick) n = Some (of_leaf (record { name = nam
 after_node (leaf_added table) n = option_map (at_leaf (with_leaf_table table)) n
 after_node (leaf_removed table) n = option_map (at_leaf (without_leaf_table table)) n
 after_node (state_set table state) n = option_map (at_leaf (with_state table state)) n
-after_node (held table tick) n = n
 after_node (copied table snapshot tick) n = option_map (at_leaf (with_copied table snapshot tick)) n
 after_node (applied pick tick) n = option_map (at_leaf (with_applied pick tick)) n
 after_node (restarted table) n = n

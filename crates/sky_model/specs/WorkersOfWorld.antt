@@ -15,7 +15,7 @@ use Rattle.sky_model.specs.History.{Fact, within, in_hand}
 use Rattle.sky_model.specs.Outcome.{Checked, ◌>>=◌, ◌>>◌, refused_if, refused_by, found_or, marks_of}
 use Rattle.sky_model.specs.StepRows.{table_called}
 use Rattle.sky_model.specs.StepNode.{NodeCall, parting, removing, moving, letting_go, node_does, set_queue, unlists}
-use Rattle.sky_model.specs.CopyMoves.{CopyMove, copy_consumer, copy_move, gives_up_in}
+use Rattle.sky_model.specs.CopyMoves.{CopyMove, copy_consumer, copy_move, lets_go_for, gives_up_in}
 use Rattle.sky_model.specs.NodesOfWorld.{WorldOutcome, node_called, provides, are_columns, columns_called, first_user, done_in, create_leaf, add_table, table_state}
 use Rattle.sky_model.specs.World.{World, after_facts}
 
@@ -131,11 +131,6 @@ londiste_step w name = do
   leaf_steps w n.database name n.node
 
 -- ---- a table leaves a node
-
--- the snapshot that is held for a copy is let go
-abbrev pub lets_go_for : Option CopyHand → List NodeCall
-lets_go_for None = []
-lets_go_for (Some hand) = letting_go hand.hold ∷ []
 
 -- the consumer of the copies of a node's tables leaves, if the copy of the table in this state has it
 abbrev pub parts_for : Option Node → Option TableState → List NodeCall

@@ -26,9 +26,9 @@ use Rattle.sky_model.specs.Daemon.{daemon_does}
 use Rattle.sky_model.specs.Clock.{deed_in, waits_at}
 use Rattle.sky_model.specs.StepQueue.{newest_id}
 use Rattle.sky_model.specs.StepNode.{NodeCall, joining, parting, removing, moving, letting_go, giving_up_copy, if_there, set_queue, joins, lists, adds, unlists, may_serve, call_form, node_does}
-use Rattle.sky_model.specs.CopyMoves.{CopyMove, copy_move, copy_consumer}
+use Rattle.sky_model.specs.CopyMoves.{CopyMove, copy_move, copy_consumer, lets_go_for}
 use Rattle.sky_model.specs.NodesOfWorld.{WorldOutcome, node_called, done_in, leaf_of, create_leaf, provides, are_columns, columns_called, adds_to, first_user, shows_state, Located}
-use Rattle.sky_model.specs.WorkersOfWorld.{move_facts, moves, source, source_alike, leaf_table, restarts, restarting, is_on_way, next_to_copy, starts_next, leaf_steps, lets_go_for, parts_for, leaves_leaf, removes_from, node_form}
+use Rattle.sky_model.specs.WorkersOfWorld.{move_facts, moves, source, source_alike, leaf_table, restarts, restarting, is_on_way, next_to_copy, starts_next, leaf_steps, parts_for, leaves_leaf, removes_from, node_form}
 use Rattle.sky_model.specs.World.{World, world_of, session_names, database_names, home, history_in, hands, on_top, nodes}
 use Rattle.sky_model.specs.Calls.{opening, opens, outside_does, left_if, is_leaving, may_make, of_daemon_if, beside, database_turn, gets_node, node_if, world_does, does_at, session_does, turn, Call, called as call_does, past_of}
 use Rattle.sky_keys.specs.Waits.{is_waiting}

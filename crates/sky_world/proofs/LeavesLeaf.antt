@@ -9,7 +9,8 @@ use Rattle.sky_model.specs.State.{Database, after_marks}
 use Rattle.sky_model.specs.Outcome.{answers, does_marks, marks_of}
 use Rattle.sky_model.specs.StepNode.{NodeCall, removing, set_queue}
 use Rattle.sky_model.specs.World.{World, after_facts}
-use Rattle.sky_model.specs.WorkersOfWorld.{call_facts, calls_facts, move_facts, moves, lets_go_for}
+use Rattle.sky_model.specs.CopyMoves.{lets_go_for}
+use Rattle.sky_model.specs.WorkersOfWorld.{call_facts, calls_facts, move_facts, moves}
 use Rattle.londiste_copy.specs.Moved.{after_calls}
 use Rattle.sky_world.specs.Views.{WorldView}
 use Rattle.sky_world.specs.Seen.{seen_world}

@@ -9,9 +9,9 @@ use Rattle.sky_model.specs.declared.reply.Limit.TheVariants.{Consumers}
 use Rattle.sky_model.specs.Hands.{CopyHand}
 use Rattle.sky_model.specs.Outcome.{Checked, ◌>>=◌, found_or}
 use Rattle.sky_model.specs.StepNode.{NodeCall, parting, removing, letting_go}
-use Rattle.sky_model.specs.CopyMoves.{CopyMove}
+use Rattle.sky_model.specs.CopyMoves.{CopyMove, lets_go_for}
 use Rattle.sky_model.specs.NodesOfWorld.{WorldOutcome, node_called}
-use Rattle.sky_model.specs.WorkersOfWorld.{leaf_table, lets_go_for}
+use Rattle.sky_model.specs.WorkersOfWorld.{leaf_table}
 use Rattle.sky_model.specs.World.{World}
 use Rattle.londiste_copy.specs.declared.fault.WorkerFault.{WorkerFault}
 use Rattle.londiste_copy.specs.declared.fault.WorkerFault.TheVariants as fault
