@@ -598,7 +598,7 @@ fn made_event(
 ) -> Result<Event, NoMemory>
     ensures { IfOk result (λ event. event ≡ made_event id now txid ev_type.now ev_data.now extra.now) }
 {
-    let mut event = Event {
+    let event = Event {
         ev_id: id,
         ev_time: now,
         ev_txid: txid,
@@ -611,13 +611,24 @@ fn made_event(
         ev_extra3: None,
         ev_extra4: None,
     };
-    if let Some(extra) = extra {
-        let extra = extra.as_extra();
-        event.ev_extra1 = copy_option(alloc, &extra.ev_extra1)?;
-        event.ev_extra2 = copy_option(alloc, &extra.ev_extra2)?;
-        event.ev_extra3 = copy_option(alloc, &extra.ev_extra3)?;
-        event.ev_extra4 = copy_option(alloc, &extra.ev_extra4)?;
+    match extra {
+        Some(extra) => with_extra(alloc, event, extra),
+        None => Ok(event),
     }
+}
+
+/// The event with these further texts.
+// Never inlined, so that an event without them is made where it is needed.
+#[inline(never)]
+fn with_extra(alloc: Global, event: Event, extra: &BoxedExtra) -> Result<Event, NoMemory>
+    ensures { IfOk result (λ made. made ≡ record event { ev_extra1 = extra.now.ev_extra1; ev_extra2 = extra.now.ev_extra2; ev_extra3 = extra.now.ev_extra3; ev_extra4 = extra.now.ev_extra4 }) }
+{
+    let mut event = event;
+    let extra = extra.as_extra();
+    event.ev_extra1 = copy_option(alloc, &extra.ev_extra1)?;
+    event.ev_extra2 = copy_option(alloc, &extra.ev_extra2)?;
+    event.ev_extra3 = copy_option(alloc, &extra.ev_extra3)?;
+    event.ev_extra4 = copy_option(alloc, &extra.ev_extra4)?;
     Ok(event)
 }
 
