@@ -2,7 +2,7 @@
 
 ghost use Rattle.std.specs.Prelude.{◌≡◌, [], ◌∷◌, ◌++◌, true, None, IfOk, IfErr, IfSome, OnOk, is_some, option_copied};
 ghost use Rattle.sky_model.specs.DatabaseSteps.{IsMade};
-ghost use Rattle.sky_model.specs.CopyMoves.{columns_for, copy_consumer, copy_move, copy_running, continues, goes_on, gives_up_in, held_snapshot, leaf_state, next_piece, starts_copy, under_way};
+ghost use Rattle.sky_model.specs.CopyMoves.{columns_for, copy_consumer, copy_move, copy_running, continues, goes_on, gives_up_in, held_snapshot, lets_go_for, leaf_state, next_piece, starts_copy, under_way};
 ghost use Rattle.sky_model.specs.StepNode.{set_queue, table_number, may_copy, giving_up_copy};
 ghost use Rattle.pgq_db.specs.Seen.{seen_database};
 ghost use Rattle.londiste_copy.specs.Moved.{Begun, HeldHand, ServesAll, MovesAs, MovesBy, MoveRefused, SameTable, last_row_key};
@@ -61,13 +61,6 @@ impl Model for CopyWorker {
 }
 
 impl CopyWorker {
-    /// One that has nothing in hand.
-    pub fn new(alloc: Global) -> CopyWorker
-        ensures { result ≡ None }
-    {
-        CopyWorker { alloc, hand: None }
-    }
-
     /// One that has this in hand.
     pub fn with_hand(alloc: Global, hand: Option<CopyHand>) -> CopyWorker
         ensures { result ≡ hand }
@@ -105,11 +98,11 @@ impl CopyWorker {
                 Ok(replies)
             }
             TableState::Synced => {
-                print(Reply::Idle, &mut replies)?;
+                replies.push(Reply::Idle)?;
                 Ok(replies)
             }
             _ => {
-                print(Reply::AwaitsTable(table.copy(self.alloc)?), &mut replies)?;
+                replies.push(Reply::AwaitsTable(table.copy(self.alloc)?))?;
                 Ok(replies)
             }
         }
@@ -185,7 +178,7 @@ impl CopyWorker {
     {
         match self.held_hand(provider) {
             Some(hand) => self.copy_piece(provider, replica, table, hand, replies)?,
-            None => print(Reply::AwaitsTable(table.copy(self.alloc)?), replies)?,
+            None => replies.push(Reply::AwaitsTable(table.copy(self.alloc)?))?,
         }
         Ok(())
     }
@@ -229,11 +222,9 @@ impl CopyWorker {
         provider.part(&consumer);
         let tick = match provider.join(&consumer) {
             Ok(tick) => tick,
-            Err(fault) => match fault {
-                JoinFault::NoMemory => return Err(WorkerFault::NoMemory),
-                // It has just left, so there is room for it, and an id was left.
-                _ => unreachable!(),
-            },
+            Err(JoinFault::NoMemory) => return Err(WorkerFault::NoMemory),
+            // It has just left, so there is room for it, and an id was left.
+            Err(_) => unreachable!(),
         };
         let hold = provider.hold()?;
         Ok(CopyHand {
@@ -286,10 +277,17 @@ impl CopyWorker {
         requires replica_made { IsMade (seen_database replica.old) }
         ensures { MovesAs (gives_up_in table.now self.old) (seen_database provider.old) (seen_database provider.new) (seen_database replica.old) (seen_database replica.new) [] self.new }
     {
-        if let Some(hand) = self.hand.take() {
-            provider.let_go(hand.hold);
-            give_up(replica, table);
-        }
+        let_go(provider, self.hand.take());
+        give_up(replica, table);
+    }
+}
+
+/// The snapshot that is held for what was in hand is let go.
+fn let_go(provider: &mut Db, hand: Option<CopyHand>)
+    ensures { ServesAll (seen_database provider.old) (seen_database provider.new) (lets_go_for hand) }
+{
+    if let Some(hand) = hand {
+        provider.let_go(hand.hold);
     }
 }
 
@@ -301,14 +299,6 @@ fn give_up(replica: &mut Db, table: &Text)
     if state_of(replica.node(), table) == TableState::InCopy {
         replica.copy_drop(table);
     }
-}
-
-/// Prints a reply behind the others.
-fn print(reply: Reply, replies: &mut Vec<Reply>) -> Result<(), NoMemory>
-    ensures { OnOk result (replies.new.items ≡ replies.old.items ++ reply ∷ []) }
-{
-    replies.push(reply)?;
-    Ok(())
 }
 
 /// The key of the last of some rows of a table that the database has, or if there are none, one from before.
