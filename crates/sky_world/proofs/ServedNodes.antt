@@ -46,7 +46,7 @@ use Rattle.pgq_db.specs.Gives.{is_worlds}
 use Rattle.sky_world.specs.Views.{WorldView}
 use Rattle.sky_world.specs.Seen.{seen_world}
 use Rattle.sky_world.specs.Adds.{AddsDeed}
-use Rattle.sky_world.specs.Nodes.{outside_allowed, may_outside, refused_turn, root_name, Stays, Happened, Does, DoesAll, Ran, set_tick, Joins, Joined, leaf_from, provided_as}
+use Rattle.sky_world.specs.Nodes.{outside_allowed, may_outside, refused_turn, root_name, Stays, Happened, Does, DoesAll, Stopped, Ran, as_list, StopsLike, set_tick, Joins, Joined, leaf_from, provided_as}
 use Rattle.sky_world.proofs.Worlds.{after_facts-within, after_facts-append, store-there, store-changed, adds-moved}
 use Rattle.sky_world.proofs.Refusals.{adds-after, answers-alone, turn-refused, may-outside}
 
@@ -314,13 +314,19 @@ none-left who before [] none = sym (append-nil before)
 none-left who before (reply ∷ left) none = absurd (omega (arith, none))
 
 -- one answer as a list
-pub does-single : (old s : WorldView) (reply : Reply) (replies : List Reply) (checked : Checked WorldOutcome) → replies ≡ reply ∷ [] → Does old s reply checked → DoesAll old s replies checked
-does-single old s reply replies checked is does = subst (λ rs. DoesAll old s rs checked) (sym is) (record {
+pub does-alone : (old s : WorldView) (ran : Result Reply Stop) (replies : List Reply) (checked : Checked WorldOutcome) → Ran old s ran checked → as_list ran ≡ Ok replies → DoesAll old s replies checked
+does-alone old s (Err stop) replies checked does is = absurd (cc is)
+does-alone old s (Ok reply) replies checked does is = subst (λ rs. DoesAll old s rs checked) (let one : reply ∷ [] ≡ replies = cc is in one) (record {
   facts = does.facts;
   outcome = does.outcome;
   moments = All-from_recursion ReplyHasMoments (reply ∷ []) (does.moments, tt);
   happened = does.happened;
 })
+
+-- or why there is none
+pub stops-alone : (old s : WorldView) (ran : Result Reply Stop) (stop : Stop) (checked : Checked WorldOutcome) → Ran old s ran checked → StopsLike ran stop → Stopped old s stop checked
+stops-alone old s ran NoMemory checked does is = tt
+stops-alone old s ran (halt.Refused refusal) checked does is = subst (λ r. Ran old s r checked) is does
 
 -- or its refusal
 pub form-refused : (old s : WorldView) (who : ℕ) (refusal : Refusal) (checked : Checked WorldOutcome) (before after : List (ℕ × Reply)) → who < length old.sessions.names → checked ≡ Err refusal → Stays old s

@@ -83,6 +83,16 @@ pub record DoesAll (old new : WorldView) (replies : List Reply) (checked : Check
   pub moments : All ReplyHasMoments replies
   pub happened : Happened old new facts
 
+-- the answer of a statement that has one, as a list
+abbrev pub as_list : Result Reply Stop → Result (List Reply) Stop
+as_list (Ok reply) = Ok (reply ∷ [])
+as_list (Err stop) = Err stop
+
+-- it stopped so, or memory ran out
+abbrev pub StopsLike : Result Reply Stop → Stop → Type 0
+StopsLike ran (Refused refusal) = ran ≡ Err (Refused refusal)
+StopsLike ran NoMemory = Unit {0}
+
 -- the newest tick of the queue of a database's set
 abbrev pub set_tick : Database → Option ℕ
 set_tick d = option_map (λ queue. newest_id (d.queue queue)) (set_queue d)

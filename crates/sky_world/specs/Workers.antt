@@ -1,8 +1,6 @@
 -- What the world's methods on the workers of leaves give, by what the world showed.
 use Rattle.std.specs.Prelude.{◌≡◌, ℕ, List, [], ◌∷◌, ◌++◌, Bool, true, false, Option, Some, None, Ok, Err}
 use Rattle.londiste_state.specs.Nodes.{Leaf}
-use Rattle.sky_model.specs.declared.stmt.NodeStmt.{NodeStmt}
-use Rattle.sky_model.specs.declared.stmt.NodeStmt.TheVariants.{CopyStep}
 use Rattle.sky_model.specs.declared.reply.Reply.TheVariants.{Done}
 use Rattle.sky_model.specs.declared.reply.Refusal.TheVariants.{IdsSpent, NoNode, TooMany, TxidsSpent}
 use Rattle.sky_model.specs.declared.reply.Limit.TheVariants.{Consumers}
@@ -38,11 +36,6 @@ parts_with (Some consumer) = parting consumer ∷ []
 -- a table leaves a leaf, with what its worker has in hand, and this consumer of its copy
 abbrev pub leaving : List ℕ → Option (List ℕ) → Option CopyHand → CopyMove
 leaving table consumer hand = record { provider = lets_go_for hand ++ parts_with consumer; replica = removing table ∷ []; replies = Done ∷ []; hand = None }
-
--- whether a statement is `copy_step`
-abbrev pub is_copy_step : NodeStmt → Bool
-is_copy_step (CopyStep name table) = true
-is_copy_step _ = false
 
 -- whether memory ran out in a worker's move
 abbrev pub is_out_of_memory : WorkerFault → Bool

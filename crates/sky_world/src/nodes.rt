@@ -17,8 +17,8 @@ ghost use Rattle.sky_model.specs.WorkersOfWorld.{parts_for, remove_table, node_f
 ghost use Rattle.sky_model.specs.Calls.{database_turn, world_does, node_stmt_does, roots_in, session_does};
 ghost use Rattle.sky_world.specs.Seen.{seen_world};
 ghost use Rattle.sky_world.specs.Adds.{AddsDeed};
-ghost use Rattle.sky_world.specs.Nodes.{may_outside, root_name, Stays, Happened, Does, DoesAll, Stopped, Ran, Joined, leaf_from, provided_as};
-ghost use Rattle.sky_world.specs.Workers.{parts_with, is_copy_step};
+ghost use Rattle.sky_world.specs.Nodes.{may_outside, root_name, Stays, Happened, Does, DoesAll, Stopped, Ran, as_list, StopsLike, Joined, leaf_from, provided_as};
+ghost use Rattle.sky_world.specs.Workers.{parts_with};
 
 use crate::workers::is_on_way;
 use crate::world::World;
@@ -145,29 +145,20 @@ impl World {
         ensures ok { IfOk result (λ given. DoesAll self.old self.new given.items (node_form (seen_world self.old) database form.now)) }
         ensures err { IfErr result (λ stop. Stopped self.old self.new stop (node_form (seen_world self.old) database form.now)) }
     {
-        if let NodeStmt::CopyStep { name, table } = form {
-            return self.copy_step(name, table);
-        }
-        let reply = self.run_single(database, form)?;
-        Ok(single(self.alloc, reply)?)
-    }
-
-    /// The same of one that has one answer.
-    fn run_single(&mut self, database: usize, form: &NodeStmt) -> Result<Reply, Stop>
-        requires single { is_copy_step form.now ≡ false }
-        requires database { database < length self.old.databases.names }
-        requires sound { self.old.has_failed ≡ false }
-        ensures { Ran self.old self.new result (node_form (seen_world self.old) database form.now) }
-    {
+        let alloc = self.alloc;
         match form {
-            NodeStmt::CreateLeaf { name, provider } => self.create_leaf(database, name, provider),
-            NodeStmt::AddTable { name, table } => self.add_table(name, table),
-            NodeStmt::RemoveTable { name, table } => self.remove_table(name, table),
-            NodeStmt::TableState { name, table } => self.table_state(name, table),
-            NodeStmt::CopyStep { .. } => unreachable!(),
-            NodeStmt::Restart { name } => self.restart(name),
-            NodeStmt::RestartTable { name, table } => self.restart_table(name, table),
-            NodeStmt::LondisteStep { name } => self.londiste_step(name),
+            NodeStmt::CreateLeaf { name, provider } => {
+                as_list(alloc, self.create_leaf(database, name, provider))
+            }
+            NodeStmt::AddTable { name, table } => as_list(alloc, self.add_table(name, table)),
+            NodeStmt::RemoveTable { name, table } => as_list(alloc, self.remove_table(name, table)),
+            NodeStmt::TableState { name, table } => as_list(alloc, self.table_state(name, table)),
+            NodeStmt::CopyStep { name, table } => self.copy_step(name, table),
+            NodeStmt::Restart { name } => as_list(alloc, self.restart(name)),
+            NodeStmt::RestartTable { name, table } => {
+                as_list(alloc, self.restart_table(name, table))
+            }
+            NodeStmt::LondisteStep { name } => as_list(alloc, self.londiste_step(name)),
         }
     }
 
@@ -513,10 +504,12 @@ fn uses(node: &Node, provider: &Text, table: &Text) -> bool
     }
 }
 
-/// One answer as a list.
-fn single(alloc: Global, reply: Reply) -> Result<Vec<Reply>, NoMemory>
-    ensures { IfOk result (λ given. given.items ≡ reply ∷ []) }
+/// The answer of a statement that has one, as a list.
+fn as_list(alloc: Global, ran: Result<Reply, Stop>) -> Result<Vec<Reply>, Stop>
+    ensures ok { IfOk result (λ given. as_list ran ≡ Ok given.items) }
+    ensures err { IfErr result (λ stop. StopsLike ran stop) }
 {
+    let reply = ran?;
     let mut given = Vec::new(alloc);
     given.push(reply)?;
     Ok(given)
