@@ -16,15 +16,8 @@ use Rattle.sky_model.specs.Hands.{CopyHand}
 use Rattle.sky_model.specs.CopyMoves.{CopyMove, behind_calls, copy_consumer, copy_running, first_hand, held_snapshot, next_piece, starts_copy, under_way}
 use Rattle.sky_model.specs.ShownRows.{snapshot_now}
 use Rattle.sky_model.specs.Stops.{Refuses}
-use Rattle.pgq_db.specs.declared.faults.CopyFault.{CopyFault}
-use Rattle.pgq_db.specs.declared.faults.CopyFault.TheVariants as copy
-use Rattle.londiste_copy.specs.declared.fault.WorkerFault.{WorkerFault}
-use Rattle.londiste_copy.specs.declared.fault.WorkerFault.TheVariants as fault
-
--- why no copy begins
-abbrev pub worker_fault_of : CopyFault → WorkerFault
-worker_fault_of copy.TxidsSpent = fault.TxidsSpent
-worker_fault_of copy.NoMemory = fault.NoMemory
+use Rattle.pgq_db.specs.declared.faults.WorkerFault.{WorkerFault}
+use Rattle.pgq_db.specs.declared.faults.WorkerFault.TheVariants as fault
 
 -- a database after a call, and after calls, one after another
 abbrev pub after_call : Database → NodeCall → Database

@@ -5,8 +5,6 @@
 //! `copy_move` of the definitions says what each move is; here it is made by calls of the two databases.
 #![tactic(auto)]
 
-mod fault;
 mod worker;
 
-pub use fault::WorkerFault;
 pub use worker::{CopyHand, CopyWorker, copy_consumer};

@@ -7,9 +7,8 @@ ghost use Rattle.sky_model.specs.StepNode.{set_queue, table_number, may_copy, gi
 ghost use Rattle.pgq_db.specs.Seen.{seen_database};
 ghost use Rattle.londiste_copy.specs.Moved.{Begun, HeldHand, ServesAll, MovesAs, MovesBy, MoveRefused, SameTable, last_row_key};
 
-use crate::fault::WorkerFault;
 use londiste_state::{Node, TableState};
-use pgq_db::{Db, JoinFault};
+use pgq_db::{Db, JoinFault, WorkerFault};
 use sky_model::Reply;
 use sky_val::{Key, NoMemory, Row, Text};
 use std::alloc::Global;
@@ -61,6 +60,13 @@ impl Model for CopyWorker {
 }
 
 impl CopyWorker {
+    /// One that has nothing in hand.
+    pub fn new(alloc: Global) -> CopyWorker
+        ensures { result ≡ None }
+    {
+        CopyWorker::with_hand(alloc, None)
+    }
+
     /// One that has this in hand.
     pub fn with_hand(alloc: Global, hand: Option<CopyHand>) -> CopyWorker
         ensures { result ≡ hand }

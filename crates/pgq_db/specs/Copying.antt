@@ -12,11 +12,18 @@ use Rattle.sky_trans.specs.declared.trans.TransFault.{TransFault}
 use Rattle.sky_trans.specs.declared.trans.TransFault.TheVariants as trans
 use Rattle.pgq_db.specs.declared.faults.CopyFault.{CopyFault}
 use Rattle.pgq_db.specs.declared.faults.CopyFault.TheVariants as copy
+use Rattle.pgq_db.specs.declared.faults.WorkerFault.{WorkerFault}
+use Rattle.pgq_db.specs.declared.faults.WorkerFault.TheVariants as worker
 
 -- a copy needs the id of a transaction
 abbrev pub copy_fault_of : TransFault → CopyFault
 copy_fault_of trans.TxidsSpent = copy.TxidsSpent
 copy_fault_of trans.NoMemory = copy.NoMemory
+
+-- why a worker begins no copy
+abbrev pub worker_fault_of : CopyFault → WorkerFault
+worker_fault_of copy.TxidsSpent = worker.TxidsSpent
+worker_fault_of copy.NoMemory = worker.NoMemory
 
 abbrev pub none_after : List Version → Bool
 none_after [] = true

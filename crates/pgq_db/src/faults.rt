@@ -101,3 +101,41 @@ impl From<TransFault> for CopyFault {
         }
     }
 }
+
+/// Why a worker of a leaf makes no move. Nothing has changed then, unless memory ran out.
+#[derive(Clone, Copy, Debug, PartialEq, Eq, Error)]
+pub enum WorkerFault {
+    #[error("the provider's queue has as many consumers as it may")]
+    TooManyConsumers,
+    #[error("the last subscription id was given")]
+    IdsSpent,
+    #[error("the last transaction id was given")]
+    TxidsSpent,
+    #[error("out of memory")]
+    NoMemory,
+}
+
+impl From<AllocError> for WorkerFault {
+    ghost use Rattle.std.specs.Prelude.{◌≡◌};
+    ghost use Rattle.pgq_db.specs.declared.faults.WorkerFault.TheVariants.{NoMemory};
+
+    ghost from_gives = { λ _ fault. fault ≡ NoMemory };
+
+    fn from(_: AllocError) -> WorkerFault {
+        WorkerFault::NoMemory
+    }
+}
+
+impl From<CopyFault> for WorkerFault {
+    ghost use Rattle.std.specs.Prelude.{◌≡◌};
+    ghost use Rattle.pgq_db.specs.Copying.{worker_fault_of};
+
+    ghost from_gives = { λ from fault. fault ≡ worker_fault_of from };
+
+    fn from(fault: CopyFault) -> WorkerFault {
+        match fault {
+            CopyFault::TxidsSpent => WorkerFault::TxidsSpent,
+            CopyFault::NoMemory => WorkerFault::NoMemory,
+        }
+    }
+}

@@ -26,5 +26,5 @@ mod rotation;
 mod statements;
 
 pub use db::Db;
-pub use faults::{CopyFault, FetchFault, JoinFault, RootFault};
+pub use faults::{CopyFault, FetchFault, JoinFault, RootFault, WorkerFault};
 pub use provider::NodeBatch;

@@ -24,8 +24,8 @@ use Rattle.sky_model.specs.NodesOfWorld.{WorldOutcome}
 use Rattle.pgq_db.specs.Views.{DbView}
 use Rattle.pgq_db.specs.Seen.{seen_database, no_database}
 use Rattle.pgq_db.specs.Waiters.{WaitersWithin}
-use Rattle.londiste_copy.specs.declared.fault.WorkerFault.{WorkerFault}
-use Rattle.londiste_copy.specs.declared.fault.WorkerFault.TheVariants as fault
+use Rattle.pgq_db.specs.declared.faults.WorkerFault.{WorkerFault}
+use Rattle.pgq_db.specs.declared.faults.WorkerFault.TheVariants as fault
 use Rattle.londiste_copy.specs.Moved.{after_call, after_calls, MovesAs, MovesBy, MoveRefused}
 use Rattle.sky_model.specs.Daemon.{quietly}
 use Rattle.sky_model.specs.DatabaseCalls.{served}

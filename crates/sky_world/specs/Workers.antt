@@ -11,8 +11,8 @@ use Rattle.sky_model.specs.CopyMoves.{CopyMove, lets_go_for}
 use Rattle.sky_model.specs.NodesOfWorld.{WorldOutcome, node_called}
 use Rattle.sky_model.specs.WorkersOfWorld.{leaf_table}
 use Rattle.sky_model.specs.World.{World}
-use Rattle.londiste_copy.specs.declared.fault.WorkerFault.{WorkerFault}
-use Rattle.londiste_copy.specs.declared.fault.WorkerFault.TheVariants as fault
+use Rattle.pgq_db.specs.declared.faults.WorkerFault.{WorkerFault}
+use Rattle.pgq_db.specs.declared.faults.WorkerFault.TheVariants as fault
 use Rattle.sky_world.specs.Views.{WorldView}
 use Rattle.sky_world.specs.Nodes.{Stays}
 

@@ -19,8 +19,9 @@ ghost use Rattle.sky_world.specs.Workers.{StepRefused, is_out_of_memory, leaf_wi
 
 use crate::nodes::same_columns;
 use crate::world::World;
-use londiste_copy::{CopyWorker, WorkerFault};
+use londiste_copy::CopyWorker;
 use londiste_state::{Leaf, Node, TableState};
+use pgq_db::WorkerFault;
 use sky_model::{Limit, Refusal, Reply, Stop};
 use sky_val::{NoMemory, Text};
 use std::mem;
