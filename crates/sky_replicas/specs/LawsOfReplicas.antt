@@ -1,5 +1,5 @@
 -- The laws on tables that are copied from one database to another, after all calls of the world.
-use Rattle.std.specs.Prelude.{◌≡◌, ℕ, ◌==◌, Bool, true, false, List, ◌∷◌, ◌++◌, Option, Some, None, is_some, IfSome, Ok, All}
+use Rattle.std.specs.Prelude.{◌≡◌, ℕ, ◌==◌, Bool, true, false, List, ◌∷◌, ◌++◌, Option, Some, None, is_some, IfSome, Ok, All, bytes_eq}
 use Rattle.std.specs.List.{list_any}
 use Rattle.sky_val.specs.declared.val.Val.{Val}
 use Rattle.sky_val.specs.Entries.{Entries}
