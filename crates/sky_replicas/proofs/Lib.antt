@@ -16,3 +16,8 @@ pub mod KeptCalls
 pub mod LaterRows
 pub mod GivenUp
 pub mod InCopyTables
+pub mod SessionsMarks
+pub mod EachCall
+pub mod ProvidedTables
+pub mod ProvidedCalls
+pub mod LeafTables
