@@ -21,3 +21,5 @@ pub mod EachCall
 pub mod ProvidedTables
 pub mod ProvidedCalls
 pub mod LeafTables
+pub mod CopiesBegin
+pub mod KeptRows
