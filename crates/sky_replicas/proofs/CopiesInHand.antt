@@ -1,28 +1,32 @@
 -- A copy of a table runs where the table's worker has it in hand; so the worker's next move begins a copy or goes on with this one.
 use Rattle.std.proofs.Common.{◌≡◌, ℕ, List, true, false, Option, Some, None, Ok, IfSome, is_some, option_map, option_and_then, refl, sym, ap, subst, ◌∙◌}
-use Rattle.sky_names.specs.Places.{place_of}
 use Rattle.sky_txid.specs.Snapshot.{SnapshotView}
 use Rattle.londiste_state.specs.declared.state.TableState.TheVariants.{InCopy}
 use Rattle.londiste_state.specs.Nodes.{of_leaf, Leaf}
 use Rattle.sky_model.specs.History.{History, Past}
 use Rattle.sky_model.specs.Transactions.{snapshot}
 use Rattle.sky_model.specs.Copies.{copies, copy_txid}
-use Rattle.sky_model.specs.Rows.{table_names}
 use Rattle.sky_model.specs.Nodes.{node}
 use Rattle.sky_model.specs.State.{Database, database_of}
 use Rattle.sky_model.specs.Hands.{CopyHand}
-use Rattle.sky_model.specs.CopyMoves.{held_snapshot, next_piece, starts_copy, copy_running, under_way, continues, goes_on, leaf_state, moves_in, copy_move}
+use Rattle.sky_model.specs.CopyMoves.{held_snapshot, next_piece, copy_running, under_way, continues, goes_on, leaf_state, moves_in, copy_move}
 use Rattle.sky_model.specs.NodesOfWorld.{Located, node_called}
 use Rattle.sky_model.specs.World.{world_of, history_in, hands, nodes}
 use Rattle.sky_model.specs.Calls.{past_of}
-use Rattle.sky_model.proofs.Guarded.{copied-by, copy_txid-some}
 use Rattle.sky_model.proofs.Histories.{AllLegal, legal_past}
 use Rattle.sky_replicas.specs.LawsOfReplicas.{CopyBegan, InHand, HasInHand, HandsAreOfRunningCopies, RunningCopiesAreInHand, GoesOn, CopiesGoOn}
 use Rattle.sky_replicas.proofs.NodeNames.{provider_of, database_among, names_in, source_of, called-database}
 use Rattle.sky_replicas.proofs.Copying.{copy-found}
+use Rattle.sky_replicas.proofs.RunningCopies.{uncopied-idle}
 use Rattle.sky_replicas.proofs.Keeping.{Copying, Keeps}
-use Rattle.sky_replicas.proofs.Others.{each_table}
+use Rattle.sky_replicas.proofs.Others.{each_table, idle-hand}
 use Rattle.sky_replicas.proofs.KeptCalls.{kept-past, HasSource, has-source}
+
+-- the provider of a leaf is of its database
+pub found-source : (past : Past) (d : ℕ) (leaf : Leaf) (provider : Located) → node (history_in past d) ≡ Some (of_leaf leaf) → node_called (world_of past) leaf.provider ≡ Some provider
+    → source_of past d ≡ Some provider.database
+found-source past d leaf provider is_leaf found =
+    ap (λ o. option_and_then (λ name. database_among (names_in past) name (nodes past)) (provider_of o)) is_leaf ∙ sym (called-database past leaf.provider) ∙ ap (option_map Located.database) found
 
 -- what a worker has in hand
 pub in-hand : (past : Past) (d : ℕ) (name : List ℕ) (hand : CopyHand) → hands past d name ≡ Some hand → Copying past d name hand → InHand past d name hand
@@ -76,24 +80,10 @@ module _ (past : Past) (d : ℕ) (leaf : Leaf) (provider : Located) (name : List
   to-copy : copy_move p r name hand ≡ goes_on p r name hand (copy_running r name)
   to-copy = ap (λ s. moves_in s p r name hand) (ap (leaf_state name) is_leaf ∙ state)
 
-  -- none runs, if there is nothing in hand
-  none-runs : hand ≡ None → copy_running r name ≡ None
-  none-runs nothing = of (place_of name (table_names h)) refl
-    where
-      left : (n : ℕ) → place_of name (table_names h) ≡ Some n → (o : Option ℕ) → copy_txid n (copies h) ≡ o → o ≡ None
-      left n named None is = refl
-      left n named (Some t) is =
-          absurd (cc (sym (k.running d name n refl (record { named = named; runs = copied-by n t (copies h) (copy_txid-some n t (copies h) is) })) ∙ ap is_some nothing))
-
-      of : (o : Option ℕ) → place_of name (table_names h) ≡ o → option_and_then (λ n. copy_txid n (copies h)) o ≡ None
-      of None is = refl
-      of (Some n) is = left n is (copy_txid n (copies h)) refl
-
   -- its snapshot is held by the provider's database
   held : (x : CopyHand) (c : Copying past d name x) → held_snapshot p x.hold ≡ Some (snapshot (history_in c.before c.p))
   held x c =
-      let one : Some provider.database ≡ Some c.p =
-      sym (ap (λ o. option_and_then (λ name. database_among (names_in past) name (nodes past)) (provider_of o)) is_leaf ∙ sym (called-database past leaf.provider) ∙ ap (option_map Located.database) found) ∙ c.from in
+      let one : Some provider.database ≡ Some c.p = sym (found-source past d leaf provider is_leaf found) ∙ c.from in
       let same : provider.database ≡ c.p = cc one in
       ap (λ q. held_snapshot (database_of (history_in past q)) x.hold) same ∙ c.there.is
 
@@ -105,7 +95,7 @@ module _ (past : Past) (d : ℕ) (leaf : Leaf) (provider : Located) (name : List
 
   goes-on : GoesOn p r name hand
   goes-on = record {
-    begins = λ nothing. to-copy ∙ ap (goes_on p r name hand) (none-runs nothing);
+    begins = λ nothing. to-copy ∙ ap (goes_on p r name hand) (uncopied-idle h name (idle-hand past d name k nothing));
     goes_on = λ x is.
         let c : Copying past d name x = k.copying d name x refl is in
         subst (λ o. IfSome o (λ s. copy_move p r name hand ≡ Ok (next_piece p name s x))) (sym (held x c)) (moves x is (snapshot (history_in c.before c.p)) (held x c));

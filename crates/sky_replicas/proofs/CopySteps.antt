@@ -16,15 +16,15 @@ use Rattle.sky_model.specs.Nodes.{node}
 use Rattle.sky_model.specs.State.{RowPart, part_of, after_part, database_of}
 use Rattle.sky_model.specs.Outcome.{answers, does_marks, marks_of}
 use Rattle.sky_model.specs.StepCopy.{copy_writes, deletions, insertions, rows_now, given_up}
-use Rattle.sky_model.specs.StepNode.{beginning_copy, copying_rows, ending_copy, giving_up_copy, if_there, may_copy, call_form}
-use Rattle.sky_model.specs.CopyMoves.{CopyMove, rows_of, last_key, only_prints}
+use Rattle.sky_model.specs.StepNode.{beginning_copy, copying_rows, ending_copy, giving_up_copy, letting_go, if_there, may_copy, call_form}
+use Rattle.sky_model.specs.CopyMoves.{CopyMove, rows_of, last_key, only_prints, lets_go_for}
 use Rattle.sky_model.specs.WorkersOfWorld.{move_facts}
 use Rattle.sky_model.specs.Settling.{marked}
 use Rattle.sky_model.specs.World.{world_of, history_in, hands, on_top}
 use Rattle.sky_model.proofs.Legal.{Legal}
 use Rattle.sky_model.proofs.Histories.{AllLegal}
 use Rattle.sky_model.proofs.Good.{same-session}
-use Rattle.sky_model.proofs.Guarded.{copied-by, copy_txid-some, copy_txid-none, gone}
+use Rattle.sky_model.proofs.Guarded.{copy_txid-some, copy_txid-none, gone}
 use Rattle.sky_model.proofs.RowKeys.{begun}
 use Rattle.sky_model.proofs.Cases.{by_test}
 use Rattle.sky_replicas.specs.LawsOfReplicas.{CopyBegan}
@@ -32,10 +32,10 @@ use Rattle.sky_replicas.proofs.Pieces.{put-next, put-append, put-deletions, AreK
 use Rattle.sky_replicas.proofs.FittingRows.{AllFit, rows-fit}
 use Rattle.sky_replicas.proofs.NodeNames.{source_of}
 use Rattle.sky_replicas.proofs.Copying.{Runs, Holds, copy-found}
-use Rattle.sky_replicas.proofs.RunningCopies.{Uncopied}
-use Rattle.sky_replicas.proofs.Keeping.{legal-before, fine-within, Noded, noded-within, source-within, began-on, began-under, Copying, CopiedFrom, Kept, keeps-within, fits-step}
-use Rattle.sky_replicas.proofs.Others.{each_table, other_than, legal-under, KeptFree, names-differ, own-step, own-marks, own-marks-free, puts-down, takes-up}
-use Rattle.sky_replicas.proofs.CallPasts.{call_marks, called, after_calls, on-move, history-called, history-elsewhere, own-call, copying-marks, ending-marks, beginning-marks, IsWritten, is-written}
+use Rattle.sky_replicas.proofs.RunningCopies.{Uncopied, uncopied-txid}
+use Rattle.sky_replicas.proofs.Keeping.{legal-before, fine-within, Noded, noded-within, source-within, began-on, began-under, Copying, CopiedFrom, Keeps, Kept, keeps-within, fits-step}
+use Rattle.sky_replicas.proofs.Others.{each_table, other_than, legal-under, KeptFree, names-differ, own-step, own-marks, own-marks-free, puts-down, takes-up, idle-hand}
+use Rattle.sky_replicas.proofs.CallPasts.{call_marks, called, after_calls, on-move, history-called, history-elsewhere, own-call, copying-marks, ending-marks, giving-up-marks, beginning-marks, IsWritten, is-written}
 
 -- ---- facts within databases
 
@@ -182,18 +182,39 @@ uncopied-removed h l name table named None is n c =
 uncopied-removed h l name table named (Some t) is n c =
     uncopied-ended h l name table t named (copy_txid-some table t (copies h) is) false (restarted name) n (record { named = c.named; runs = c.runs })
 
--- so there is none to give up
-pub nothing-given_up : (h : History) (name : List ℕ) → Uncopied h name → call_marks h (giving_up_copy name) ≡ []
-nothing-given_up h name none =
-    by_test (λ b. marks_of (if b then call_form (database_of h) (giving_up_copy name) else answers Null) ≡ []) (may_copy name (node h)) (λ _. of (place_of name (table_names h)) refl) (λ _. refl)
+-- where none runs, none is given up
+pub nothing-given_up : (past : Past) (d : ℕ) (name : List ℕ) → Uncopied (history_in past d) name → called past d (giving_up_copy name) ≡ past
+nothing-given_up past d name none = ap (λ ms. on_top past (map (within d) ms)) no-marks
   where
-    left : (n : ℕ) → place_of name (table_names h) ≡ Some n → (o : Option ℕ) → copy_txid n (copies h) ≡ o → given_up n name o ≡ []
-    left n there None is = refl
-    left n there (Some t) is = absurd (none n (record { named = there; runs = copied-by n t (copies h) (copy_txid-some n t (copies h) is) }))
+    h : History
+    h = history_in past d
 
     of : (o : Option ℕ) → place_of name (table_names h) ≡ o → marks_of (if_there o (λ n. does_marks Done (given_up n name (copy_txid n (copies h))))) ≡ []
     of None is = refl
-    of (Some n) is = left n is (copy_txid n (copies h)) refl
+    of (Some n) is = ap (given_up n name) (uncopied-txid h name none n is)
+
+    no-marks : call_marks h (giving_up_copy name) ≡ []
+    no-marks = by_test (λ b. marks_of (if b then call_form (database_of h) (giving_up_copy name) else answers Null) ≡ []) (may_copy name (node h)) (λ _. of (place_of name (table_names h)) refl) (λ _. refl)
+
+-- else it is
+pub given_up-history : (past : Past) (d p : ℕ) (name : List ℕ) (hand : CopyHand) (table t : ℕ) → Legal (history_in past d) → (p == d) ≡ false → may_copy name (node (history_in past d)) ≡ true
+    → place_of name (table_names (history_in past d)) ≡ Some table → is_copied_by table t (copies (history_in past d)) ≡ true
+    → history_in (called (called past p (letting_go hand.hold)) d (giving_up_copy name)) d ≡ noded (restarted name) ∷ ended (of_copy table) t false ∷ history_in past d
+given_up-history past d p name hand table t l other may named runs =
+    let h : History = history_in past d in
+    history-called (called past p (letting_go hand.hold)) d (giving_up_copy name) ∙ ap (λ g. marked g (call_marks g (giving_up_copy name))) (history-elsewhere past p (letting_go hand.hold) d other)
+    ∙ ap (marked h) (giving-up-marks h name table t may named (copy-found h l table t runs))
+
+-- so none runs after that
+pub uncopied-given_up : (past : Past) (d p : ℕ) (name : List ℕ) (hand : Option CopyHand) → hands past d name ≡ hand → Legal (history_in past d) → (p == d) ≡ false → Keeps each_table past
+    → Uncopied (history_in (called (after_calls past p (lets_go_for hand)) d (giving_up_copy name)) d) name
+uncopied-given_up past d p name None has l other k =
+    let none : Uncopied (history_in past d) name = idle-hand past d name k has in
+    subst (λ q. Uncopied (history_in q d) name) (sym (nothing-given_up past d name none)) none
+uncopied-given_up past d p name (Some hand) has l other k =
+    let c : Copying past d name hand = k.copying d name hand refl has in
+    subst (λ g. Uncopied g name) (sym (given_up-history past d p name hand c.table c.t l other c.here.may c.here.named c.here.runs))
+    (uncopied-ended (history_in past d) l name c.table c.t c.here.named c.here.runs false (restarted name))
 
 -- the last piece: the copy ends
 pub ends : (past : Past) (d p : ℕ) (name : List ℕ) (table t hold : ℕ) (at_once : Bool) (made piece : Entries (List Val)) (before : Past) (source : ℕ) (under : SnapshotView) (tick : ℕ)

@@ -14,7 +14,7 @@ use Rattle.sky_model.specs.declared.reply.Reply.{Reply}
 use Rattle.sky_model.specs.declared.reply.Reply.TheVariants.{Done, TableMoved}
 use Rattle.sky_model.specs.declared.reply.Refusal.{Refusal}
 use Rattle.sky_model.specs.declared.reply.Refusal.TheVariants.{AlreadyInSet, NodeExists, NoNode, NoTable, NotInSet, NotProvider, SchemaDiffers, TableInUse}
-use Rattle.sky_model.specs.History.{Mark, of_copy, ended, tabled, read_only, noded, leaf_made, leaf_removed, copied, restarted, History, Fact, appeared, founded, entered, within, clock_at, node_made, in_hand, Past}
+use Rattle.sky_model.specs.History.{Mark, of_copy, ended, tabled, read_only, noded, leaf_made, leaf_removed, copied, History, Fact, appeared, founded, entered, within, clock_at, node_made, in_hand, Past}
 use Rattle.sky_model.specs.Hands.{CopyHand}
 use Rattle.sky_model.specs.Transactions.{snapshot}
 use Rattle.sky_model.specs.Copies.{copies, copy_txid}
@@ -48,14 +48,13 @@ use Rattle.sky_model.proofs.Cases.{by_test}
 use Rattle.sky_replicas.specs.LawsOfReplicas.{CopyBegan, CopiedTablesHaveProvidersRows}
 use Rattle.std.specs.Option.{option_and_then}
 use Rattle.sky_replicas.proofs.NodeNames.{provider_of, database_among, names_in, source_of, called-database}
-use Rattle.sky_replicas.proofs.Copying.{copy-found}
 use Rattle.sky_replicas.proofs.RunningCopies.{Uncopied}
 use Rattle.sky_replicas.proofs.QuietStatements.{quiet-turn, quiet-daemon}
 use Rattle.sky_replicas.proofs.Keeping.{CopiedFrom, Copying, Keeps, Kept, is_quiet, FactsFit, fits-step, fits-steps}
-use Rattle.sky_replicas.proofs.Others.{each_table, other_than, by-before, fewer, own-free, own-marks, quiet-marks, puts-down}
-use Rattle.sky_replicas.proofs.CallPasts.{call_marks, called, after_calls, history-called, history-elsewhere, histories-elsewhere, quiet-consumer, lets-go, own-call, removing-marks, giving-up-marks}
+use Rattle.sky_replicas.proofs.Others.{each_table, other_than, by-before, fewer, idle-hand, own-free, own-marks, quiet-marks, puts-down}
+use Rattle.sky_replicas.proofs.CallPasts.{call_marks, called, after_calls, history-called, history-elsewhere, histories-elsewhere, quiet-consumer, lets-go, own-call, removing-marks}
 use Rattle.sky_replicas.proofs.Sources.{IsSource, source-is, alike-is}
-use Rattle.sky_replicas.proofs.CopySteps.{MoveKept, move-kept, uncopied-ended, uncopied-removed, nothing-given_up}
+use Rattle.sky_replicas.proofs.CopySteps.{MoveKept, move-kept, uncopied-removed, nothing-given_up, uncopied-given_up}
 use Rattle.sky_replicas.proofs.KeptMoves.{copy-kept}
 
 -- ---- facts that fit
@@ -236,34 +235,15 @@ module _ (past : Past) (kept : Kept each_table past) where
   kept-gives-up : (d p : ℕ) (name : List ℕ) (hand : Option CopyHand) → hands past d name ≡ hand → IsSource past d p → AllLegal past → Keeps each_table past → MoveKept past p d name (restarting name hand)
   kept-gives-up d p name None has s legal k =
       move-kept past p d name (restarting name None)
-      (subst (λ ms. Kept each_table (in_hand d name None ∷ on_top past (map (within d) ms)))
-      (sym (nothing-given_up (history_in past d) name (λ table c. absurd (cc (sym (k.running d name table refl c) ∙ ap is_some has))))) (fits-step each_table past (in_hand d name None) has kept))
+      (subst (λ q. Kept each_table (in_hand d name None ∷ q)) (sym (nothing-given_up past d name (idle-hand past d name k has))) (fits-step each_table past (in_hand d name None) has kept))
   kept-gives-up d p name (Some hand) has s legal k =
+      let c : Copying past d name hand = k.copying d name hand refl has in
+      let q : Past = called past p (letting_go hand.hold) in
+      let there : place_of name (table_names (history_in q d)) ≡ Some c.table = ap (λ g. place_of name (table_names g)) (history-elsewhere past p (letting_go hand.hold) d s.other) ∙ c.here.named in
       move-kept past p d name (restarting name (Some hand))
-      (puts-down d name (called q d (giving_up_copy name))
-      (λ _. subst (λ g. Uncopied g name) (sym now-is) (uncopied-ended h (legal d) name c.table c.t c.here.named c.here.runs false (restarted name)))
+      (puts-down d name (called q d (giving_up_copy name)) (λ _. uncopied-given_up past d p name (Some hand) has (legal d) s.other k)
       (own-marks q d name c.table (call_marks (history_in q d) (giving_up_copy name)) there (own-call (history_in q d) name c.table (giving_up_copy name) there refl)
       (kept-lets d p name (Some hand) legal k has s)))
-    where
-      c : Copying past d name hand
-      c = k.copying d name hand refl has
-
-      h : History
-      h = history_in past d
-
-      q : Past
-      q = called past p (letting_go hand.hold)
-
-      same : history_in q d ≡ h
-      same = history-elsewhere past p (letting_go hand.hold) d s.other
-
-      there : place_of name (table_names (history_in q d)) ≡ Some c.table
-      there = ap (λ g. place_of name (table_names g)) same ∙ c.here.named
-
-      now-is : history_in (called q d (giving_up_copy name)) d ≡ noded (restarted name) ∷ ended (of_copy c.table) c.t false ∷ h
-      now-is =
-          history-called q d (giving_up_copy name) ∙ ap (λ g. marked g (call_marks g (giving_up_copy name))) same
-          ∙ ap (marked h) (giving-up-marks h name c.table c.t c.here.may c.here.named (copy-found h (legal d) c.table c.t c.here.runs))
 
   kept-restart : (d p : ℕ) (name : List ℕ) → IsSource past d p → MoveKept past p d name (restarting name (hands past d name))
   kept-restart d p name s = by-before past (move_facts w p d name (restarting name (hands past d name))) (kept-gives-up d p name (hands past d name) refl s) kept

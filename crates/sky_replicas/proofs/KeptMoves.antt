@@ -33,7 +33,7 @@ use Rattle.sky_model.proofs.Histories.{AllLegal}
 use Rattle.sky_model.proofs.Good.{same-session}
 use Rattle.sky_model.proofs.LeastNumbers.{least-free}
 use Rattle.sky_model.proofs.NodeCalls.{is_for_consumers, gives-consumers}
-use Rattle.sky_model.proofs.StatementMarks.{EachMark, each-given, each-rest, AnyReply}
+use Rattle.sky_model.proofs.StatementMarks.{EachMark, each-given, each-rest, Gives, AnyReply}
 use Rattle.sky_model.proofs.Cases.{by_test, by_same}
 use Rattle.sky_replicas.specs.LawsOfReplicas.{let_go_if, CopyBegan}
 use Rattle.sky_replicas.proofs.Pieces.{last_key-append, all-taken}
@@ -178,11 +178,25 @@ record IsAsRead (h g : History) : Type 0 where
   names_are : table_names g ≡ table_names h
   rows_are : (table : ℕ) → rows table g ≡ rows table h
 
+as-before : (h g f : History) → IsAsRead h g → IsAsRead g f → IsAsRead h f
+as-before h g f one two = record {
+  holds_are = two.holds_are ∙ one.holds_are;
+  snapshot_is = two.snapshot_is ∙ one.snapshot_is;
+  names_are = two.names_are ∙ one.names_are;
+  rows_are = λ table. two.rows_are table ∙ one.rows_are table;
+}
+
+same-read : {h g : History} → holds g ≡ holds h → snapshot g ≡ snapshot h → table_names g ≡ table_names h → ((table : ℕ) → rows table g ≡ rows table h) → IsAsRead h g
+same-read holds_are snapshot_is names_are rows_are = record { holds_are = holds_are; snapshot_is = snapshot_is; names_are = names_are; rows_are = rows_are }
+
 consumers-same : (h : History) (marks : List Mark) → EachMark is_for_consumers marks → IsAsRead h (marked h marks)
-consumers-same h [] each = record { holds_are = refl; snapshot_is = refl; names_are = refl; rows_are = λ table. refl }
-consumers-same h (queued mark ∷ marks) each = (let rest = consumers-same (queued mark ∷ h) marks (each-rest is_for_consumers (queued mark) marks each) in record { holds_are = rest.holds_are; snapshot_is = rest.snapshot_is; names_are = rest.names_are; rows_are = rest.rows_are })
-consumers-same h (noded (joined consumer) ∷ marks) each = (let rest = consumers-same (noded (joined consumer) ∷ h) marks each in record { holds_are = rest.holds_are; snapshot_is = rest.snapshot_is; names_are = rest.names_are; rows_are = rest.rows_are })
-consumers-same h (noded (parted consumer) ∷ marks) each = (let rest = consumers-same (noded (parted consumer) ∷ h) marks each in record { holds_are = rest.holds_are; snapshot_is = rest.snapshot_is; names_are = rest.names_are; rows_are = rest.rows_are })
+consumers-same h [] each = same-read refl refl refl (λ table. refl)
+consumers-same h (queued mark ∷ marks) each =
+    as-before h (queued mark ∷ h) (marked (queued mark ∷ h) marks) (same-read refl refl refl (λ table. refl)) (consumers-same (queued mark ∷ h) marks (each-rest is_for_consumers (queued mark) marks each))
+consumers-same h (noded (joined consumer) ∷ marks) each =
+    as-before h (noded (joined consumer) ∷ h) (marked (noded (joined consumer) ∷ h) marks) (same-read refl refl refl (λ table. refl)) (consumers-same (noded (joined consumer) ∷ h) marks each)
+consumers-same h (noded (parted consumer) ∷ marks) each =
+    as-before h (noded (parted consumer) ∷ h) (marked (noded (parted consumer) ∷ h) marks) (same-read refl refl refl (λ table. refl)) (consumers-same (noded (parted consumer) ∷ h) marks each)
 consumers-same h (_ ∷ marks) each = absurd each
 
 held-none : (n : ℕ) (hs : List Hold) → contains n (map Hold.number hs) ≡ false → held_at n hs ≡ None
@@ -217,19 +231,17 @@ module _ (past : Past) (d p : ℕ) (name consumer : List ℕ) (legal : AllLegal 
   abbrev hand : CopyHand
   hand = first_hand (database_of (history_in past p))
 
+  -- after one call
+  read-called : (q : Past) (call : NodeCall) → Gives AnyReply is_for_consumers (node_does (database_of (history_in q p)) call) → IsAsRead (history_in q p) (history_in (called q p call) p)
+  read-called q call gives =
+      subst (IsAsRead (history_in q p)) (sym (history-called q p call))
+      (consumers-same (history_in q p) (call_marks (history_in q p) call) (each-given AnyReply is_for_consumers (node_does (database_of (history_in q p)) call) gives))
+
   as-read : IsAsRead (history_in past p) (history_in second p)
   as-read =
-      let one = consumers-same (history_in past p) (call_marks (history_in past p) (parting consumer))
-      (each-given AnyReply is_for_consumers (node_does (database_of (history_in past p)) (parting consumer)) (gives-consumers (database_of (history_in past p)) (parting consumer) refl)) in
-      let two = consumers-same (history_in (called past p (parting consumer)) p) (call_marks (history_in (called past p (parting consumer)) p) (joining consumer))
-      (each-given AnyReply is_for_consumers (node_does (database_of (history_in (called past p (parting consumer)) p)) (joining consumer))
-      (gives-consumers (database_of (history_in (called past p (parting consumer)) p)) (joining consumer) refl)) in
-      record {
-        holds_are = ap holds (history-called (called past p (parting consumer)) p (joining consumer)) ∙ two.holds_are ∙ ap holds (history-called past p (parting consumer)) ∙ one.holds_are;
-        snapshot_is = ap snapshot (history-called (called past p (parting consumer)) p (joining consumer)) ∙ two.snapshot_is ∙ ap snapshot (history-called past p (parting consumer)) ∙ one.snapshot_is;
-        names_are = ap table_names (history-called (called past p (parting consumer)) p (joining consumer)) ∙ two.names_are ∙ ap table_names (history-called past p (parting consumer)) ∙ one.names_are;
-        rows_are = λ table. ap (rows table) (history-called (called past p (parting consumer)) p (joining consumer)) ∙ two.rows_are table ∙ ap (rows table) (history-called past p (parting consumer)) ∙ one.rows_are table;
-      }
+      as-before (history_in past p) (history_in first p) (history_in second p)
+      (read-called past (parting consumer) (gives-consumers (database_of (history_in past p)) (parting consumer) refl))
+      (read-called first (joining consumer) (gives-consumers (database_of (history_in first p)) (joining consumer) refl))
 
   second-d : history_in second d ≡ history_in past d
   second-d = history-elsewhere first p (joining consumer) d alike.source.other ∙ history-elsewhere past p (parting consumer) d alike.source.other

@@ -46,6 +46,10 @@ fewer d name past k legal = record {
   running = λ e other table is. k.running e other table refl;
 }
 
+-- where there is nothing in hand, no copy runs
+pub idle-hand : (past : Past) (d : ℕ) (name : List ℕ) → Keeps each_table past → hands past d name ≡ None → Uncopied (history_in past d) name
+idle-hand past d name k nothing n c = absurd (cc (sym (k.running d name n refl c) ∙ ap is_some nothing))
+
 -- the workers of other tables with this provider's database have other numbers of holds in hand
 abbrev pub Free : Past → (p d : ℕ) → List ℕ → ℕ → Type 0
 Free past p d name hold = (e : ℕ) (other : List ℕ) (hand : CopyHand) → other_than d name e other ≡ true → hands past e other ≡ Some hand → source_of past e ≡ Some p → (hold == hand.hold) ≡ false

@@ -1,15 +1,17 @@
 -- The copies that run in a database, by the names of their tables, mark by mark.
 use Rattle.std.proofs.Common.{arith, ◌≡◌, ℕ, ◌<◌, ◌==◌, inl, inr, List, [], ◌∷◌, ◌++◌, Bool, true, false, not, Option, Some, None, length, length-append, bytes_eq, refl, sym, ap, ◌∙◌, if◌then◌else◌}
-use Rattle.std.specs.Option.{option_or}
+use Rattle.std.specs.Option.{option_or, option_and_then}
 use Rattle.sky_names.specs.Places.{place_of}
 use Rattle.sky_names.proofs.PlaceLemmas.{place_of_within, place_of-append}
 use Rattle.sky_model.specs.History.{Mark, of_copy, began, ended, tabled, table_made, History}
-use Rattle.sky_model.specs.Copies.{Copy, copies, is_copied, without_copy}
+use Rattle.sky_model.specs.Copies.{Copy, copies, is_copied, copy_txid, without_copy}
 use Rattle.sky_model.specs.Rows.{table_names, is_read_only}
 use Rattle.sky_model.specs.Nodes.{node, is_leaf}
+use Rattle.sky_model.specs.State.{database_of}
+use Rattle.sky_model.specs.CopyMoves.{copy_running}
 use Rattle.sky_model.proofs.Legal.{without_node, at_joining, at_leaving, Fine, makes_table, guards, nodes, Legal, start, next}
 use Rattle.sky_model.proofs.NodeReadings.{leaf-before}
-use Rattle.sky_model.proofs.Guarded.{IsGuarded, copies-guarded}
+use Rattle.sky_model.proofs.Guarded.{IsGuarded, copies-guarded, copied-by, copy_txid-some}
 use Rattle.sky_model.proofs.Cases.{by_test, by_same}
 
 -- ---- a copied table is one of the database
@@ -90,3 +92,20 @@ copied-before h l (began (of_copy n) t) name table none c = record {
     differs false e = refl
 copied-before h l (ended (of_copy n) t committed) name table none c = record { named = c.named; runs = copied-less table t (copies h) c.runs }
 copied-before h l mark name table none c = record { named = c.named; runs = c.runs }
+
+-- ---- no copy that runs
+
+-- it has no transaction
+pub uncopied-txid : (h : History) (name : List ℕ) → Uncopied h name → (n : ℕ) → place_of name (table_names h) ≡ Some n → copy_txid n (copies h) ≡ None
+uncopied-txid h name none n named = of (copy_txid n (copies h)) refl
+  where
+    of : (o : Option ℕ) → copy_txid n (copies h) ≡ o → o ≡ None
+    of None is = refl
+    of (Some t) is = absurd (none n (record { named = named; runs = copied-by n t (copies h) (copy_txid-some n t (copies h) is) }))
+
+pub uncopied-idle : (h : History) (name : List ℕ) → Uncopied h name → copy_running (database_of h) name ≡ None
+uncopied-idle h name none = of (place_of name (table_names h)) refl
+  where
+    of : (o : Option ℕ) → place_of name (table_names h) ≡ o → option_and_then (λ n. copy_txid n (copies h)) o ≡ None
+    of None is = refl
+    of (Some n) is = uncopied-txid h name none n is
