@@ -3,6 +3,7 @@ pub mod Pieces
 pub mod NodeNames
 pub mod Copying
 pub mod HandsAt
+pub mod RunningCopies
 pub mod Keeping
 pub mod Others
 pub mod QuietStatements
@@ -13,6 +14,7 @@ pub mod Sources
 pub mod CopySteps
 pub mod KeptMoves
 pub mod KeptCalls
+pub mod CopiesInHand
 pub mod LaterRows
 pub mod GivenUp
 pub mod InCopyTables

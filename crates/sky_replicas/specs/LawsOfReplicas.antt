@@ -1,5 +1,5 @@
 -- The laws on tables that are copied from one database to another, after all calls of the world.
-use Rattle.std.specs.Prelude.{◌≡◌, ℕ, ◌==◌, Bool, true, false, List, ◌∷◌, ◌++◌, Option, Some, None, is_some, IfSome, Ok, All, bytes_eq}
+use Rattle.std.specs.Prelude.{◌≡◌, ℕ, ◌==◌, Bool, true, false, List, [], ◌∷◌, ◌++◌, Option, Some, None, is_some, IfSome, Ok, All, bytes_eq}
 use Rattle.std.specs.List.{list_any}
 use Rattle.sky_val.specs.declared.val.Val.{Val}
 use Rattle.sky_val.specs.Entries.{Entries}
@@ -7,7 +7,7 @@ use Rattle.sky_names.specs.Places.{place_of}
 use Rattle.sky_txid.specs.Snapshot.{SnapshotView}
 use Rattle.londiste_state.specs.declared.state.TableState.TheVariants.{InCopy}
 use Rattle.londiste_state.specs.Nodes.{of_leaf, Leaf, is_among, tables_of}
-use Rattle.sky_model.specs.History.{Mark, of_copy, began, ended, noded, leaf_removed, copied, hold_begun, History, Fact, within, Past}
+use Rattle.sky_model.specs.History.{Mark, of_copy, began, ended, noded, leaf_removed, copied, hold_begun, hold_ended, History, Fact, within, Past}
 use Rattle.sky_model.specs.Transactions.{snapshot}
 use Rattle.sky_model.specs.Copies.{copies, is_copied, is_copied_by, Hold, holds}
 use Rattle.sky_model.specs.Rows.{table_names, committed, writes, put_all, in_turn, rows, own_writes, rows_shown}
@@ -24,11 +24,16 @@ use Rattle.sky_model.specs.World.{World, world_of, history_in, hands, on_top}
 use Rattle.sky_model.specs.Calls.{Call, past_of}
 use Rattle.sky_model.specs.Steps.{IsCallInForm}
 
+-- a snapshot of database `p` that is held for a copy is let go before the copy begins, if the copy is made at once, by one move
+abbrev pub let_go_if : (at_once : Bool) (p hold : ℕ) → List Fact
+let_go_if true p hold = within p (noded (hold_ended hold)) ∷ []
+let_go_if false p hold = []
+
 -- the copy of a table of database `d` began, by a transaction, and right before a snapshot of database `p` was taken for it, which is held under a
 -- number; `before` is what had happened before that
-pub record CopyBegan (past : Past) (d p table t hold : ℕ) (before : Past) : Type 0 where
+pub record CopyBegan (past : Past) (d p table t hold : ℕ) (at_once : Bool) (before : Past) : Type 0 where
   pub later : List Fact
-  pub is : past ≡ later ++ within d (began (of_copy table) t) ∷ within p (noded (hold_begun hold)) ∷ before
+  pub is : past ≡ later ++ within d (began (of_copy table) t) ∷ let_go_if at_once p hold ++ within p (noded (hold_begun hold)) ∷ before
 
 -- at a place of a leaf's database `d`, at which a copy of the table of a name has ended, the table has the rows that the table of this name had in the
 -- provider's database at the place at which a snapshot was taken for this copy
@@ -47,8 +52,9 @@ pub record HasProvidersRows (past : Past) (d : ℕ) (p : History) (name : List �
   pub copy_ended : p ≡ noded (copied name under tick) ∷ ended (of_copy table) t true ∷ below
   -- the place at which it began
   pub hold : ℕ
+  pub at_once : Bool
   pub before : Past
-  pub copy_began : CopyBegan past d provider.database table t hold before
+  pub copy_began : CopyBegan past d provider.database table t hold at_once before
   pub taken : snapshot (history_in before provider.database) ≡ under
   -- the provider's table
   pub source : ℕ
@@ -139,7 +145,7 @@ pub record InHand (past : Past) (d : ℕ) (name : List ℕ) (hand : CopyHand) : 
   pub t : ℕ
   pub runs : is_copied_by table t (copies (history_in past d)) ≡ true
   pub before : Past
-  pub copy_began : CopyBegan past d provider.database table t hand.hold before
+  pub copy_began : CopyBegan past d provider.database table t hand.hold false before
   pub holds : held_snapshot (database_of (history_in past provider.database)) hand.hold ≡ Some (snapshot (history_in before provider.database))
 
 -- a worker of a leaf's table has something in hand
