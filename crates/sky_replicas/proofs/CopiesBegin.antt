@@ -1,11 +1,11 @@
 -- Where a copy of a table begins, and where it is said that one was copied, the table is being copied in its leaf.
-use Rattle.std.proofs.Common.{◌≡◌, ◌^◌, ℕ, nat_le, List, [], ◌∷◌, ◌++◌, Bool, true, false, Option, Some, None, Ok, sym, subst, refl, if◌then◌else◌}
+use Rattle.std.proofs.Common.{◌≡◌, ◌^◌, ℕ, nat_le, List, [], ◌∷◌, ◌++◌, Bool, true, false, Option, Some, None, Ok, subst, refl, if◌then◌else◌}
 use Rattle.sky_keys.specs.Waits.{is_waiting}
 use Rattle.sky_names.specs.Places.{place_of}
 use Rattle.sky_val.specs.declared.val.Val.{Val}
 use Rattle.sky_model.specs.declared.reply.Reply.TheVariants.{Done, Null}
 use Rattle.sky_model.specs.declared.reply.Refusal.TheVariants.{TxidsSpent}
-use Rattle.sky_model.specs.History.{Mark, of_copy, began, ended, noded, copied, leaf_removed, tabled, read_only, hold_ended, History}
+use Rattle.sky_model.specs.History.{Mark, of_copy, began, noded, copied, leaf_removed, tabled, read_only, hold_ended, History}
 use Rattle.sky_model.specs.Transactions.{next_txid}
 use Rattle.sky_model.specs.Copies.{copies, copy_txid, Hold}
 use Rattle.sky_model.specs.Sessions.{has_open, block, session}
@@ -16,7 +16,7 @@ use Rattle.sky_model.specs.State.{RowPart, part_of, after_part, Database, databa
 use Rattle.sky_model.specs.Outcome.{Checked, Outcome, ◌>>=◌, ◌>>◌, refused_if, answers, does_marks, marks_of}
 use Rattle.sky_model.specs.Allowed.{allowed}
 use Rattle.sky_model.specs.Made.{takes_sight}
-use Rattle.sky_model.specs.Reader.{database_by_history, within_part}
+use Rattle.sky_model.specs.Reader.{database_by_history}
 use Rattle.sky_model.specs.Settling.{marked}
 use Rattle.sky_model.specs.SessionMarks.{entry_place}
 use Rattle.sky_model.specs.StepCopy.{copy_write, copy_writes, deletions, insertions, rows_now, begins_copy, all_fit, copies_rows, given_up}

@@ -25,7 +25,6 @@ use Rattle.sky_model.specs.Versions.{versions}
 use Rattle.sky_model.specs.Nodes.{node}
 use Rattle.sky_model.specs.State.{database_of}
 use Rattle.sky_model.specs.Outcome.{◌>>=◌, ◌>>◌, refused_if, found_or, answers, does_marks, marks_of}
-use Rattle.sky_model.specs.StepCopy.{given_up}
 use Rattle.sky_model.specs.StepNode.{letting_go, giving_up_copy, may_copy}
 use Rattle.sky_model.specs.CopyMoves.{copy_running, goes_on, moves_in, lets_go_for}
 use Rattle.sky_model.specs.NodesOfWorld.{Located, WorldOutcome, node_called}

@@ -9,19 +9,18 @@ use Rattle.sky_val.specs.Entries.{at}
 use Rattle.sky_val.proofs.EntryLemmas.{same_entries}
 use Rattle.sky_names.specs.Places.{place_of}
 use Rattle.sky_txid.specs.Snapshot.{SnapshotView}
-use Rattle.sky_model.specs.History.{Mark, Whose, of_session, of_copy, began, ended, tabled, wrote, noded, leaf_removed, copied, History}
+use Rattle.sky_model.specs.History.{Mark, Whose, of_session, of_copy, ended, tabled, wrote, noded, leaf_removed, copied, History}
 use Rattle.sky_model.specs.Transactions.{next_txid, has_ended}
 use Rattle.sky_model.specs.Copies.{Copy, copies, is_copied, is_copied_by, without_copy}
 use Rattle.sky_model.specs.Rows.{table_names, is_read_only, committed, writes as writes_of, rows, has_written}
 use Rattle.sky_model.specs.Nodes.{node, is_leaf, after_node}
 use Rattle.sky_model.specs.StepNode.{may_copy}
 use Rattle.londiste_state.specs.Nodes.{Node, of_root, of_leaf}
-use Rattle.sky_model.specs.World.{history_in}
 use Rattle.sky_model.specs.Calls.{past_of}
 use Rattle.sky_model.proofs.Legal.{Fine, makes_table, writes, copies_row, begins_copy, ends, ends_work, ends_copy, guards, nodes, without_node, at_joining, at_leaving, Legal, legal-below_mark, fine_mark}
 use Rattle.sky_model.proofs.Snapshots.{ender-unended}
 use Rattle.sky_model.proofs.SnapshotLaws.{legal-below}
-use Rattle.sky_model.proofs.Guarded.{copied-by, IsGuarded, copies-guarded, gone}
+use Rattle.sky_model.proofs.Guarded.{copied-by, copies-guarded, gone}
 use Rattle.sky_model.proofs.Holders.{copy-alone, alone}
 use Rattle.sky_model.proofs.RowWrites.{over, last_of, at-put_all, has_written-last_of, in_turn-push, in_turn-same}
 use Rattle.sky_model.proofs.KeyVersions.{same-writes}
@@ -32,7 +31,7 @@ use Rattle.sky_replicas.specs.LawsOfReplicas.{HasProvidersRows, CopiedTablesHave
 use Rattle.sky_replicas.proofs.Copying.{place-stays}
 use Rattle.sky_replicas.proofs.HeldRows.{rows-in-order}
 use Rattle.sky_replicas.proofs.InCopyTables.{has_copy, copy-stays, has-copied, copied-no-more, not-left}
-use Rattle.sky_replicas.proofs.CopiesBegin.{IsInCopy, MarkInCopy, AllInCopy, in-copy-below, in-copy-past}
+use Rattle.sky_replicas.proofs.CopiesBegin.{MarkInCopy, AllInCopy, in-copy-below, in-copy-past}
 
 -- the table of a name has been copied, and nothing writes it
 record Rests (h : History) (name : List ℕ) (table : ℕ) : Type 0 where

@@ -25,3 +25,4 @@ pub mod ProvidedCalls
 pub mod LeafTables
 pub mod CopiesBegin
 pub mod KeptRows
+pub mod Restarts
