@@ -75,7 +75,7 @@ module _ (Q : Past → Type 0) (stays : (past : Past) (d : ℕ) (mark : Mark) �
   turn-marks : (past : Past) (d : ℕ) (now : ℤ) (who : ℕ) (stmt : Stmt) → EachMark is_sessions (database_turn (within_database by_past d) past now who stmt).marks
   turn-marks past d now who stmt = subst (λ (x : Turn). EachMark is_sessions x.marks) (sym (same-turn-within past d now who stmt)) (sessions-turn (history_in past d) now who stmt)
 
-  -- what else happens is to keep it behind the marks
+  -- what happens besides is to keep it after the marks
   after-deed : (past : Past) (d who : ℕ) (stmt : Stmt) (outside : List Fact)
       → ((let q : Past = on_top past (map (within d) (database_turn (within_database by_past d) past (world_of past).now who stmt).marks) in Q q → Q (on_top q outside)))
       → Q past → Q (on_top past (deed_in d outside (database_turn (within_database by_past d) past (world_of past).now who stmt)).facts)

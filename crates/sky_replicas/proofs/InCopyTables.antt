@@ -15,6 +15,10 @@ use Rattle.sky_model.proofs.Legal.{NodeFits}
 use Rattle.sky_model.proofs.Cases.{by_test}
 use Rattle.sky_replicas.specs.LawsOfReplicas.{takes_out}
 
+-- a table of one name hasn't another
+other-name : (name other x : List ℕ) → bytes_eq name other ≡ false → bytes_eq name x ≡ true → bytes_eq other x ≡ false
+other-name name other x differ is = ap (bytes_eq other) (sym (same_name name x is)) ∙ bytes_eq_sym other name ∙ differ
+
 -- whether the table of a name is in such a state
 abbrev is_in : (TableState → Bool) → List ℕ → List LeafTable → Bool
 is_in such name tables = unwrap_or (option_map (λ t. such t.state) (find (λ t. bytes_eq name t.name) tables)) false
@@ -27,11 +31,6 @@ module _ (such : TableState → Bool) where
       → unwrap_or (option_map (λ (x : LeafTable). such x.state) (if b then Some t else find (λ (x : LeafTable). bytes_eq name x.name) (ts ++ more))) false ≡ true)
       (bytes_eq name t.name) (λ _ here. here) (λ _ there. in-more name ts more there) is
 
--- a table of one name hasn't another
-other-name : (name other x : List ℕ) → bytes_eq name other ≡ false → bytes_eq name x ≡ true → bytes_eq other x ≡ false
-other-name name other x differ is = ap (bytes_eq other) (sym (same_name name x is)) ∙ bytes_eq_sym other name ∙ differ
-
-module _ (such : TableState → Bool) where
   in-less : (name other : List ℕ) (ts : List LeafTable) → bytes_eq name other ≡ false → is_in such name ts ≡ true → is_in such name (filter (λ (t : LeafTable). not (bytes_eq other t.name)) ts) ≡ true
   in-less name other [] differ is = absurd (cc is)
   in-less name other (t ∷ ts) differ is =
@@ -171,10 +170,10 @@ past-allowed from (DoSync tick) past may = refl
 past-allowed from Synced past may = refl
 
 -- a table that has a copy goes only into such a state
-allowed-past : (name : List ℕ) (state : TableState) (o : Option LeafTable) → unwrap_or (option_map (λ (t : LeafTable). is_past_copy t.state) o) false ≡ true
+allowed-past : (state : TableState) (o : Option LeafTable) → unwrap_or (option_map (λ (t : LeafTable). is_past_copy t.state) o) false ≡ true
     → unwrap_or (option_map (λ (t : LeafTable). is_allowed t.state state) o) false ≡ true → is_past_copy state ≡ true
-allowed-past name state None past may = absurd (cc past)
-allowed-past name state (Some t) past may = past-allowed t.state state past may
+allowed-past state None past may = absurd (cc past)
+allowed-past state (Some t) past may = past-allowed t.state state past may
 
 copy-after : (h : History) (mark : NodeMark) (name : List ℕ) (l : Leaf) → node h ≡ Some (of_leaf l) → NodeFits h mark → takes_out name (noded mark) ≡ false → is_in is_past_copy name l.tables ≡ true
     → has_copy name (after_node mark (Some (of_leaf l))) ≡ true
@@ -188,7 +187,7 @@ copy-after h (state_set other state) name l is fits stays past = in-changed is_p
     let there : unwrap_or (option_map (λ (t : LeafTable). is_past_copy t.state) (table_of other l)) false ≡ true =
     ap (λ x. unwrap_or (option_map (λ (t : LeafTable). is_past_copy t.state) (table_of x l)) false) (sym (same_name name other same)) ∙ past in
     let may : unwrap_or (option_map (λ (t : LeafTable). is_allowed t.state state) (table_of other l)) false ≡ true = ap (may_move other state) (sym is) ∙ fits in
-    into-changes is_past_copy name other (in_state state) (λ t. refl) (λ t _. allowed-past other state (table_of other l) there may))
+    into-changes is_past_copy name other (in_state state) (λ t. refl) (λ t _. allowed-past state (table_of other l) there may))
     (λ _ differ. other-changes is_past_copy name other (in_state state) (λ t. refl) differ) refl) past
 copy-after h (copied other under tick) name l is fits stays past =
     in-changed is_past_copy is_past_copy name (λ t. if bytes_eq other t.name then with_copy under tick t else t) l.tables (into-changes is_past_copy name other (with_copy under tick) (λ t. refl) (λ t _. refl)) past

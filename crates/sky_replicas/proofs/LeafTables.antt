@@ -40,13 +40,13 @@ same-itself (c ∷ cs) = λ i. ((bytes_eq_refl c.name i && same-kinds c.kind i) 
 
 -- a leaf's table is offered by its provider
 pub record IsOfferedTo (past : Past) (d : ℕ) (leaf : Leaf) (table : List ℕ) : Type 0 where
-  pub c : HasProvider past d
-  pub offered : IsOffered past d c.p table
-  pub found : source (world_of past) leaf table ≡ Ok c.p
+  pub provider : HasProvider past d
+  pub offered : IsOffered past d provider.p table
+  pub found : source (world_of past) leaf table ≡ Ok provider.p
 
 pub offered-to : (calls : List Call) → All IsCallInForm calls → (name : List ℕ) (n : Located) (leaf : Leaf) (table : List ℕ) → node_called (world_of (past_of calls)) name ≡ Some n → n.node ≡ of_leaf leaf
     → is_among table (tables_of n.node) ≡ true → IsOfferedTo (past_of calls) n.database leaf table
-offered-to calls in_form name n leaf table called is among = record { c = c; offered = o; found = at (node_called w leaf.provider) refl }
+offered-to calls in_form name n leaf table called is among = record { provider = c; offered = o; found = at (node_called w leaf.provider) refl }
   where
     past : Past
     past = past_of calls
@@ -97,14 +97,14 @@ offered-to calls in_form name n leaf table called is among = record { c = c; off
 pub leaf_tables_are_provided : LeafTablesAreProvided
 leaf_tables_are_provided calls in_form name n leaf table called is among =
     let t : IsOfferedTo (past_of calls) n.database leaf table = offered-to calls in_form name n leaf table called is among in
-    let o : IsOffered (past_of calls) n.database t.c.p table = t.offered in
+    let o : IsOffered (past_of calls) n.database t.provider.p table = t.offered in
     record {
-      provider = t.c.p;
+      provider = t.provider.p;
       alike = ap (λ x. x >>= (λ p. refused_if (not (are_alike (columns_called table (w.database p)) (columns_called table (w.database n.database)))) (SchemaDiffers table) >> Ok p)) t.found
-          ∙ ap (λ x. refused_if (not (are_alike (option_map (λ k. columns_of k (history_in (past_of calls) t.c.p)) x) (columns_called table (w.database n.database)))) (SchemaDiffers table) >> Ok t.c.p) o.there
-          ∙ ap (λ x. refused_if (not (are_alike (Some (columns_of o.source (history_in (past_of calls) t.c.p))) (option_map (λ k. columns_of k (history_in (past_of calls) n.database)) x))) (SchemaDiffers table) >> Ok t.c.p) o.here
-          ∙ ap (λ x. refused_if (not (same_columns (columns_of o.source (history_in (past_of calls) t.c.p)) x)) (SchemaDiffers table) >> Ok t.c.p) o.columns
-          ∙ ap (λ b. refused_if (not b) (SchemaDiffers table) >> Ok t.c.p) (same-itself (columns_of o.source (history_in (past_of calls) t.c.p)));
+          ∙ ap (λ x. refused_if (not (are_alike (option_map (λ k. columns_of k (history_in (past_of calls) t.provider.p)) x) (columns_called table (w.database n.database)))) (SchemaDiffers table) >> Ok t.provider.p) o.there
+          ∙ ap (λ x. refused_if (not (are_alike (Some (columns_of o.source (history_in (past_of calls) t.provider.p))) (option_map (λ k. columns_of k (history_in (past_of calls) n.database)) x))) (SchemaDiffers table) >> Ok t.provider.p) o.here
+          ∙ ap (λ x. refused_if (not (same_columns (columns_of o.source (history_in (past_of calls) t.provider.p)) x)) (SchemaDiffers table) >> Ok t.provider.p) o.columns
+          ∙ ap (λ b. refused_if (not b) (SchemaDiffers table) >> Ok t.provider.p) (same-itself (columns_of o.source (history_in (past_of calls) t.provider.p)));
     }
   where
     w : World

@@ -121,8 +121,11 @@ settled-form d (adding name) e = absurd (cc e)
 settled-form d (listing name) e = absurd (cc e)
 settled-form d (unlisting name) e = absurd (cc e)
 settled-form d (moving name state) e = (tt, tt)
-settled-form d (removing name) e = gives-there is_settled (table_number d name) _ (λ table. (tt, each-append is_settled (given_up table name (copy_txid table d.copies))
-    (noded (leaf_removed name) ∷ tabled (read_only table false) ∷ []) (each-map is_for_copies is_settled settled-copies (given_up table name (copy_txid table d.copies)) (each-given_up table name (copy_txid table d.copies))) tt))
+settled-form d (removing name) e = gives-there is_settled (table_number d name) _ (λ table. (
+  tt,
+  each-append is_settled (given_up table name (copy_txid table d.copies))
+      (noded (leaf_removed name) ∷ tabled (read_only table false) ∷ []) (each-map is_for_copies is_settled settled-copies (given_up table name (copy_txid table d.copies)) (each-given_up table name (copy_txid table d.copies))) tt,
+))
 settled-form d (joining consumer) e = settled-consumer d (joining consumer) refl
 settled-form d (parting consumer) e = settled-consumer d (parting consumer) refl
 settled-form d (fetching consumer) e = settled-consumer d (fetching consumer) refl
@@ -324,9 +327,10 @@ module _ (past : Past) (kept : KeptProvided past) where
   kept-leaf d p name provider tick (Ok o) given root =
       let q : Past = on_top past (map (within p) o.marks) in
       suits-steps past (map (within p) o.marks ++ within d (noded (leaf_made name provider tick)) ∷ node_made d ∷ [])
-      (suit-append past (map (within p) o.marks) (within d (noded (leaf_made name provider tick)) ∷ node_made d ∷ []) (suit-marks past p o.marks given.1)
-      (λ legal _. let before = (kept (legal-under past (map (within p) o.marks) legal)).all_noded in root-marks past p o.marks provider legal before (root before),
-      (ap (λ b. is_some (node (if b then noded (leaf_made name provider tick) ∷ history_in q d else history_in q d))) (same-session d), tt))) kept
+      (suit-append past (map (within p) o.marks) (within d (noded (leaf_made name provider tick)) ∷ node_made d ∷ []) (suit-marks past p o.marks given.1) (
+        λ legal _. let before = (kept (legal-under past (map (within p) o.marks) legal)).all_noded in root-marks past p o.marks provider legal before (root before),
+        (ap (λ b. is_some (node (if b then noded (leaf_made name provider tick) ∷ history_in q d else history_in q d))) (same-session d), tt),
+      )) kept
 
   kept-create_leaf : (d : ℕ) (name provider : List ℕ) → KeptIfOk (create_leaf w d name provider)
   kept-create_leaf d name provider =

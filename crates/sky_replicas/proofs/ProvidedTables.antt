@@ -270,12 +270,12 @@ elsewhere past e mark d other a fine suits leaf = let c = a.leaves d leaf in kep
 provided-within : (past : Past) (e : ℕ) (mark : Mark) → Fine (history_in past e) mark → MarkSuits past e mark → AllProvided past → AllProvided (within e mark ∷ past)
 provided-within past e mark fine suits a = record {
   all_noded = noded-within past e mark fine a.all_noded;
-  leaves = λ d leaf. by_same (λ b. (e == d) ≡ b → is_leaf (node (if b then mark ∷ history_in past d else history_in past d)) ≡ true → HasProvider (within e mark ∷ past) d) e d
-      (λ same _ is. at past e mark d same fine suits a is) (λ _ other is. elsewhere past e mark d other a fine suits is) refl leaf;
+  leaves = λ d leaf. by_same (λ b. (e == d) ≡ b → is_leaf (node (if b then mark ∷ history_in past d else history_in past d)) ≡ true → HasProvider (within e mark ∷ past) d) e d (λ same _ is. here d same is)
+      (λ _ other is. elsewhere past e mark d other a fine suits is) refl leaf;
 }
   where
-    at : (past : Past) (e : ℕ) (mark : Mark) (d : ℕ) → e ≡ d → Fine (history_in past e) mark → MarkSuits past e mark → AllProvided past → is_leaf (node (mark ∷ history_in past d)) ≡ true → HasProvider (within e mark ∷ past) d
-    at past e mark d same fine suits a is =
+    here : (d : ℕ) → e ≡ d → is_leaf (node (mark ∷ history_in past d)) ≡ true → HasProvider (within e mark ∷ past) d
+    here d same is =
         subst (λ k. HasProvider (within k mark ∷ past) d) (sym same)
         (at-mark past d mark a (subst (λ k. Fine (history_in past k) mark) same fine) (subst (λ k. MarkSuits past k mark) same suits) is)
 

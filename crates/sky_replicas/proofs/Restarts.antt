@@ -9,4 +9,4 @@ use Rattle.sky_replicas.proofs.LeafTables.{IsOfferedTo, offered-to}
 pub restarts_begin_anew : RestartsBeginAnew
 restarts_begin_anew calls in_form name table n leaf found is among =
     let t : IsOfferedTo (past_of calls) n.database leaf table = offered-to calls in_form name n leaf table found is among in
-    is-restarted (past_of calls) name table n leaf t.c.p (legal_past calls) (kept-past calls (legal_past calls)) found is among t.found
+    is-restarted (past_of calls) name table n leaf t.provider.p (legal_past calls) (kept-past calls (legal_past calls)) found is among t.found
