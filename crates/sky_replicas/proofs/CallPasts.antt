@@ -5,13 +5,14 @@ use Rattle.sky_val.specs.declared.val.Val.{Val}
 use Rattle.sky_names.specs.Places.{place_of}
 use Rattle.sky_names.proofs.PlaceLemmas.{bytes_eq_refl}
 use Rattle.sky_txid.specs.Snapshot.{SnapshotView}
+use Rattle.londiste_state.specs.Nodes.{is_among}
 use Rattle.sky_model.specs.declared.reply.Reply.TheVariants.{Done, Null}
 use Rattle.sky_model.specs.declared.reply.Refusal.TheVariants.{TxidsSpent}
-use Rattle.sky_model.specs.History.{Mark, of_copy, began, ended, tabled, read_only, noded, leaf_removed, state_set, copied, hold_ended, History, Fact, within, in_hand, Past}
+use Rattle.sky_model.specs.History.{Mark, of_copy, began, ended, tabled, read_only, noded, leaf_removed, state_set, copied, restarted, hold_ended, History, Fact, within, in_hand, Past}
 use Rattle.sky_model.specs.Transactions.{next_txid}
 use Rattle.sky_model.specs.Copies.{copies, copy_txid, Hold, holds}
 use Rattle.sky_model.specs.Rows.{Write, table_names, columns_of, writes as writes_of}
-use Rattle.sky_model.specs.Nodes.{node}
+use Rattle.sky_model.specs.Nodes.{node, leaf_tables}
 use Rattle.sky_model.specs.State.{RowPart, part_of, after_part, Database, database_of}
 use Rattle.sky_model.specs.Outcome.{◌>>=◌, ◌>>◌, refused_if, answers, does_marks, marks_of}
 use Rattle.sky_model.specs.StepCopy.{copy_write, copy_writes, deletions, insertions, rows_now, begins_copy, all_fit, copies_rows, ends_copy, given_up}
@@ -81,6 +82,7 @@ histories-elsewhere past d (call ∷ calls) e other = histories-elsewhere (calle
 -- ---- the marks of calls for consumers
 
 quiet-if : (mark : Mark) → is_for_consumers mark ≡ true → is_quiet mark ≡ true
+quiet-if (began (of_copy n) t) e = absurd (cc)
 quiet-if (ended (of_copy n) t c) e = absurd (cc)
 quiet-if (tabled mark) e = absurd (cc)
 quiet-if (noded (copied name under tick)) e = absurd (cc)
@@ -124,7 +126,7 @@ own-begins name d table None = of (nat_le (2 ^ 62) d.part.next)
     of : (spent : Bool) → EachMark (is_own name table) (marks_of ((refused_if spent TxidsSpent >> Ok d.part.next)
         >>= (λ t. does_marks Done (began (of_copy table) t ∷ copy_writes (after_part d.part (began (of_copy table) t)) table t (deletions (rows_now d.part table))))))
     of true = tt
-    of false = own-written name (after_part d.part (began (of_copy table) d.part.next)) table d.part.next (deletions (rows_now d.part table))
+    of false = when-same table (own-written name (after_part d.part (began (of_copy table) d.part.next)) table d.part.next (deletions (rows_now d.part table)))
 
 own-rows : (name : List ℕ) (d : Database) (table : ℕ) (rows : List (List Val)) (o : Option ℕ) → EachMark (is_own name table) (marks_of (if_there o (λ t. copies_rows d table t rows)))
 own-rows name d table rows None = tt
@@ -181,6 +183,20 @@ ending-marks h name table t under tick may there runs =
     ap (λ b. marks_of (if b then call_form (database_of h) (ending_copy name under tick) else answers Null)) may
     ∙ ap (λ o. marks_of (if_there o (λ n. if_there (copy_txid n (copies h)) (λ u. ends_copy n u name under tick)))) there
     ∙ ap (λ o. marks_of (if_there o (λ u. ends_copy table u name under tick))) runs
+
+-- it is given up
+pub giving-up-marks : (h : History) (name : List ℕ) (table t : ℕ) → may_copy name (node h) ≡ true → place_of name (table_names h) ≡ Some table → copy_txid table (copies h) ≡ Some t
+    → call_marks h (giving_up_copy name) ≡ ended (of_copy table) t false ∷ noded (restarted name) ∷ []
+giving-up-marks h name table t may there runs =
+    ap (λ b. marks_of (if b then call_form (database_of h) (giving_up_copy name) else answers Null)) may
+    ∙ ap (λ o. marks_of (if_there o (λ n. does_marks Done (given_up n name (copy_txid n (copies h)))))) there
+    ∙ ap (given_up table name) runs
+
+-- the table leaves
+pub removing-marks : (h : History) (name : List ℕ) (table : ℕ) → is_among name (leaf_tables (node h)) ≡ true → place_of name (table_names h) ≡ Some table
+    → call_marks h (removing name) ≡ given_up table name (copy_txid table (copies h)) ++ noded (leaf_removed name) ∷ tabled (read_only table false) ∷ []
+removing-marks h name table serves there =
+    ap (λ b. marks_of (if b then call_form (database_of h) (removing name) else answers Null)) serves ∙ ap (λ o. marks_of (if_there o (λ n. removes (database_of h) n name))) there
 
 -- it begins
 pub beginning-marks : (h : History) (name : List ℕ) (table : ℕ) → may_copy name (node h) ≡ true → place_of name (table_names h) ≡ Some table → copy_txid table (copies h) ≡ None

@@ -1,5 +1,5 @@
 -- What is left of a copy that was given up: nothing.
-use Rattle.std.proofs.Common.{arith, ◌≡◌, ℕ, ◌==◌, cond, List, [], ◌∷◌, ◌++◌, Bool, true, false, not, ◌&&◌, ◌||◌, Option, Some, None, Ok, Err, option_map, unwrap_or, refl, sym, ap, subst, ◌∙◌, if◌then◌else◌, find}
+use Rattle.std.proofs.Common.{arith, ◌≡◌, ℕ, ◌==◌, cond, List, [], ◌∷◌, ◌++◌, Bool, true, false, not, ◌&&◌, ◌||◌, Option, Some, None, Ok, unwrap_or, refl, sym, ap, subst, ◌∙◌, if◌then◌else◌}
 use Rattle.std.specs.Option.{option_and_then}
 use Rattle.std.specs.List.{list_any}
 use Rattle.std.specs.Ordering.{eq_by_cmp}
@@ -13,27 +13,24 @@ use Rattle.sky_keys.specs.declared.version.Version.{Version}
 use Rattle.sky_keys.specs.Versions.{with_version, without, version_of, versions_at, written, unless_empty, forgotten}
 use Rattle.sky_keys.proofs.EntryLemmas.{key_ties-is, at-written, is_in_order-written, at-forgotten, is_in_order-forgotten}
 use Rattle.sky_keys.proofs.VersionLemmas.{without-none}
-use Rattle.sky_names.specs.Places.{place_of}
-use Rattle.londiste_state.specs.Nodes.{of_leaf, Leaf}
+use Rattle.londiste_state.specs.Nodes.{of_leaf, Leaf, is_among, tables_of}
 use Rattle.sky_model.specs.declared.reply.Reply.TheVariants.{Done, Null}
-use Rattle.sky_model.specs.declared.reply.Refusal.TheVariants.{NoNode}
+use Rattle.sky_model.specs.declared.reply.Refusal.TheVariants.{NoNode, NotInSet}
 use Rattle.sky_model.specs.History.{Mark, of_copy, began, ended, tabled, wrote, noded, restarted, hold_ended, History, in_hand, Past}
 use Rattle.sky_model.specs.Hands.{CopyHand}
 use Rattle.sky_model.specs.Transactions.{next_txid, has_ended}
-use Rattle.sky_model.specs.Copies.{Copy, copies, is_copied, is_copied_by, copy_txid, Hold, holds, without_hold}
-use Rattle.sky_model.specs.Rows.{table_names, is_read_only, writes as writes_of, has_written}
+use Rattle.sky_model.specs.Copies.{copies, is_copied_by, Hold, holds, without_hold}
+use Rattle.sky_model.specs.Rows.{is_read_only, writes as writes_of, has_written}
 use Rattle.sky_model.specs.Versions.{versions}
 use Rattle.sky_model.specs.Nodes.{node}
 use Rattle.sky_model.specs.State.{database_of}
-use Rattle.sky_model.specs.Outcome.{Checked, ◌>>=◌, found_or, answers, does_marks, marks_of}
-use Rattle.sky_model.specs.StepCopy.{given_up}
-use Rattle.sky_model.specs.StepNode.{letting_go, giving_up_copy, may_copy, if_there, call_form}
-use Rattle.sky_model.specs.CopyMoves.{copy_running, goes_on, leaf_state, moves_in}
-use Rattle.sky_model.specs.NodesOfWorld.{WorldOutcome}
-use Rattle.sky_model.specs.WorkersOfWorld.{move_facts, moves, source, leaf_table, restarting}
+use Rattle.sky_model.specs.Outcome.{◌>>=◌, ◌>>◌, refused_if, found_or, answers, does_marks, marks_of}
+use Rattle.sky_model.specs.StepNode.{letting_go, giving_up_copy, may_copy}
+use Rattle.sky_model.specs.CopyMoves.{copy_running, goes_on, moves_in, lets_go_for}
+use Rattle.sky_model.specs.NodesOfWorld.{Located, WorldOutcome, node_called}
+use Rattle.sky_model.specs.WorkersOfWorld.{move_facts, moves, source, leaf_table, restarting, restart_table}
 use Rattle.sky_model.specs.Settling.{marked}
 use Rattle.sky_model.specs.World.{World, world_of, history_in, hands, on_top}
-use Rattle.sky_model.specs.Calls.{past_of}
 use Rattle.sky_model.proofs.Legal.{Fine, writes, copies_row, ends_copy, Legal, legal-below_mark, fine_mark}
 use Rattle.sky_model.proofs.Snapshots.{sound, ender-unended, begun-next}
 use Rattle.sky_model.proofs.SnapshotLaws.{legal_place}
@@ -43,18 +40,18 @@ use Rattle.sky_model.proofs.RowKeys.{begun, is_in_order-versions}
 use Rattle.sky_model.proofs.RowWrites.{has_written-last_of}
 use Rattle.sky_model.proofs.KeyVersions.{kept, key_holds}
 use Rattle.sky_model.proofs.NodeDeeds.{called-there}
-use Rattle.sky_model.proofs.Histories.{legal_past}
+use Rattle.sky_model.proofs.Histories.{AllLegal}
 use Rattle.sky_model.proofs.Good.{same-session}
 use Rattle.sky_model.proofs.Cases.{by_test, by_same}
-use Rattle.sky_replicas.specs.LawsOfReplicas.{IsUndone, GivenUpCopiesLeaveNothing, IsRestarted, RestartsBeginAnew}
-use Rattle.sky_replicas.proofs.InCopyTables.{in-copy-state}
+use Rattle.sky_replicas.specs.LawsOfReplicas.{IsUndone, GivenUpCopiesLeaveNothing, InHand, IsGivenUp, IsRestarted}
 use Rattle.sky_replicas.proofs.HandsAt.{at-itself, hand-is}
-use Rattle.sky_replicas.proofs.Copying.{copy-found}
+use Rattle.sky_replicas.proofs.RunningCopies.{uncopied-idle}
 use Rattle.sky_replicas.proofs.Keeping.{Copying, Keeps}
 use Rattle.sky_replicas.proofs.Others.{each_table}
-use Rattle.sky_replicas.proofs.CallPasts.{call_marks, called, on-move, history-called, history-elsewhere}
+use Rattle.sky_replicas.proofs.CallPasts.{call_marks, called, after_calls, on-move, history-called, history-elsewhere}
 use Rattle.sky_replicas.proofs.Sources.{IsSource, source-is}
-use Rattle.sky_replicas.proofs.KeptCalls.{kept-past, leaf-is, HasSource, has-source}
+use Rattle.sky_replicas.proofs.CopySteps.{given_up-history, uncopied-given_up}
+use Rattle.sky_replicas.proofs.CopiesInHand.{found-source, in-hand}
 use Rattle.sky_replicas.proofs.LaterRows.{still-copied, ran-before, unseen}
 
 -- ---- versions of a key
@@ -207,19 +204,6 @@ has-begun (mark ∷ h) table t is = above-it mark h table t (has-begun h table t
 
 -- ---- restarts
 
-uncopied : (table : ℕ) (cs : List Copy) → is_copied table cs ≡ false → copy_txid table cs ≡ None
-uncopied table [] none = refl
-uncopied table (c ∷ cs) none =
-    by_test (λ b. (b || is_copied table cs) ≡ false → option_map Copy.txid (if b then Some c else find (λ (x : Copy). x.table == table) cs) ≡ None) (c.table == table)
-    (λ _ e. absurd (cc e)) (λ _ e. uncopied table cs e) none
-
-giving-up-marks : (h : History) (name : List ℕ) (table t : ℕ) → may_copy name (node h) ≡ true → place_of name (table_names h) ≡ Some table → copy_txid table (copies h) ≡ Some t
-    → call_marks h (giving_up_copy name) ≡ ended (of_copy table) t false ∷ noded (restarted name) ∷ []
-giving-up-marks h name table t may there runs =
-    ap (λ b. marks_of (if b then call_form (database_of h) (giving_up_copy name) else answers Null)) may
-    ∙ ap (λ o. marks_of (if_there o (λ n. does_marks Done (given_up n name (copy_txid n (copies h)))))) there
-    ∙ ap (given_up table name) runs
-
 none-left : (number : ℕ) (held : List Hold) → list_any (λ (x : Hold). x.number == number) (without_hold number held) ≡ false
 none-left number [] = refl
 none-left number (x ∷ held) =
@@ -231,24 +215,16 @@ let-go h number =
     by_test (λ b. list_any (λ (x : Hold). x.number == number) (holds (marked h (marks_of (if b then does_marks Done (noded (hold_ended number) ∷ []) else answers Null)))) ≡ false)
     (list_any (λ (x : Hold). x.number == number) (holds h)) (λ _. none-left number (holds h)) (λ none. none)
 
-is-restarted : (past : Past) (d p : ℕ) (name : List ℕ) (hand : CopyHand) → Legal (history_in past d) → IsSource past d p → Copying past d name hand
-    → IsRestarted past (in_hand d name None ∷ called (called past p (letting_go hand.hold)) d (giving_up_copy name)) d name hand
-is-restarted past d p name hand l s c = record {
-  put_down = nothing;
-  leaf = f.leaf;
-  is_leaf = f.is_leaf;
-  provider = f.provider;
-  found = f.found;
+-- a copy in hand was given up
+is-given-up : (past : Past) (d p : ℕ) (name : List ℕ) (hand : CopyHand) → Legal (history_in past d) → IsSource past d p → may_copy name (node (history_in past d)) ≡ true → InHand past d name hand
+    → IsGivenUp past (in_hand d name None ∷ called (called past p (letting_go hand.hold)) d (giving_up_copy name)) d name hand
+is-given-up past d p name hand l s may c = record {
+  was = c;
   let_go = ap (λ g. list_any (λ (x : Hold). x.number == hand.hold) (holds g)) there ∙ let-go (history_in past p) hand.hold;
-  table = c.table;
-  named = named;
   later = b.later;
   before = b.q;
-  t = c.t;
   ran = b.is;
   undone = subst (λ g. IsUndone g b.q c.table) (sym now-is) after;
-  anew = λ from. ap (λ x. moves_in x (database_of (history_in now from)) (database_of (history_in now d)) name (hands now d name)) (ap (λ g. leaf_state name (node g)) now-is ∙ in-copy-state name (node (history_in past d)) c.here.may)
-      ∙ ap (λ o. goes_on (database_of (history_in now from)) (database_of (history_in now d)) name (hands now d name) o) idle;
 }
   where
     h : History
@@ -260,68 +236,71 @@ is-restarted past d p name hand l s c = record {
     now : Past
     now = in_hand d name None ∷ called first d (giving_up_copy name)
 
-    first-d : history_in first d ≡ h
-    first-d = history-elsewhere past p (letting_go hand.hold) d s.other
-
     now-is : history_in now d ≡ noded (restarted name) ∷ ended (of_copy c.table) c.t false ∷ h
-    now-is =
-        history-called first d (giving_up_copy name) ∙ ap (λ g. marked g (call_marks g (giving_up_copy name))) first-d
-        ∙ ap (marked h) (giving-up-marks h name c.table c.t c.here.may c.here.named (copy-found h l c.table c.t c.here.runs))
+    now-is = given_up-history past d p name hand c.table c.t l s.other may c.named c.runs
 
-    f : HasSource past d p
-    f = has-source past d p s.from
+    provider-is : c.provider.database ≡ p
+    provider-is = let one : Some c.provider.database ≡ Some p = sym (found-source past d c.leaf c.provider c.is_leaf c.found) ∙ s.from in cc one
 
-    -- what stands in the provider's database
-    there : history_in now f.provider.database ≡ marked (history_in past p) (call_marks (history_in past p) (letting_go hand.hold))
+    -- what is in the provider's database
+    there : history_in now c.provider.database ≡ marked (history_in past p) (call_marks (history_in past p) (letting_go hand.hold))
     there =
-        ap (history_in now) f.is ∙ history-elsewhere first d (giving_up_copy name) p (grind (arith, nat_tests, s.other)) ∙ history-called past p (letting_go hand.hold)
+        ap (history_in now) provider-is ∙ history-elsewhere first d (giving_up_copy name) p (grind (arith, nat_tests, s.other)) ∙ history-called past p (letting_go hand.hold)
 
     b : HasBegun h c.table c.t
-    b = has-begun h c.table c.t c.here.runs
+    b = has-begun h c.table c.t c.runs
 
     after : IsUndone (noded (restarted name) ∷ ended (of_copy c.table) c.t false ∷ h) b.q c.table
     after =
         let u : IsUndone (ended (of_copy c.table) c.t false ∷ h) b.q c.table = subst (λ g. IsUndone (ended (of_copy c.table) c.t false ∷ g) b.q c.table) (sym b.is)
-        (undone c.table c.t b.q b.later (subst Legal b.is l) (ap (λ g. is_copied_by c.table c.t (copies g)) (sym b.is) ∙ c.here.runs)) in
+        (undone c.table c.t b.q b.later (subst Legal b.is l) (ap (λ g. is_copied_by c.table c.t (copies g)) (sym b.is) ∙ c.runs)) in
         record { rows_are = u.rows_are; versions_are = u.versions_are; none = u.none }
 
-    named : place_of name (table_names (history_in now d)) ≡ Some c.table
-    named = ap (λ g. place_of name (table_names g)) now-is ∙ c.here.named
-
-    nothing : hands now d name ≡ None
-    nothing = hand-is (called first d (giving_up_copy name)) d name None d name ∙ ap (λ x. if x then None else hands (called first d (giving_up_copy name)) d name) (at-itself d name)
-
-    idle : copy_running (database_of (history_in now d)) name ≡ None
-    idle =
-        ap (λ o. option_and_then (λ n. copy_txid n (copies (history_in now d))) o) named
-        ∙ ap (λ g. copy_txid c.table (copies g)) now-is ∙ uncopied c.table (copies (noded (restarted name) ∷ ended (of_copy c.table) c.t false ∷ h)) after.none
-
-pub restarts_begin_anew : RestartsBeginAnew
-restarts_begin_anew calls name table n hand outcome found has is =
-    at-leaf (leaf_table name table n.node) refl (sym (ap (λ o. found_or o (NoNode name) >>= (λ m. leaf_table name table m.node >>= (λ l. source w l table >>= (λ p. moves w p m.database table (Ok (restarting table (w.hands m.database table))))))) found) ∙ is)
+-- a restart is done, if the table is one of its provider's set
+pub is-restarted : (past : Past) (name table : List ℕ) (n : Located) (leaf : Leaf) (p : ℕ) → AllLegal past → Keeps each_table past → node_called (world_of past) name ≡ Some n → n.node ≡ of_leaf leaf
+    → is_among table (tables_of n.node) ≡ true → source (world_of past) leaf table ≡ Ok p → IsRestarted past n.database name table
+is-restarted past name table n leaf p legal k found leaf_is among from = record {
+  outcome = outcome;
+  done = done;
+  put_down = ap (λ q. hands q d table) now-is ∙ hand-is after d table None d table ∙ ap (λ b. if b then None else hands after d table) (at-itself d table);
+  given_up = λ x has.
+      subst (λ q. IsGivenUp past q d table x) (sym (now-is ∙ ap (λ o. in_hand d table None ∷ called (after_calls past p (lets_go_for o)) d (giving_up_copy table)) has))
+      (let c : Copying past d table x = k.copying d table x refl has in is-given-up past d p table x (legal d) s c.here.may (in-hand past d table x has c));
+  anew = λ q state.
+      ap (λ x. moves_in x (database_of (history_in now q)) (database_of (history_in now d)) table None) state
+      ∙ ap (goes_on (database_of (history_in now q)) (database_of (history_in now d)) table None) idle;
+}
   where
-    past : Past
-    past = past_of calls
-
     w : World
     w = world_of past
 
     d : ℕ
     d = n.database
 
-    at-source : (l : Leaf) → n.node ≡ of_leaf l → (c : Checked ℕ) → source w l table ≡ c → (c >>= (λ p. moves w p d table (Ok (restarting table (w.hands d table))))) ≡ Ok outcome
-        → IsRestarted past (on_top past outcome.facts) d table hand
-    at-source l leaf (Err refusal) from e = absurd (cc e)
-    at-source l leaf (Ok p) from e =
-        let one : record { replies = (restarting table (w.hands d table)).replies; facts = move_facts w p d table (restarting table (w.hands d table)) } ≡ outcome = cc e in
-        let stands : node (history_in past d) ≡ Some n.node = called-there w name n found in
-        let k : Keeps each_table past = kept-past calls (legal_past calls) in
-        subst (λ (o : WorldOutcome). IsRestarted past (on_top past o.facts) d table hand) one
-        (subst (λ x. IsRestarted past (on_top past (move_facts w p d table (restarting table x))) d table hand) (sym has)
-        (subst (λ q. IsRestarted past q d table hand) (sym (on-move past p d table (restarting table (Some hand))))
-        (is-restarted past d p table hand (legal_past calls d) (source-is past d p l table (stands ∙ ap Some leaf) from) (k.copying d table hand refl has))))
+    hand : Option CopyHand
+    hand = hands past d table
 
-    at-leaf : (c : Checked Leaf) → leaf_table name table n.node ≡ c → (c >>= (λ l. source w l table >>= (λ p. moves w p d table (Ok (restarting table (w.hands d table)))))) ≡ Ok outcome
-        → IsRestarted past (on_top past outcome.facts) d table hand
-    at-leaf (Err refusal) leaf e = absurd (cc e)
-    at-leaf (Ok l) leaf e = at-source l (leaf-is name table n.node l leaf) (source w l table) refl e
+    outcome : WorldOutcome
+    outcome = record { replies = Done ∷ []; facts = move_facts w p d table (restarting table hand) }
+
+    now : Past
+    now = on_top past outcome.facts
+
+    after : Past
+    after = called (after_calls past p (lets_go_for hand)) d (giving_up_copy table)
+
+    now-is : now ≡ in_hand d table None ∷ after
+    now-is = on-move past p d table (restarting table hand)
+
+    s : IsSource past d p
+    s = source-is past d p leaf table (called-there w name n found ∙ ap Some leaf_is) from
+
+    idle : copy_running (database_of (history_in now d)) table ≡ None
+    idle = ap (λ q. copy_running (database_of (history_in q d)) table) now-is ∙ uncopied-idle (history_in after d) table (uncopied-given_up past d p table hand refl (legal d) s.other k)
+
+    done : restart_table w name table ≡ Ok outcome
+    done =
+        ap (λ o. found_or o (NoNode name) >>= (λ m. leaf_table name table m.node >>= (λ l. source w l table >>= (λ q. moves w q m.database table (Ok (restarting table (w.hands m.database table))))))) found
+        ∙ ap (λ m. leaf_table name table m >>= (λ l. source w l table >>= (λ q. moves w q d table (Ok (restarting table hand))))) leaf_is
+        ∙ ap (λ b. (refused_if (not b) (NotInSet table) >> Ok leaf) >>= (λ l. source w l table >>= (λ q. moves w q d table (Ok (restarting table hand))))) (ap (λ m. is_among table (tables_of m)) (sym leaf_is) ∙ among)
+        ∙ ap (λ c. c >>= (λ q. moves w q d table (Ok (restarting table hand)))) from

@@ -1,5 +1,5 @@
 -- What holds of all copies in hand, and of all tables that have been copied, fact by fact.
-use Rattle.std.proofs.Common.{arith, ◌≡◌, ℕ, ◌==◌, List, [], ◌∷◌, ◌++◌, Bool, true, false, ◌||◌, Option, Some, None, is_some, option_map, append_assoc, refl, sym, ap, subst, ◌∙◌, if◌then◌else◌}
+use Rattle.std.proofs.Common.{arith, ◌≡◌, ℕ, ◌==◌, List, [], ◌∷◌, ◌++◌, Bool, true, false, ◌||◌, Option, Some, None, is_some, option_map, refl, sym, ap, subst, ◌∙◌, if◌then◌else◌}
 use Rattle.std.specs.Option.{option_and_then}
 use Rattle.sky_val.specs.declared.val.Val.{Val}
 use Rattle.sky_val.specs.Entries.{Entries}
@@ -7,7 +7,7 @@ use Rattle.sky_names.specs.Places.{place_of}
 use Rattle.sky_txid.specs.Ids.{contains}
 use Rattle.sky_txid.specs.Snapshot.{SnapshotView}
 use Rattle.londiste_state.specs.Nodes.{Node, node_name}
-use Rattle.sky_model.specs.History.{Mark, of_copy, ended, tabled, wrote, noded, copied, leaf_removed, state_set, hold_ended, History, Fact, within, node_made, in_hand, Past}
+use Rattle.sky_model.specs.History.{Mark, of_copy, began, ended, tabled, wrote, noded, copied, leaf_removed, state_set, hold_ended, History, Fact, within, node_made, in_hand, Past}
 use Rattle.sky_model.specs.Transactions.{snapshot}
 use Rattle.sky_model.specs.Rows.{table_names, rows, writes as writes_of, put_all}
 use Rattle.sky_model.specs.Nodes.{node}
@@ -19,20 +19,14 @@ use Rattle.sky_model.proofs.Legal.{Fine, Legal, legal-below_mark, fine_mark}
 use Rattle.sky_model.proofs.Histories.{AllLegal}
 use Rattle.sky_model.proofs.Good.{same-session}
 use Rattle.sky_model.proofs.Cases.{by_test, by_same}
+use Rattle.sky_replicas.specs.LawsOfReplicas.{CopyBegan}
 use Rattle.sky_replicas.proofs.NodeNames.{provider_of, IsNamedAs, named-stays, database_among, names_in, source_of, among-same, among-more}
 use Rattle.sky_replicas.proofs.Copying.{Runs, spares, runs-step, Holds, leaves_held, holds-step}
 use Rattle.sky_model.proofs.Snapshots.{contains-push}
 use Rattle.sky_replicas.proofs.HandsAt.{is_at, AreOne, one-at, hand-is}
+use Rattle.sky_replicas.proofs.RunningCopies.{IsCopied, begins_no_copy, copied-before}
 
--- ---- histories grow
-
-pub record Grows (h g : History) : Type 0 where
-  pub later : List Mark
-  pub is : g ≡ later ++ h
-
-pub grows : (past : Past) (fact : Fact) (d : ℕ) → Grows (history_in past d) (history_in (fact ∷ past) d)
-grows past (within e mark) d = by_test (λ b. Grows (history_in past d) (if b then mark ∷ history_in past d else history_in past d)) (e == d) (λ _. record { later = mark ∷ []; is = refl }) (λ _. record { later = []; is = refl })
-grows past _ d = record { later = []; is = refl }
+-- ---- legality goes down
 
 pub legal-before : (past : Past) (fact : Fact) → AllLegal (fact ∷ past) → AllLegal past
 legal-before past (within e mark) all d = by_test (λ b. Legal (if b then mark ∷ history_in past d else history_in past d) → Legal (history_in past d)) (e == d) (λ _ l. legal-below_mark l) (λ _ l. l) (all d)
@@ -100,21 +94,30 @@ source-made past e d p is = of (provider_of (node (history_in past d))) is
 
 -- ---- copies in hand
 
--- the copy of a table runs that a worker has in hand: it has copied the first rows, up to the last key in hand, of those of the provider's table at the
--- place whose snapshot is held for it
+-- that it began stays said
+pub began-on : {past before : Past} {d p table t hold : ℕ} {at_once : Bool} (fact : Fact) → CopyBegan past d p table t hold at_once before → CopyBegan (fact ∷ past) d p table t hold at_once before
+began-on fact b = record { later = fact ∷ b.later; is = ap (λ q. fact ∷ q) b.is }
+
+pub began-under : {past before : Past} {d p table t hold : ℕ} {at_once : Bool} (facts : List Fact) → CopyBegan past d p table t hold at_once before → CopyBegan (on_top past facts) d p table t hold at_once before
+began-under [] b = b
+began-under (fact ∷ facts) b = began-under facts (began-on fact b)
+
+-- the copy of a table runs that a worker has in hand: it has copied the first rows, up to the last key in hand, of those that the provider's table had
+-- where the snapshot was taken that is held for it
 pub record Copying (past : Past) (d : ℕ) (name : List ℕ) (hand : CopyHand) : Type 0 where
   pub p : ℕ
   pub from : source_of past d ≡ Some p
-  pub held : History
-  pub there : Holds (history_in past p) hand.hold held
-  pub source : ℕ
-  pub source_named : place_of name (table_names held) ≡ Some source
   pub table : ℕ
   pub t : ℕ
+  pub before : Past
+  pub copy_began : CopyBegan past d p table t hand.hold false before
+  pub there : Holds (history_in past p) hand.hold (history_in before p)
+  pub source : ℕ
+  pub source_named : place_of name (table_names (history_in before p)) ≡ Some source
   pub made : Entries (List Val)
   pub rest : Entries (List Val)
   pub here : Runs (history_in past d) name table t made
-  pub rows_are : rows source held ≡ made ++ rest
+  pub rows_are : rows source (history_in before p) ≡ made ++ rest
   pub last : hand.last ≡ last_key None made
 
 -- ---- tables that have been copied
@@ -122,22 +125,21 @@ pub record Copying (past : Past) (d : ℕ) (name : List ℕ) (hand : CopyHand) :
 pub record CopiedFrom (past : Past) (d : ℕ) (p : History) (name : List ℕ) (under : SnapshotView) : Type 0 where
   pub provider : ℕ
   pub from : source_of past d ≡ Some provider
-  pub held : History
-  pub grown : Grows held (history_in past provider)
-  pub taken : snapshot held ≡ under
-  pub source : ℕ
-  pub source_named : place_of name (table_names held) ≡ Some source
   pub table : ℕ
   pub t : ℕ
+  pub hold : ℕ
+  pub at_once : Bool
+  pub before : Past
+  pub copy_began : CopyBegan past d provider table t hold at_once before
+  pub taken : snapshot (history_in before provider) ≡ under
+  pub source : ℕ
+  pub source_named : place_of name (table_names (history_in before provider)) ≡ Some source
   pub below : History
   pub last : p ≡ ended (of_copy table) t true ∷ below
-  pub same : put_all (writes_of table t below) [] ≡ rows source held
+  pub same : put_all (writes_of table t below) [] ≡ rows source (history_in before provider)
 
 abbrev pub AllCopied : Past → Type 0
 AllCopied past = (d : ℕ) (later : List Mark) (p : History) (name : List ℕ) (under : SnapshotView) (tick : ℕ) → history_in past d ≡ later ++ noded (copied name under tick) ∷ p → CopiedFrom past d p name under
-
-grown-more : (held h g : History) → Grows held h → Grows h g → Grows held g
-grown-more held h g one two = record { later = two.later ++ one.later; is = two.is ∙ ap (λ x. two.later ++ x) one.is ∙ sym (append_assoc two.later one.later held) }
 
 -- a database that was found is found still
 abbrev pub StillFound : Past → Fact → ℕ → Type 0
@@ -147,13 +149,15 @@ copied-still : (past : Past) (fact : Fact) (d : ℕ) (p : History) (name : List 
 copied-still past fact d p name under still c = record {
   provider = c.provider;
   from = still c.provider c.from;
-  held = c.held;
-  grown = grown-more c.held (history_in past c.provider) (history_in (fact ∷ past) c.provider) c.grown (grows past fact c.provider);
+  table = c.table;
+  t = c.t;
+  hold = c.hold;
+  at_once = c.at_once;
+  before = c.before;
+  copy_began = began-on fact c.copy_began;
   taken = c.taken;
   source = c.source;
   source_named = c.source_named;
-  table = c.table;
-  t = c.t;
   below = c.below;
   last = c.last;
   same = c.same;
@@ -184,36 +188,60 @@ abbrev pub Apart : (ℕ → List ℕ → Bool) → Past → Type 0
 Apart among past = (d : ℕ) (name : List ℕ) (e : ℕ) (other : List ℕ) (one two : CopyHand) (p : ℕ) → among d name ≡ true → among e other ≡ true → is_at d name e other ≡ false
     → hands past d name ≡ Some one → hands past e other ≡ Some two → source_of past d ≡ Some p → source_of past e ≡ Some p → (one.hold == two.hold) ≡ false
 
+-- each copy that runs, of one of these tables, is in hand
+abbrev pub AllInHand : (ℕ → List ℕ → Bool) → Past → Type 0
+AllInHand among past = (d : ℕ) (name : List ℕ) (table : ℕ) → among d name ≡ true → IsCopied (history_in past d) name table → is_some (hands past d name) ≡ true
+
 -- what holds of what is in hand for some tables, and of all copied tables
 pub record Keeps (among : ℕ → List ℕ → Bool) (past : Past) : Type 0 where
   pub all_noded : Noded past
   pub all_copied : AllCopied past
   pub copying : (d : ℕ) (name : List ℕ) (hand : CopyHand) → among d name ≡ true → hands past d name ≡ Some hand → Copying past d name hand
   pub apart : Apart among past
+  pub running : AllInHand among past
 
 -- a mark is none by which the copy in hand would write or end, or its hold would
 pub record Passes (past : Past) (e : ℕ) (mark : Mark) (d : ℕ) (name : List ℕ) (hand : CopyHand) (c : Copying past d name hand) : Type 0 where
   pub replica : e ≡ d → spares name c.table mark ≡ true
   pub provider : e ≡ c.p → leaves_held hand.hold mark ≡ true
 
-copying-within : (past : Past) (e : ℕ) (mark : Mark) → AllLegal past → Noded past → Fine (history_in past e) mark → (d : ℕ) (name : List ℕ) (hand : CopyHand) → (c : Copying past d name hand)
-    → Passes past e mark d name hand c → Copying (within e mark ∷ past) d name hand
-copying-within past e mark legal all fine d name hand c passes = record {
+-- so it goes on after a fact that leaves what it reads
+copying-on : (past : Past) (fact : Fact) (d : ℕ) (name : List ℕ) (hand : CopyHand) (c : Copying past d name hand) → source_of (fact ∷ past) d ≡ Some c.p
+    → Holds (history_in (fact ∷ past) c.p) hand.hold (history_in c.before c.p) → Runs (history_in (fact ∷ past) d) name c.table c.t c.made → Copying (fact ∷ past) d name hand
+copying-on past fact d name hand c from there here = record {
   p = c.p;
-  from = source-within past e mark d c.p all fine c.from;
-  held = c.held;
-  there = in-history (λ h. Holds h hand.hold c.held) past e mark c.p (λ same. holds-step (history_in past c.p) mark hand.hold c.held (passes.provider same)) c.there;
-  source = c.source;
-  source_named = c.source_named;
+  from = from;
   table = c.table;
   t = c.t;
+  before = c.before;
+  copy_began = began-on fact c.copy_began;
+  there = there;
+  source = c.source;
+  source_named = c.source_named;
   made = c.made;
   rest = c.rest;
-  here = in-history (λ h. Runs h name c.table c.t c.made) past e mark d
-      (λ same. runs-step (history_in past d) (legal d) mark (subst (λ k. Fine (history_in past k) mark) same fine) name c.table c.t c.made (passes.replica same)) c.here;
+  here = here;
   rows_are = c.rows_are;
   last = c.last;
 }
+
+copying-within : (past : Past) (e : ℕ) (mark : Mark) → AllLegal past → Noded past → Fine (history_in past e) mark → (d : ℕ) (name : List ℕ) (hand : CopyHand) → (c : Copying past d name hand)
+    → Passes past e mark d name hand c → Copying (within e mark ∷ past) d name hand
+copying-within past e mark legal all fine d name hand c passes =
+    copying-on past (within e mark) d name hand c (source-within past e mark d c.p all fine c.from)
+    (in-history (λ h. Holds h hand.hold (history_in c.before c.p)) past e mark c.p (λ same. holds-step (history_in past c.p) mark hand.hold (history_in c.before c.p) (passes.provider same)) c.there)
+    (in-history (λ h. Runs h name c.table c.t c.made) past e mark d
+    (λ same. runs-step (history_in past d) (legal d) mark (subst (λ k. Fine (history_in past k) mark) same fine) name c.table c.t c.made (passes.replica same)) c.here)
+
+-- a mark begins no copy of these tables
+abbrev pub BeginsNone : (ℕ → List ℕ → Bool) → Past → ℕ → Mark → Type 0
+BeginsNone among past e mark = (name : List ℕ) (table : ℕ) → among e name ≡ true → place_of name (table_names (history_in past e)) ≡ Some table → begins_no_copy table mark ≡ true
+
+running-within : (among : ℕ → List ℕ → Bool) (past : Past) (e : ℕ) (mark : Mark) → AllLegal past → BeginsNone among past e mark → AllInHand among past → AllInHand among (within e mark ∷ past)
+running-within among past e mark legal none all d name table is =
+    in-history (λ h. IsCopied h name table → is_some (hands past d name) ≡ true) past e mark d
+    (λ same before c. before (copied-before (history_in past d) (legal d) mark name table
+    (λ at. none name table (subst (λ k. among k name ≡ true) (sym same) is) (ap (λ k. place_of name (table_names (history_in past k))) same ∙ at)) c)) (all d name table is)
 
 -- what holds as long as the histories are legal
 abbrev pub Kept : (ℕ → List ℕ → Bool) → Past → Type 0
@@ -225,8 +253,8 @@ was-source past now d name hand c still p is = c.from ∙ sym still ∙ is
 
 pub keeps-within : (among : ℕ → List ℕ → Bool) (past : Past) (e : ℕ) (mark : Mark) → (AllLegal past → Keeps among past → TellsOfCopied past e mark)
     → (AllLegal past → Keeps among past → (d : ℕ) (name : List ℕ) (hand : CopyHand) → among d name ≡ true → hands past d name ≡ Some hand → (c : Copying past d name hand) → Passes past e mark d name hand c)
-    → Kept among past → Kept among (within e mark ∷ past)
-keeps-within among past e mark tells passes kept after =
+    → BeginsNone among past e mark → Kept among past → Kept among (within e mark ∷ past)
+keeps-within among past e mark tells passes none kept after =
     let legal : AllLegal past = legal-before past (within e mark) after in
     let fine : Fine (history_in past e) mark = fine-within past e mark after in
     let k : Keeps among past = kept legal in
@@ -240,13 +268,15 @@ keeps-within among past e mark tells passes kept after =
           k.apart d name f other one two p is also differ has have
           (was-source past (within e mark ∷ past) d name one c (source-within past e mark d c.p k.all_noded fine c.from) p from)
           (was-source past (within e mark ∷ past) f other two b (source-within past e mark f b.p k.all_noded fine b.from) p comes);
+      running = running-within among past e mark legal none k.running;
     }
 
 -- ---- marks of other statements
 
--- whether a mark is none of a copy that writes or ends, of one that has ended, of a hold that ends, and of a table that leaves a leaf or goes on from
--- being copied
+-- whether a mark is none of a copy that begins, writes or ends, of one that has ended, of a hold that ends, and of a table that leaves a leaf or goes on
+-- from being copied
 abbrev pub is_quiet : Mark → Bool
+is_quiet (began (of_copy n) t) = false
 is_quiet (ended (of_copy n) t c) = false
 is_quiet (tabled (wrote (of_copy n) t m key old new)) = false
 is_quiet (noded (copied name under tick)) = false
@@ -266,6 +296,10 @@ quiet-spares name table mark e = refl
 pub quiet-held : (number : ℕ) (mark : Mark) → is_quiet mark ≡ true → leaves_held number mark ≡ true
 quiet-held number (noded (hold_ended hold)) e = absurd (cc e)
 quiet-held number mark e = refl
+
+pub quiet-begins : (table : ℕ) (mark : Mark) → is_quiet mark ≡ true → begins_no_copy table mark ≡ true
+quiet-begins table (began (of_copy n) t) e = absurd (cc e)
+quiet-begins table mark e = refl
 
 pub quiet-tells : (past : Past) (e : ℕ) (mark : Mark) → is_quiet mark ≡ true → TellsOfCopied past e mark
 quiet-tells past e (noded (copied name under tick)) is = absurd (cc is)
@@ -288,39 +322,8 @@ made-noded past e has all d there =
     by_same (λ b. (contains d (nodes past) || b) ≡ true → is_some (node (history_in past d)) ≡ true) d e
     (λ same _. subst (λ k. is_some (node (history_in past k)) ≡ true) (sym same) has) (λ _ is. all d (grind (arith, is))) (sym (contains-push d e (nodes past)) ∙ there)
 
-copying-made : (past : Past) (e d : ℕ) (name : List ℕ) (hand : CopyHand) → Copying past d name hand → Copying (node_made e ∷ past) d name hand
-copying-made past e d name hand c = record {
-  p = c.p;
-  from = source-made past e d c.p c.from;
-  held = c.held;
-  there = c.there;
-  source = c.source;
-  source_named = c.source_named;
-  table = c.table;
-  t = c.t;
-  made = c.made;
-  rest = c.rest;
-  here = c.here;
-  rows_are = c.rows_are;
-  last = c.last;
-}
-
 pub copying-handed : (past : Past) (e : ℕ) (other : List ℕ) (new : Option CopyHand) (d : ℕ) (name : List ℕ) (hand : CopyHand) → Copying past d name hand → Copying (in_hand e other new ∷ past) d name hand
-copying-handed past e other new d name hand c = record {
-  p = c.p;
-  from = c.from;
-  held = c.held;
-  there = c.there;
-  source = c.source;
-  source_named = c.source_named;
-  table = c.table;
-  t = c.t;
-  made = c.made;
-  rest = c.rest;
-  here = c.here;
-  rows_are = c.rows_are;
-  last = c.last;
-}
+copying-handed past e other new d name hand c = copying-on past (in_hand e other new) d name hand c c.from c.there c.here
 
 pub copied-beside : (past : Past) (fact : Fact) → ((d : ℕ) → history_in (fact ∷ past) d ≡ history_in past d) → ((d : ℕ) → StillFound past fact d) → AllCopied past → AllCopied (fact ∷ past)
 copied-beside past fact same still all d later p name under tick is = copied-still past fact d p name under (still d) (all d later p name under tick (sym (same d) ∙ is))
@@ -334,18 +337,19 @@ handed-same past e other hand is d name =
 pub fits-step : (among : ℕ → List ℕ → Bool) (past : Past) (fact : Fact) → FactFits past fact → Kept among past → Kept among (fact ∷ past)
 fits-step among past (within e mark) quiet kept after =
     keeps-within among past e mark (λ _ _. quiet-tells past e mark quiet)
-    (λ _ _ d name hand is has c. record { replica = λ _. quiet-spares name c.table mark quiet; provider = λ _. quiet-held hand.hold mark quiet }) kept after
+    (λ _ _ d name hand is has c. record { replica = λ _. quiet-spares name c.table mark quiet; provider = λ _. quiet-held hand.hold mark quiet }) (λ name table is at. quiet-begins table mark quiet) kept after
 fits-step among past (node_made e) has kept after =
     let k : Keeps among past = kept (legal-before past (node_made e) after) in
     record {
       all_noded = made-noded past e has k.all_noded;
       all_copied = copied-beside past (node_made e) (λ d. refl) (λ d q found. source-made past e d q found) k.all_copied;
-      copying = λ d name hand is there. copying-made past e d name hand (k.copying d name hand is there);
+      copying = λ d name hand is has. let c = k.copying d name hand is has in copying-on past (node_made e) d name hand c (source-made past e d c.p c.from) c.there c.here;
       apart = λ d name f other one two p is also differ has have from comes.
           let c = k.copying d name one is has in
           let b = k.copying f other two also have in
           k.apart d name f other one two p is also differ has have
           (was-source past (node_made e ∷ past) d name one c (source-made past e d c.p c.from) p from) (was-source past (node_made e ∷ past) f other two b (source-made past e f b.p b.from) p comes);
+      running = k.running;
     }
 fits-step among past (in_hand e other hand) same kept after =
     let k : Keeps among past = kept (legal-before past (in_hand e other hand) after) in
@@ -355,28 +359,16 @@ fits-step among past (in_hand e other hand) same kept after =
       all_copied = copied-beside past (in_hand e other hand) (λ d. refl) (λ d q found. found) k.all_copied;
       copying = λ d name h is has. copying-handed past e other hand d name h (k.copying d name h is (sym (still d name) ∙ has));
       apart = λ d name f o one two p is also differ has have from comes. k.apart d name f o one two p is also differ (sym (still d name) ∙ has) (sym (still f o) ∙ have) from comes;
+      running = λ d name table is c. ap is_some (still d name) ∙ k.running d name table is c;
     }
 fits-step among past _ fits kept after =
     let k = kept (λ d. after d) in
     record {
       all_noded = k.all_noded;
       all_copied = λ d later p name under tick is. copied-still past _ d p name under (λ q found. found) (k.all_copied d later p name under tick is);
-      copying = λ d name hand is has. let c = k.copying d name hand is has in record {
-        p = c.p;
-        from = c.from;
-        held = c.held;
-        there = c.there;
-        source = c.source;
-        source_named = c.source_named;
-        table = c.table;
-        t = c.t;
-        made = c.made;
-        rest = c.rest;
-        here = c.here;
-        rows_are = c.rows_are;
-        last = c.last;
-      };
+      copying = λ d name hand is has. let c = k.copying d name hand is has in copying-on past _ d name hand c c.from c.there c.here;
       apart = k.apart;
+      running = k.running;
     }
 
 pub fits-steps : (among : ℕ → List ℕ → Bool) (past : Past) (facts : List Fact) → FactsFit past facts → Kept among past → Kept among (on_top past facts)

@@ -14,10 +14,12 @@ use Rattle.sky_model.specs.declared.reply.Reply.{Reply}
 use Rattle.sky_model.specs.declared.reply.Reply.TheVariants.{Done, TableMoved}
 use Rattle.sky_model.specs.declared.reply.Refusal.{Refusal}
 use Rattle.sky_model.specs.declared.reply.Refusal.TheVariants.{AlreadyInSet, NodeExists, NoNode, NoTable, NotInSet, NotProvider, SchemaDiffers, TableInUse}
-use Rattle.sky_model.specs.History.{Mark, of_copy, ended, noded, copied, leaf_made, History, Fact, appeared, founded, entered, within, clock_at, node_made, in_hand, Past}
+use Rattle.sky_model.specs.History.{Mark, of_copy, ended, tabled, read_only, noded, leaf_made, leaf_removed, copied, History, Fact, appeared, founded, entered, within, clock_at, node_made, in_hand, Past}
 use Rattle.sky_model.specs.Hands.{CopyHand}
-use Rattle.sky_model.specs.Rows.{table_names, writes as writes_of, put_all}
-use Rattle.sky_model.specs.Nodes.{node}
+use Rattle.sky_model.specs.Transactions.{snapshot}
+use Rattle.sky_model.specs.Copies.{copies, copy_txid}
+use Rattle.sky_model.specs.Rows.{table_names, writes as writes_of, put_all, rows}
+use Rattle.sky_model.specs.Nodes.{node, leaf_tables}
 use Rattle.sky_model.specs.State.{Database, database_of, after_marks}
 use Rattle.sky_model.specs.Outcome.{Outcome, Checked, ◌>>=◌, ◌>>◌, refused_if, refused_by, found_or, answers}
 use Rattle.sky_model.specs.Reader.{by_past, within_database, Deed, appears}
@@ -25,6 +27,7 @@ use Rattle.sky_model.specs.Settling.{Turn, marked}
 use Rattle.sky_model.specs.Daemon.{daemon_does}
 use Rattle.sky_model.specs.Clock.{deed_in, waits_at}
 use Rattle.sky_model.specs.StepQueue.{newest_id}
+use Rattle.sky_model.specs.StepCopy.{given_up}
 use Rattle.sky_model.specs.StepNode.{NodeCall, joining, parting, removing, moving, letting_go, giving_up_copy, if_there, set_queue, joins, lists, adds, unlists, may_serve, call_form, node_does}
 use Rattle.sky_model.specs.CopyMoves.{CopyMove, copy_move, copy_consumer, lets_go_for}
 use Rattle.sky_model.specs.NodesOfWorld.{WorldOutcome, node_called, done_in, leaf_of, create_leaf, provides, are_columns, columns_called, adds_to, first_user, shows_state, Located}
@@ -42,15 +45,16 @@ use Rattle.sky_model.proofs.Good.{same-session}
 use Rattle.sky_model.proofs.CopyLaws.{copies_leave_their_rows}
 use Rattle.sky_model.proofs.StatementMarks.{EachMark, each-rest, each-given, when-true, Gives, AnyReply, after, either}
 use Rattle.sky_model.proofs.Cases.{by_test}
-use Rattle.sky_replicas.specs.LawsOfReplicas.{CopiedTablesHaveProvidersRows}
+use Rattle.sky_replicas.specs.LawsOfReplicas.{CopyBegan, CopiedTablesHaveProvidersRows}
 use Rattle.std.specs.Option.{option_and_then}
 use Rattle.sky_replicas.proofs.NodeNames.{provider_of, database_among, names_in, source_of, called-database}
+use Rattle.sky_replicas.proofs.RunningCopies.{Uncopied}
 use Rattle.sky_replicas.proofs.QuietStatements.{quiet-turn, quiet-daemon}
 use Rattle.sky_replicas.proofs.Keeping.{CopiedFrom, Copying, Keeps, Kept, is_quiet, FactsFit, fits-step, fits-steps}
-use Rattle.sky_replicas.proofs.Others.{each_table, other_than, by-before, fewer, own-free, own-marks, quiet-marks, puts-down}
-use Rattle.sky_replicas.proofs.CallPasts.{call_marks, called, after_calls, histories-elsewhere, quiet-consumer, lets-go, own-call}
+use Rattle.sky_replicas.proofs.Others.{each_table, other_than, by-before, fewer, idle-hand, own-free, own-marks, quiet-marks, puts-down}
+use Rattle.sky_replicas.proofs.CallPasts.{call_marks, called, after_calls, history-called, history-elsewhere, histories-elsewhere, quiet-consumer, lets-go, own-call, removing-marks}
 use Rattle.sky_replicas.proofs.Sources.{IsSource, source-is, alike-is}
-use Rattle.sky_replicas.proofs.CopySteps.{MoveKept, move-kept}
+use Rattle.sky_replicas.proofs.CopySteps.{MoveKept, move-kept, uncopied-removed, nothing-given_up, uncopied-given_up}
 use Rattle.sky_replicas.proofs.KeptMoves.{copy-kept}
 
 -- ---- facts that fit
@@ -131,6 +135,10 @@ module _ (past : Past) (kept : Kept each_table past) where
   if-test true refusal c holds = tt
   if-test false refusal c holds = holds
 
+  if-not : (b : Bool) (refusal : Refusal) (c : Checked WorldOutcome) → (b ≡ true → KeptIfOk c) → KeptIfOk (refused_if (not b) refusal >> c)
+  if-not true refusal c holds = holds refl
+  if-not false refusal c holds = tt
+
   if-refused : (o : Option Refusal) (c : Checked WorldOutcome) → KeptIfOk c → KeptIfOk (refused_by o >> c)
   if-refused None c holds = holds
   if-refused (Some refusal) c holds = tt
@@ -189,8 +197,9 @@ module _ (past : Past) (kept : Kept each_table past) where
       (λ _. quiet-marks q p d name (call_marks (history_in q p) (parting (copy_consumer n)))
       (each-given AnyReply is_quiet (node_does (database_of (history_in q p)) (parting (copy_consumer n))) (quiet-consumer (database_of (history_in q p)) (parting (copy_consumer n)) refl)) holds) (λ _. holds)
 
-  kept-remove : (d p table : ℕ) (name : List ℕ) (l : Leaf) → place_of name (table_names (history_in past d)) ≡ Some table → IsSource past d p → MoveKept past p d name (leaves_leaf l name (hands past d name))
-  kept-remove d p table name l named s = by-before past (move_facts w p d name (leaves_leaf l name (hands past d name))) so kept
+  kept-remove : (d p table : ℕ) (name : List ℕ) (l : Leaf) → node (history_in past d) ≡ Some (of_leaf l) → is_among name (tables_of (of_leaf l)) ≡ true
+      → place_of name (table_names (history_in past d)) ≡ Some table → IsSource past d p → MoveKept past p d name (leaves_leaf l name (hands past d name))
+  kept-remove d p table name l leaf among named s = by-before past (move_facts w p d name (leaves_leaf l name (hands past d name))) so kept
     where
       lets : List NodeCall
       lets = lets_go_for (hands past d name)
@@ -198,40 +207,53 @@ module _ (past : Past) (kept : Kept each_table past) where
       parts : List NodeCall
       parts = parts_for (Some (of_leaf l)) (option_map LeafTable.state (table_of name l))
 
+      h : History
+      h = history_in past d
+
       q : Past
       q = after_calls past p (lets ++ parts)
 
+      same : history_in q d ≡ h
+      same = histories-elsewhere past p (lets ++ parts) d s.other
+
+      now-is : history_in (called q d (removing name)) d ≡ marked h (given_up table name (copy_txid table (copies h)) ++ noded (leaf_removed name) ∷ tabled (read_only table false) ∷ [])
+      now-is =
+          history-called q d (removing name) ∙ ap (λ g. marked g (call_marks g (removing name))) same
+          ∙ ap (marked h) (removing-marks h name table (ap (λ n. is_among name (leaf_tables n)) leaf ∙ among) named)
+
       so : AllLegal past → Keeps each_table past → MoveKept past p d name (leaves_leaf l name (hands past d name))
       so legal k =
-          let there : place_of name (table_names (history_in q d)) ≡ Some table = ap (λ g. place_of name (table_names g)) (histories-elsewhere past p (lets ++ parts) d s.other) ∙ named in
+          let there : place_of name (table_names (history_in q d)) ≡ Some table = ap (λ g. place_of name (table_names g)) same ∙ named in
           move-kept past p d name (leaves_leaf l name (hands past d name))
           (puts-down d name (called q d (removing name))
+          (λ _. subst (λ g. Uncopied g name) (sym now-is) (uncopied-removed h (legal d) name table named (copy_txid table (copies h)) refl))
           (own-marks q d name table (call_marks (history_in q d) (removing name)) there (own-call (history_in q d) name table (removing name) there refl)
           (subst (Kept (other_than d name)) (sym (after-append past p lets parts))
           (kept-parts (after_calls past p lets) d p name (Some (of_leaf l)) (option_map LeafTable.state (table_of name l)) (kept-lets d p name (hands past d name) legal k refl s)))))
 
-  kept-restart : (d p : ℕ) (name : List ℕ) (hand : Option CopyHand) → hands past d name ≡ hand → IsSource past d p → MoveKept past p d name (restarting name hand)
-  kept-restart d p name None has s = fits-step each_table past (in_hand d name None) has kept
-  kept-restart d p name (Some hand) has s = by-before past (move_facts w p d name (restarting name (Some hand))) so kept
-    where
-      q : Past
-      q = called past p (letting_go hand.hold)
+  -- a copy that is given up
+  kept-gives-up : (d p : ℕ) (name : List ℕ) (hand : Option CopyHand) → hands past d name ≡ hand → IsSource past d p → AllLegal past → Keeps each_table past → MoveKept past p d name (restarting name hand)
+  kept-gives-up d p name None has s legal k =
+      move-kept past p d name (restarting name None)
+      (subst (λ q. Kept each_table (in_hand d name None ∷ q)) (sym (nothing-given_up past d name (idle-hand past d name k has))) (fits-step each_table past (in_hand d name None) has kept))
+  kept-gives-up d p name (Some hand) has s legal k =
+      let c : Copying past d name hand = k.copying d name hand refl has in
+      let q : Past = called past p (letting_go hand.hold) in
+      let there : place_of name (table_names (history_in q d)) ≡ Some c.table = ap (λ g. place_of name (table_names g)) (history-elsewhere past p (letting_go hand.hold) d s.other) ∙ c.here.named in
+      move-kept past p d name (restarting name (Some hand))
+      (puts-down d name (called q d (giving_up_copy name)) (λ _. uncopied-given_up past d p name (Some hand) has (legal d) s.other k)
+      (own-marks q d name c.table (call_marks (history_in q d) (giving_up_copy name)) there (own-call (history_in q d) name c.table (giving_up_copy name) there refl)
+      (kept-lets d p name (Some hand) legal k has s)))
 
-      so : AllLegal past → Keeps each_table past → MoveKept past p d name (restarting name (Some hand))
-      so legal k =
-          let c : Copying past d name hand = k.copying d name hand refl has in
-          let there : place_of name (table_names (history_in q d)) ≡ Some c.table =
-          ap (λ g. place_of name (table_names g)) (histories-elsewhere past p (letting_go hand.hold ∷ []) d s.other) ∙ c.here.named in
-          move-kept past p d name (restarting name (Some hand))
-          (puts-down d name (called q d (giving_up_copy name))
-          (own-marks q d name c.table (call_marks (history_in q d) (giving_up_copy name)) there (own-call (history_in q d) name c.table (giving_up_copy name) there refl)
-          (kept-lets d p name (Some hand) legal k has s)))
+  kept-restart : (d p : ℕ) (name : List ℕ) → IsSource past d p → MoveKept past p d name (restarting name (hands past d name))
+  kept-restart d p name s = by-before past (move_facts w p d name (restarting name (hands past d name))) (kept-gives-up d p name (hands past d name) refl s) kept
 
-  kept-removes : (d table : ℕ) (name : List ℕ) (n : Node) → (w.database d).node ≡ Some n → place_of name (w.database d).part.tables ≡ Some table → KeptIfOk (removes_from w d table name n)
-  kept-removes d table name (of_root r) stands there =
+  kept-removes : (d table : ℕ) (name : List ℕ) (n : Node) → (w.database d).node ≡ Some n → is_among name (tables_of n) ≡ true → place_of name (w.database d).part.tables ≡ Some table
+      → KeptIfOk (removes_from w d table name n)
+  kept-removes d table name (of_root r) stands among there =
       if-refused (option_map TableInUse (first_user w r.name name)) _ (kept-done d Done (unlists table name) (tt, tt))
-  kept-removes d table name (of_leaf l) stands there =
-      if-checked (source w l name) _ (λ p is. kept-remove d p table name l there (source-is past d p l name stands is))
+  kept-removes d table name (of_leaf l) stands among there =
+      if-checked (source w l name) _ (λ p is. kept-remove d p table name l stands among there (source-is past d p l name stands is))
 
   kept-state : (name table : List ℕ) (n : Node) → KeptIfOk (shows_state name table n)
   kept-state name table (of_root r) = tt
@@ -263,9 +285,9 @@ module _ (past : Past) (kept : Kept each_table past) where
       if-test (is_among table_name (tables_of n.node)) (AlreadyInSet table_name) _ (kept-adds n.database table table_name n.node)))
   kept-form d (RemoveTable name table_name) =
       if-found (node_called w name) (NoNode name) _ (λ n found.
-      if-test (not (is_among table_name (tables_of n.node))) (NotInSet table_name) _
-      (if-found (place_of table_name (w.database n.database).part.tables) (NoTable table_name) _ (λ table there.
-      kept-removes n.database table table_name n.node (called-there w name n found) there)))
+      if-not (is_among table_name (tables_of n.node)) (NotInSet table_name) _ (λ among.
+      if-found (place_of table_name (w.database n.database).part.tables) (NoTable table_name) _ (λ table there.
+      kept-removes n.database table table_name n.node (called-there w name n found) among there)))
   kept-form d (ShowState name table) = if-found (node_called w name) (NoNode name) _ (λ n _. kept-state name table n.node)
   kept-form d (CopyStep name table) =
       if-found (node_called w name) (NoNode name) _ (λ n found.
@@ -278,7 +300,7 @@ module _ (past : Past) (kept : Kept each_table past) where
       if-found (node_called w name) (NoNode name) _ (λ n found.
       if-checked (leaf_table name table n.node) _ (λ l leaf.
       if-checked (source w l table) _ (λ p is.
-      kept-restart n.database p table (hands past n.database table) refl (source-is past n.database p l table (called-there w name n found ∙ ap Some (leaf-is name table n.node l leaf)) is))))
+      kept-restart n.database p table (source-is past n.database p l table (called-there w name n found ∙ ap Some (leaf-is name table n.node l leaf)) is))))
   kept-form d (LondisteStep name) = if-found (node_called w name) (NoNode name) _ (λ n _. kept-steps n.database name n.node)
 
   kept-does : (who : ℕ) (c : Checked WorldOutcome) → KeptIfOk c → Kept each_table (on_top past (world_does who c).facts)
@@ -339,6 +361,7 @@ kept-none legal = record {
   all_copied = λ d later p name under tick is. absurd (nothing later p (noded (copied name under tick)) is);
   copying = λ d name hand _ has. absurd (cc has);
   apart = λ d name e other one two p _ _ _ has. absurd (cc has);
+  running = λ d name table _ c. absurd (cc c.runs);
 }
   where
     nothing : (later : List Mark) (p : History) (mark : Mark) → [] ≡ later ++ mark ∷ p → ⊥
@@ -387,13 +410,19 @@ copied_tables_have_providers_rows calls in_form database later p name under tick
       is_leaf = f.is_leaf;
       provider = f.provider;
       found = f.found;
-      later = c.grown.later;
-      held = c.held;
-      place = ap (history_in (past_of calls)) f.is ∙ c.grown.is;
-      taken = c.taken;
-      table = h.table;
-      named = h.named;
+      table = c.table;
+      named = h.named ∙ ap Some table_is;
+      t = c.t;
+      tick = tick;
+      below = c.below;
+      copy_ended = ap (λ q. noded (copied name under tick) ∷ q) c.last;
+      hold = c.hold;
+      at_once = c.at_once;
+      before = c.before;
+      copy_began = subst (λ q. CopyBegan (past_of calls) database q c.table c.t c.hold c.at_once c.before) (sym f.is) c.copy_began;
+      taken = ap (λ q. snapshot (history_in c.before q)) f.is ∙ c.taken;
       source = c.source;
-      source_named = c.source_named;
-      same = h.whole ∙ ap (λ n. put_all (writes_of n h.t p) []) table_is ∙ ap (λ n. put_all (writes_of c.table n p) []) t_is ∙ ap (λ q. put_all (writes_of c.table c.t q) []) c.last ∙ c.same;
+      source_named = ap (λ q. place_of name (table_names (history_in c.before q))) f.is ∙ c.source_named;
+      same = ap (λ n. rows n p) (sym table_is) ∙ h.whole ∙ ap (λ n. put_all (writes_of n h.t p) []) table_is ∙ ap (λ n. put_all (writes_of c.table n p) []) t_is ∙ ap (λ q. put_all (writes_of c.table c.t q) []) c.last
+          ∙ c.same ∙ ap (λ q. rows c.source (history_in c.before q)) (sym f.is);
     }

@@ -1,5 +1,6 @@
 -- What `copy_step` keeps.
-use Rattle.std.proofs.Common.{arith, ◌≡◌, ℕ, ◌==◌, ◌^◌, nat_le, nat_lt, List, [], ◌∷◌, ◌++◌, map, length, take, drop, Bool, true, false, Option, Some, None, Ok, IfOk, option_map, option_and_then, unwrap_or, append-nil, take-append-drop, refl, sym, ap, subst, ◌∙◌, if◌then◌else◌}
+use Rattle.std.proofs.Common.{arith, ◌≡◌, ℕ, ◌==◌, ◌^◌, nat_le, nat_lt, List, [], ◌∷◌, ◌++◌, map, length, take, drop, Bool, true, false, ◌||◌, Option, Some, None, Ok, IfOk, option_map, option_and_then, unwrap_or, find, append-nil, take-append-drop, refl, sym, ap, subst, ◌∙◌, if◌then◌else◌}
+use Rattle.std.specs.List.{list_any}
 use Rattle.std.proofs.lemmas.Bool.Decides.{nat_tests}
 use Rattle.sky_val.specs.declared.val.Val.{Val}
 use Rattle.sky_val.specs.Entries.{Entries, is_in_order}
@@ -9,18 +10,19 @@ use Rattle.sky_txid.specs.Snapshot.{SnapshotView}
 use Rattle.londiste_state.specs.declared.state.TableState.{TableState}
 use Rattle.londiste_state.specs.declared.state.TableState.TheVariants.{Absent, InCopy, CatchingUp, Synced}
 use Rattle.londiste_state.specs.Nodes.{Node, of_root, of_leaf, LeafTable, table_of}
-use Rattle.sky_model.specs.declared.reply.Reply.TheVariants.{TableMoved, RowsCopied, AwaitsTable, Idle}
+use Rattle.sky_model.specs.declared.reply.Reply.TheVariants.{Done, Null, TableMoved, RowsCopied, AwaitsTable, Idle}
 use Rattle.sky_model.specs.declared.reply.Refusal.TheVariants.{IdsSpent, TooMany, TxidsSpent}
 use Rattle.sky_model.specs.declared.reply.Limit.TheVariants.{Consumers}
-use Rattle.sky_model.specs.History.{Mark, queued, noded, joined, parted, History, within, Past}
+use Rattle.sky_model.specs.History.{Mark, of_copy, began, queued, noded, joined, parted, hold_begun, hold_ended, History, within, Past}
 use Rattle.sky_model.specs.Hands.{CopyHand}
 use Rattle.sky_model.specs.Transactions.{next_txid, snapshot}
 use Rattle.sky_model.specs.Copies.{copies, copy_txid, Hold, holds, least_free}
 use Rattle.sky_model.specs.Rows.{table_names, columns_of, rows}
 use Rattle.sky_model.specs.Nodes.{node}
-use Rattle.sky_model.specs.State.{part_of, Database, database_of}
+use Rattle.sky_model.specs.State.{part_of, after_part, Database, database_of}
 use Rattle.sky_model.specs.ShownRows.{snapshot_now}
-use Rattle.sky_model.specs.Outcome.{Checked, ◌>>=◌, ◌>>◌, refused_if}
+use Rattle.sky_model.specs.Outcome.{Checked, ◌>>=◌, ◌>>◌, refused_if, answers, does_marks, marks_of}
+use Rattle.sky_model.specs.StepCopy.{copy_writes, deletions, rows_now}
 use Rattle.sky_model.specs.StepConsumer.{sub_ids_spent}
 use Rattle.sky_model.specs.StepNode.{NodeCall, joining, parting, holding, letting_go, beginning_copy, copying_rows, ending_copy, is_full, is_in_copy, may_copy, node_does}
 use Rattle.sky_model.specs.CopyMoves.{CopyMove, piece_size, held_snapshot, rows_from, rows_of, last_key, copies_piece, next_piece, behind_calls, copy_consumer, first_hand, starts_copy, copy_running, under_way, continues, goes_on, leaf_state, moves_in, copy_move}
@@ -31,17 +33,18 @@ use Rattle.sky_model.proofs.Histories.{AllLegal}
 use Rattle.sky_model.proofs.Good.{same-session}
 use Rattle.sky_model.proofs.LeastNumbers.{least-free}
 use Rattle.sky_model.proofs.NodeCalls.{is_for_consumers, gives-consumers}
-use Rattle.sky_model.proofs.StatementMarks.{EachMark, each-given, each-rest, AnyReply}
+use Rattle.sky_model.proofs.StatementMarks.{EachMark, each-given, each-rest, Gives, AnyReply}
 use Rattle.sky_model.proofs.Cases.{by_test, by_same}
+use Rattle.sky_replicas.specs.LawsOfReplicas.{let_go_if, CopyBegan}
 use Rattle.sky_replicas.proofs.Pieces.{last_key-append, all-taken}
 use Rattle.sky_replicas.proofs.FittingRows.{AllFit, fit-front, fit-back}
 use Rattle.sky_replicas.proofs.HeldRows.{piece-is, held-fit, rows-in-order}
 use Rattle.sky_replicas.proofs.Sources.{IsAlike}
 use Rattle.sky_replicas.proofs.Copying.{Holds, held_at}
-use Rattle.sky_replicas.proofs.Keeping.{Grows, Copying, Keeps, Kept, is_quiet}
-use Rattle.sky_replicas.proofs.Others.{each_table, other_than, by-before, legal-under, fewer, Free, own-free, KeptFree, is_own, own-marks, own-marks-free, quiet-marks, quiet-marks-free, puts-down}
-use Rattle.sky_replicas.proofs.CallPasts.{call_marks, called, after_calls, history-called, history-elsewhere, quiet-consumer, lets-go, own-call}
-use Rattle.sky_replicas.proofs.CopySteps.{grows-more, grows-marks, StillFrom, still-marks, MoveKept, move-kept, prints-kept, AtCopy, at-copy, Begins, begins, ends, goes}
+use Rattle.sky_replicas.proofs.Keeping.{began-under, Copying, Keeps, Kept, is_quiet}
+use Rattle.sky_replicas.proofs.Others.{each_table, other_than, by-before, legal-under, fewer, Free, own-free, KeptFree, is_own, own-marks, own-marks-free, quiet-marks, quiet-marks-free}
+use Rattle.sky_replicas.proofs.CallPasts.{call_marks, called, history-called, history-elsewhere, quiet-consumer, lets-go, own-call, beginning-marks}
+use Rattle.sky_replicas.proofs.CopySteps.{StillFrom, still-marks, MoveKept, move-kept, prints-kept, AtCopy, at-copy, Begins, begins, Source, ends, goes}
 
 -- the first rows of some, and the others
 record Cut (n : ℕ) (es : Entries (List Val)) : Type 0 where
@@ -86,14 +89,26 @@ module _ (past : Past) (d p : ℕ) (name : List ℕ) (hand : CopyHand) (under : 
   same-p : c.p ≡ p
   same-p = let one : Some c.p ≡ Some p = sym c.from ∙ alike.source.from in cc one
 
-  there : Holds (history_in past p) hand.hold c.held
-  there = subst (λ q. Holds (history_in past q) hand.hold c.held) same-p c.there
+  abbrev held : History
+  held = history_in c.before p
 
-  under-is : under ≡ snapshot c.held
-  under-is = let one : Some under ≡ Some (snapshot c.held) = sym is_held ∙ there.is in cc one
+  there : Holds (history_in past p) hand.hold held
+  there = subst (λ q. Holds (history_in past q) hand.hold (history_in c.before q)) same-p c.there
 
-  fit-there : (place_of name (table_names (history_in past p)) ≡ Some c.source) × AllFit (columns_of c.source (history_in past p)) (rows c.source c.held)
-  fit-there = held-fit (history_in past p) (legal p) there.later c.held there.place name c.source c.source_named
+  source : Source past d p name c.table c.t hand.hold false c.before c.source
+  source = record {
+    copy_began = subst (λ q. CopyBegan past d q c.table c.t hand.hold false c.before) same-p c.copy_began;
+    named = ap (λ q. place_of name (table_names (history_in c.before q))) (sym same-p) ∙ c.source_named;
+  }
+
+  rows-held : rows c.source held ≡ c.made ++ c.rest
+  rows-held = ap (λ q. rows c.source (history_in c.before q)) (sym same-p) ∙ c.rows_are
+
+  under-is : under ≡ snapshot held
+  under-is = let one : Some under ≡ Some (snapshot held) = sym is_held ∙ there.is in cc one
+
+  fit-there : (place_of name (table_names (history_in past p)) ≡ Some c.source) × AllFit (columns_of c.source (history_in past p)) (rows c.source held)
+  fit-there = held-fit (history_in past p) (legal p) there.later held there.place name c.source source.named
 
   columns-are : columns_of c.source (history_in past p) ≡ columns_of c.table (history_in past d)
   columns-are =
@@ -111,11 +126,11 @@ module _ (past : Past) (d p : ℕ) (name : List ℕ) (hand : CopyHand) (under : 
       by_test (λ b. nat_lt (length piece) piece_size ≡ b → MoveKept past p d name (if b then last_move name under hand piece else next_move name hand piece)) (nat_lt (length piece) piece_size)
       (λ _ less. last-piece (all less)) (λ _ _. next-piece) refl
     where
-      rows-are : rows c.source c.held ≡ c.made ++ (piece ++ others)
-      rows-are = c.rows_are ∙ ap (λ x. c.made ++ x) cut_is
+      rows-are : rows c.source held ≡ c.made ++ (piece ++ others)
+      rows-are = rows-held ∙ ap (λ x. c.made ++ x) cut_is
 
       order : is_in_order (c.made ++ (piece ++ others)) ≡ true
-      order = ap is_in_order (sym rows-are) ∙ rows-in-order c.source c.held
+      order = ap is_in_order (sym rows-are) ∙ rows-in-order c.source held
 
       fits : AllFit (columns_of c.table (history_in past d)) piece
       fits = fit-front (columns_of c.table (history_in past d)) piece others
@@ -133,21 +148,17 @@ module _ (past : Past) (d p : ℕ) (name : List ℕ) (hand : CopyHand) (under : 
       last-piece : others ≡ [] → MoveKept past p d name (last_move name under hand piece)
       last-piece none =
           move-kept past p d name (last_move name under hand piece)
-          (puts-down d name (after_calls first d (copying_rows name (rows_of piece) ∷ ending_copy name under hand.tick ∷ []))
-          (ends first d p name c.table c.t c.made piece c.held c.source under hand.tick
+          (ends first d p name c.table c.t hand.hold false c.made piece c.before c.source under hand.tick
           (subst (λ g. AtCopy g name c.table c.t c.made) still-here at) (subst (λ g. AllFit (columns_of c.table g) piece) still-here fits)
           (subst (λ x. is_in_order (c.made ++ (piece ++ x)) ≡ true) none order)
-          (record {
-            grown = grows-more c.held (history_in past p) (history_in first p) (record { later = there.later; is = there.place }) (grows-marks past p (call_marks (history_in past p) (letting_go hand.hold)) p);
-            named = c.source_named;
-          })
+          (record { copy_began = began-under (map (within p) (call_marks (history_in past p) (letting_go hand.hold))) source.copy_began; named = source.named })
           (sym under-is) (rows-are ∙ ap (λ x. c.made ++ x) (ap (λ x. piece ++ x) none ∙ append-nil piece))
-          (still-called past p (letting_go hand.hold) d p (λ _. record { all = k.all_noded; from = alike.source.from })) (lets-go p d name hand.hold past free)))
+          (still-called past p (letting_go hand.hold) d p (λ _. record { all = k.all_noded; from = alike.source.from })) (lets-go p d name hand.hold past free))
 
       next-piece : MoveKept past p d name (next_move name hand piece)
       next-piece =
           move-kept past p d name (next_move name hand piece)
-          (goes past d p name c.table c.t c.made piece others c.held c.source (record hand { last = last_key hand.last piece }) alike.source.other at fits order there c.source_named rows-are
+          (goes past d p name c.table c.t c.made piece others c.before c.source (record hand { last = last_key hand.last piece }) alike.source.other at fits order there source rows-are
           (ap (λ o. last_key o piece) c.last ∙ sym (last_key-append None c.made piece)) (λ _. record { all = k.all_noded; from = alike.source.from }) free)
 
   pub continue-kept : MoveKept past p d name (next_piece (database_of (history_in past p)) name under hand)
@@ -155,21 +166,37 @@ module _ (past : Past) (d p : ℕ) (name : List ℕ) (hand : CopyHand) (under : 
       let x : Cut piece_size c.rest = cut piece_size c.rest in
       subst (λ rs. MoveKept past p d name (copies_piece name under hand rs))
       (sym (ap (λ s. rows_from (database_of (history_in past p)) name s hand.last piece_size) under-is
-      ∙ piece-is (history_in past p) (legal p) there.later c.held there.place name c.source c.source_named c.made c.rest c.rows_are hand.last c.last piece_size ∙ x.taken))
+      ∙ piece-is (history_in past p) (legal p) there.later held there.place name c.source source.named c.made c.rest rows-held hand.last c.last piece_size ∙ x.taken))
       (continue-piece x.piece x.others x.is x.all)
 
 -- ---- a copy begins
 
--- calls for consumers leave holds and the snapshot as they are
+-- calls for consumers leave holds, the snapshot, the tables' names and their rows as they are
 record IsAsRead (h g : History) : Type 0 where
   holds_are : holds g ≡ holds h
   snapshot_is : snapshot g ≡ snapshot h
+  names_are : table_names g ≡ table_names h
+  rows_are : (table : ℕ) → rows table g ≡ rows table h
+
+as-before : (h g f : History) → IsAsRead h g → IsAsRead g f → IsAsRead h f
+as-before h g f one two = record {
+  holds_are = two.holds_are ∙ one.holds_are;
+  snapshot_is = two.snapshot_is ∙ one.snapshot_is;
+  names_are = two.names_are ∙ one.names_are;
+  rows_are = λ table. two.rows_are table ∙ one.rows_are table;
+}
+
+same-read : {h g : History} → holds g ≡ holds h → snapshot g ≡ snapshot h → table_names g ≡ table_names h → ((table : ℕ) → rows table g ≡ rows table h) → IsAsRead h g
+same-read holds_are snapshot_is names_are rows_are = record { holds_are = holds_are; snapshot_is = snapshot_is; names_are = names_are; rows_are = rows_are }
 
 consumers-same : (h : History) (marks : List Mark) → EachMark is_for_consumers marks → IsAsRead h (marked h marks)
-consumers-same h [] each = record { holds_are = refl; snapshot_is = refl }
-consumers-same h (queued mark ∷ marks) each = (let rest = consumers-same (queued mark ∷ h) marks (each-rest is_for_consumers (queued mark) marks each) in record { holds_are = rest.holds_are; snapshot_is = rest.snapshot_is })
-consumers-same h (noded (joined consumer) ∷ marks) each = (let rest = consumers-same (noded (joined consumer) ∷ h) marks each in record { holds_are = rest.holds_are; snapshot_is = rest.snapshot_is })
-consumers-same h (noded (parted consumer) ∷ marks) each = (let rest = consumers-same (noded (parted consumer) ∷ h) marks each in record { holds_are = rest.holds_are; snapshot_is = rest.snapshot_is })
+consumers-same h [] each = same-read refl refl refl (λ table. refl)
+consumers-same h (queued mark ∷ marks) each =
+    as-before h (queued mark ∷ h) (marked (queued mark ∷ h) marks) (same-read refl refl refl (λ table. refl)) (consumers-same (queued mark ∷ h) marks (each-rest is_for_consumers (queued mark) marks each))
+consumers-same h (noded (joined consumer) ∷ marks) each =
+    as-before h (noded (joined consumer) ∷ h) (marked (noded (joined consumer) ∷ h) marks) (same-read refl refl refl (λ table. refl)) (consumers-same (noded (joined consumer) ∷ h) marks each)
+consumers-same h (noded (parted consumer) ∷ marks) each =
+    as-before h (noded (parted consumer) ∷ h) (marked (noded (parted consumer) ∷ h) marks) (same-read refl refl refl (λ table. refl)) (consumers-same (noded (parted consumer) ∷ h) marks each)
 consumers-same h (_ ∷ marks) each = absurd each
 
 held-none : (n : ℕ) (hs : List Hold) → contains n (map Hold.number hs) ≡ false → held_at n hs ≡ None
@@ -179,6 +206,12 @@ held-none n (x ∷ hs) none = grind (arith, nat_tests, none, held-none n hs)
 held-last : (n : ℕ) (hs : List Hold) (s : SnapshotView) → contains n (map Hold.number hs) ≡ false → held_at n (hs ++ record { number = n; snapshot = s } ∷ []) ≡ Some s
 held-last n [] s none = ap (λ b. option_map Hold.snapshot (if b then Some (record { number = n; snapshot = s }) else None)) (same-session n)
 held-last n (x ∷ hs) s none = grind (arith, nat_tests, none, held-last n hs s)
+
+held-some : (n : ℕ) (hs : List Hold) (s : SnapshotView) → held_at n hs ≡ Some s → list_any (λ (x : Hold). x.number == n) hs ≡ true
+held-some n [] s is = absurd (cc is)
+held-some n (x ∷ hs) s is =
+    by_test (λ b. option_map Hold.snapshot (if b then Some x else find (λ (y : Hold). y.number == n) hs) ≡ Some s → (b || list_any (λ (y : Hold). y.number == n) hs) ≡ true) (x.number == n)
+    (λ _ _. refl) (λ _ rest. held-some n hs s rest) is
 
 module _ (past : Past) (d p : ℕ) (name consumer : List ℕ) (legal : AllLegal past) (k : Keeps each_table past)
     (alike : IsAlike past d p name) (may : may_copy name (node (history_in past d)) ≡ true) (none : copy_txid alike.table (copies (history_in past d)) ≡ None)
@@ -198,17 +231,17 @@ module _ (past : Past) (d p : ℕ) (name consumer : List ℕ) (legal : AllLegal 
   abbrev hand : CopyHand
   hand = first_hand (database_of (history_in past p))
 
+  -- after one call
+  read-called : (q : Past) (call : NodeCall) → Gives AnyReply is_for_consumers (node_does (database_of (history_in q p)) call) → IsAsRead (history_in q p) (history_in (called q p call) p)
+  read-called q call gives =
+      subst (IsAsRead (history_in q p)) (sym (history-called q p call))
+      (consumers-same (history_in q p) (call_marks (history_in q p) call) (each-given AnyReply is_for_consumers (node_does (database_of (history_in q p)) call) gives))
+
   as-read : IsAsRead (history_in past p) (history_in second p)
   as-read =
-      let one = consumers-same (history_in past p) (call_marks (history_in past p) (parting consumer))
-      (each-given AnyReply is_for_consumers (node_does (database_of (history_in past p)) (parting consumer)) (gives-consumers (database_of (history_in past p)) (parting consumer) refl)) in
-      let two = consumers-same (history_in (called past p (parting consumer)) p) (call_marks (history_in (called past p (parting consumer)) p) (joining consumer))
-      (each-given AnyReply is_for_consumers (node_does (database_of (history_in (called past p (parting consumer)) p)) (joining consumer))
-      (gives-consumers (database_of (history_in (called past p (parting consumer)) p)) (joining consumer) refl)) in
-      record {
-        holds_are = ap holds (history-called (called past p (parting consumer)) p (joining consumer)) ∙ two.holds_are ∙ ap holds (history-called past p (parting consumer)) ∙ one.holds_are;
-        snapshot_is = ap snapshot (history-called (called past p (parting consumer)) p (joining consumer)) ∙ two.snapshot_is ∙ ap snapshot (history-called past p (parting consumer)) ∙ one.snapshot_is;
-      }
+      as-before (history_in past p) (history_in first p) (history_in second p)
+      (read-called past (parting consumer) (gives-consumers (database_of (history_in past p)) (parting consumer) refl))
+      (read-called first (joining consumer) (gives-consumers (database_of (history_in first p)) (joining consumer) refl))
 
   second-d : history_in second d ≡ history_in past d
   second-d = history-elsewhere first p (joining consumer) d alike.source.other ∙ history-elsewhere past p (parting consumer) d alike.source.other
@@ -240,27 +273,34 @@ module _ (past : Past) (d p : ℕ) (name consumer : List ℕ) (legal : AllLegal 
           let x : Copying second e other theirs = (kept-second after).copying e other theirs differ has in
           let one : Some x.p ≡ Some p = sym x.from ∙ from in
           let q : x.p ≡ p = cc one in
-          let held : held_at theirs.hold (holds (history_in second p)) ≡ Some (snapshot x.held) = ap (λ r. held_at theirs.hold (holds (history_in second r))) (sym q) ∙ x.there.is in
+          let held : held_at theirs.hold (holds (history_in second p)) ≡ Some (snapshot (history_in x.before x.p)) = ap (λ r. held_at theirs.hold (holds (history_in second r))) (sym q) ∙ x.there.is in
           absurd (cc (sym (held-none hand.hold (holds (history_in second p)) new) ∙ ap (λ n. held_at n (holds (history_in second p))) same ∙ held))) (λ _. refl)
 
   free-third : KeptFree p d name hand.hold third
   free-third = quiet-marks-free p hand.hold second p d name (call_marks (history_in second p) holding) tt free-second
 
-  grown-third : Grows (history_in past p) (history_in third p)
-  grown-third =
-      grows-more (history_in past p) (history_in second p) (history_in third p)
-      (grows-more (history_in past p) (history_in first p) (history_in second p) (grows-marks past p (call_marks (history_in past p) (parting consumer)) p) (grows-marks first p (call_marks (history_in first p) (joining consumer)) p))
-      (grows-marks second p (call_marks (history_in second p) holding) p)
+  -- it is held, with the snapshot and the rows of the table as they were read
+  abbrev taken_at : History
+  taken_at = history_in second p
 
-  held-third : held_at hand.hold (holds (history_in third p)) ≡ Some (snapshot (history_in past p))
+  held-third : held_at hand.hold (holds (history_in third p)) ≡ Some (snapshot taken_at)
   held-third =
       ap (λ g. held_at hand.hold (holds g)) (history-called second p holding)
-      ∙ ap (λ n. held_at hand.hold (holds (history_in second p) ++ record { number = n; snapshot = snapshot (history_in second p) } ∷ [])) number-is
-      ∙ held-last hand.hold (holds (history_in second p)) (snapshot (history_in second p)) new
-      ∙ ap Some as-read.snapshot_is
+      ∙ ap (λ n. held_at hand.hold (holds taken_at ++ record { number = n; snapshot = snapshot taken_at } ∷ [])) number-is
+      ∙ held-last hand.hold (holds taken_at) (snapshot taken_at) new
 
-  held-there : Holds (history_in third p) hand.hold (history_in past p)
-  held-there = record { later = grown-third.later; place = grown-third.is; is = held-third }
+  held-there : Holds (history_in third p) hand.hold taken_at
+  held-there = record { later = noded (hold_begun (least_free (map Hold.number (holds taken_at)))) ∷ []; place = history-called second p holding; is = held-third }
+
+  named-held : place_of name (table_names taken_at) ≡ Some alike.number
+  named-held = ap (place_of name) as-read.names_are ∙ alike.there
+
+  third-is : third ≡ within p (noded (hold_begun hand.hold)) ∷ second
+  third-is = ap (λ n. within p (noded (hold_begun n)) ∷ second) number-is
+
+  -- so it is no longer, if it is let go at once
+  let-go : called third p (letting_go hand.hold) ≡ within p (noded (hold_ended hand.hold)) ∷ third
+  let-go = ap (λ b. on_top third (map (within p) (marks_of (if b then does_marks Done (noded (hold_ended hand.hold) ∷ []) else answers Null)))) (held-some hand.hold (holds (history_in third p)) (snapshot taken_at) held-third)
 
   from-third : AllLegal third → StillFrom third d p
   from-third =
@@ -279,6 +319,15 @@ module _ (past : Past) (d p : ℕ) (name consumer : List ℕ) (legal : AllLegal 
       subst (λ g. Begins (history_in past d) g name alike.table)
       (ap (λ g. marked g (call_marks g (beginning_copy name))) (sym same) ∙ sym (history-called q d (beginning_copy name)))
       (begins (history_in past d) (legal d) name alike.table may alike.here none unspent)
+
+  -- the copy begins right then
+  began-at : (q : Past) (at_once : Bool) → history_in q d ≡ history_in past d → q ≡ let_go_if at_once p hand.hold ++ within p (noded (hold_begun hand.hold)) ∷ second
+      → CopyBegan (called q d (beginning_copy name)) d p alike.table t hand.hold at_once second
+  began-at q at_once same is =
+      subst (λ ms. CopyBegan (on_top q (map (within d) ms)) d p alike.table t hand.hold at_once second)
+      (sym (ap (λ g. call_marks g (beginning_copy name)) same ∙ beginning-marks (history_in past d) name alike.table may alike.here none unspent))
+      (began-under (map (within d) (copy_writes (after_part (part_of (history_in past d)) (began (of_copy alike.table) t)) alike.table t (deletions (rows_now (part_of (history_in past d)) alike.table))))
+      (record { later = []; is = ap (λ x. within d (began (of_copy alike.table) t) ∷ x) is }))
 
   all-fit : AllFit (columns_of alike.table (history_in past d)) (rows alike.number (history_in past p))
   all-fit = subst (λ cs. AllFit cs (rows alike.number (history_in past p))) (sym alike.columns) (held-fit (history_in past p) (legal p) [] (history_in past p) refl name alike.number alike.there).1
@@ -305,17 +354,11 @@ module _ (past : Past) (d p : ℕ) (name consumer : List ℕ) (legal : AllLegal 
       last-piece : others ≡ [] → MoveKept past p d name (behind_calls (parting consumer ∷ joining consumer ∷ holding ∷ []) (beginning_copy name ∷ []) (last_move name under hand piece))
       last-piece no_more =
           move-kept past p d name (behind_calls (parting consumer ∷ joining consumer ∷ holding ∷ []) (beginning_copy name ∷ []) (last_move name under hand piece))
-          (puts-down d name (after_calls fifth d (copying_rows name (rows_of piece) ∷ ending_copy name under hand.tick ∷ []))
-          (ends fifth d p name alike.table t [] piece (history_in past p) alike.number under hand.tick start.at
+          (ends fifth d p name alike.table t hand.hold true [] piece second alike.number under hand.tick start.at
           (subst (λ cs. AllFit cs piece) (sym start.columns) fits) (subst (λ x. is_in_order (piece ++ x) ≡ true) no_more order)
-          (record {
-            grown = grows-more (history_in past p) (history_in fourth p) (history_in fifth p)
-                (grows-more (history_in past p) (history_in third p) (history_in fourth p) grown-third (grows-marks third p (call_marks (history_in third p) (letting_go hand.hold)) p))
-                (grows-marks fourth d (call_marks (history_in fourth d) (beginning_copy name)) p);
-            named = alike.there;
-          })
-          refl (rows-are ∙ ap (λ x. piece ++ x) no_more ∙ append-nil piece)
-          (still-called fourth d (beginning_copy name) d p (still-called third p (letting_go hand.hold) d p from-third)) kept-fifth))
+          (record { copy_began = began-at fourth true fourth-d (let-go ∙ ap (λ q. within p (noded (hold_ended hand.hold)) ∷ q) third-is); named = named-held })
+          as-read.snapshot_is (as-read.rows_are alike.number ∙ rows-are ∙ ap (λ x. piece ++ x) no_more ∙ append-nil piece)
+          (still-called fourth d (beginning_copy name) d p (still-called third p (letting_go hand.hold) d p from-third)) kept-fifth)
         where
           fourth : Past
           fourth = called third p (letting_go hand.hold)
@@ -337,9 +380,10 @@ module _ (past : Past) (d p : ℕ) (name consumer : List ℕ) (legal : AllLegal 
       next-piece : MoveKept past p d name (behind_calls (parting consumer ∷ joining consumer ∷ holding ∷ []) (beginning_copy name ∷ []) (next_move name hand piece))
       next-piece =
           move-kept past p d name (behind_calls (parting consumer ∷ joining consumer ∷ holding ∷ []) (beginning_copy name ∷ []) (next_move name hand piece))
-          (goes fourth d p name alike.table t [] piece others (history_in past p) alike.number (record hand { last = last_key hand.last piece }) alike.source.other start.at
+          (goes fourth d p name alike.table t [] piece others second alike.number (record hand { last = last_key hand.last piece }) alike.source.other start.at
           (subst (λ cs. AllFit cs piece) (sym start.columns) fits) order
-          (subst (λ g. Holds g hand.hold (history_in past p)) (sym (history-elsewhere third d (beginning_copy name) p apart)) held-there) alike.there rows-are refl
+          (subst (λ g. Holds g hand.hold taken_at) (sym (history-elsewhere third d (beginning_copy name) p apart)) held-there)
+          (record { copy_began = began-at third false third-d third-is; named = named-held }) (as-read.rows_are alike.number ∙ rows-are) refl
           (still-called third d (beginning_copy name) d p from-third) free-fourth)
         where
           fourth : Past

@@ -24,7 +24,7 @@ use Rattle.sky_model.specs.Rows.{put_all, own_writes}
 use Rattle.sky_model.specs.World.{history_in}
 use Rattle.sky_model.proofs.RowSights.{Since, here, later as above_it, place-since}
 use Rattle.sky_model.proofs.Cases.{by_test, by_same}
-use Rattle.sky_replicas.specs.LawsOfReplicas.{HasProvidersRows, rows_since, ShowsProvidersRows, ReplicasShowProvidersRows, SessionsSeeProvidersRows, CopiesAreUnseen}
+use Rattle.sky_replicas.specs.LawsOfReplicas.{HasProvidersRows, copied_rows, rows_since, ShowsProvidersRows, ReplicasShowProvidersRows, SessionsSeeProvidersRows, CopiesAreUnseen}
 use Rattle.sky_replicas.proofs.HeldRows.{rows-in-order}
 use Rattle.sky_replicas.proofs.KeptCalls.{copied_tables_have_providers_rows}
 
@@ -91,7 +91,7 @@ sessions_see_providers_rows calls in_form database above h who newer p name unde
     let s : ShowsProvidersRows (past_of calls) database newer place name under = replicas_show_providers_rows calls in_form database (above ++ a.more) newer p name under tick whole in
     record {
       copy = s.copy;
-      shown = shown-by (own_writes s.copy.table (own_txid who h) h) s.copy.table (place_of_sight h (sight who h)) (newer ++ place) (rows_since s.copy.table newer place (rows s.copy.source s.copy.held)) sees s.shown;
+      shown = shown-by (own_writes s.copy.table (own_txid who h) h) s.copy.table (place_of_sight h (sight who h)) (newer ++ place) (rows_since s.copy.table newer place (copied_rows (past_of calls) database place name under s.copy)) sees s.shown;
     }
 
 -- ---- while a copy runs

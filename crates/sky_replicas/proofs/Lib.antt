@@ -3,6 +3,7 @@ pub mod Pieces
 pub mod NodeNames
 pub mod Copying
 pub mod HandsAt
+pub mod RunningCopies
 pub mod Keeping
 pub mod Others
 pub mod QuietStatements
@@ -13,6 +14,15 @@ pub mod Sources
 pub mod CopySteps
 pub mod KeptMoves
 pub mod KeptCalls
+pub mod CopiesInHand
 pub mod LaterRows
 pub mod GivenUp
 pub mod InCopyTables
+pub mod SessionsMarks
+pub mod EachCall
+pub mod ProvidedTables
+pub mod ProvidedCalls
+pub mod LeafTables
+pub mod CopiesBegin
+pub mod KeptRows
+pub mod Restarts

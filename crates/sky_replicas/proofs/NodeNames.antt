@@ -1,7 +1,8 @@
 -- Nodes keep their names, and leaves their providers; so a provider's name is that of one database.
-use Rattle.std.proofs.Common.{◌≡◌, ℕ, List, [], ◌∷◌, ◌++◌, Bool, true, false, Option, Some, None, option_map, bytes_eq, refl, sym, ap, subst, arith, ◌∙◌, if◌then◌else◌}
+use Rattle.std.proofs.Common.{◌≡◌, ℕ, List, [], ◌∷◌, ◌++◌, Bool, true, false, ◌==◌, ◌||◌, Option, Some, None, option_map, bytes_eq, refl, sym, ap, subst, arith, ◌∙◌, if◌then◌else◌}
 use Rattle.std.specs.Option.{option_and_then}
 use Rattle.londiste_state.specs.Nodes.{Node, of_root, of_leaf, node_name}
+use Rattle.sky_names.proofs.PlaceLemmas.{same_name}
 use Rattle.sky_txid.specs.Ids.{contains}
 use Rattle.sky_model.specs.History.{Mark, NodeMark, root_made, leaf_made, applied, of_synced, copy_of, History, Past}
 use Rattle.sky_model.specs.Nodes.{node, after_node}
@@ -65,6 +66,23 @@ among-is found name (d ∷ ds) = of (found d) (among-is found name ds)
 
 pub called-database : (past : Past) (name : List ℕ) → option_map Located.database (node_called (world_of past) name) ≡ database_among (names_in past) name (nodes past)
 called-database past name = among-is (λ d. node (history_in past d)) name (nodes past)
+
+-- it is among them, and has the name
+pub among-there : (names : ℕ → Option (List ℕ)) (name : List ℕ) (ds : List ℕ) (d : ℕ) → database_among names name ds ≡ Some d → contains d ds ≡ true
+among-there names name [] d is = absurd (cc is)
+among-there names name (e ∷ ds) d is =
+    by_test (λ b. (if b then Some e else database_among names name ds) ≡ Some d → (d == e || contains d ds) ≡ true) (is_named name (names e))
+    (λ _ here. let same : e ≡ d = cc here in grind (arith, nat_tests, same)) (λ _ there. let later = among-there names name ds d there in grind (arith, later)) is
+
+pub among-named : (names : ℕ → Option (List ℕ)) (name : List ℕ) (ds : List ℕ) (d : ℕ) → database_among names name ds ≡ Some d → names d ≡ Some name
+among-named names name [] d is = absurd (cc is)
+among-named names name (e ∷ ds) d is =
+    by_test (λ b. is_named name (names e) ≡ b → (if b then Some e else database_among names name ds) ≡ Some d → names d ≡ Some name) (is_named name (names e))
+    (λ _ so here. let same : e ≡ d = cc here in ap names (sym same) ∙ of (names e) so) (λ _ _ there. among-named names name ds d there) refl is
+  where
+    of : (o : Option (List ℕ)) → is_named name o ≡ true → o ≡ Some name
+    of None so = absurd (cc so)
+    of (Some other) so = ap Some (sym (same_name name other so))
 
 -- by names that are the same in these databases it is the same one
 pub among-same : (f g : ℕ → Option (List ℕ)) (name : List ℕ) (ds : List ℕ) → ((d : ℕ) → contains d ds ≡ true → f d ≡ g d) → database_among f name ds ≡ database_among g name ds

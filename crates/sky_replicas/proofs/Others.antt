@@ -1,9 +1,9 @@
 -- What a move of one worker leaves to the others: the marks of its own copy, the end of its hold, and what it then has in hand.
-use Rattle.std.proofs.Common.{arith, ◌≡◌, ℕ, ◌==◌, List, [], ◌∷◌, Bool, true, false, not, ◌&&◌, Some, None, map, bytes_eq, refl, sym, ap, subst, ◌∙◌, if◌then◌else◌}
+use Rattle.std.proofs.Common.{arith, ◌≡◌, ℕ, ◌==◌, List, [], ◌∷◌, Bool, true, false, not, ◌&&◌, Some, None, is_some, map, bytes_eq, refl, sym, ap, subst, ◌∙◌, if◌then◌else◌}
 use Rattle.std.proofs.lemmas.Bool.Decides.{nat_tests}
 use Rattle.sky_names.specs.Places.{place_of}
 use Rattle.sky_names.proofs.PlaceLemmas.{same_name}
-use Rattle.sky_model.specs.History.{Mark, of_copy, ended, tabled, table_made, wrote, noded, copied, leaf_removed, state_set, hold_ended, History, Fact, within, in_hand, Past}
+use Rattle.sky_model.specs.History.{Mark, of_copy, began, ended, tabled, table_made, wrote, noded, copied, leaf_removed, state_set, hold_ended, History, Fact, within, in_hand, Past}
 use Rattle.sky_model.specs.Rows.{table_names}
 use Rattle.sky_model.specs.Hands.{CopyHand}
 use Rattle.sky_model.specs.World.{history_in, hands, on_top}
@@ -15,6 +15,7 @@ use Rattle.sky_model.proofs.Cases.{by_test, by_same}
 use Rattle.sky_replicas.proofs.NodeNames.{source_of}
 use Rattle.sky_replicas.proofs.Copying.{spares, leaves_held, place-stays}
 use Rattle.sky_replicas.proofs.HandsAt.{is_at, AreOne, one-at, at-itself, hand-is}
+use Rattle.sky_replicas.proofs.RunningCopies.{IsCopied, Uncopied, begins_no_copy}
 use Rattle.sky_replicas.proofs.Keeping.{legal-before, fine-within, in-history, source-within, Copying, copying-handed, TellsOfCopied, copied-beside, Keeps, Kept, was-source, keeps-within, is_quiet, fits-step}
 
 -- all tables; all but one
@@ -24,7 +25,7 @@ each_table e other = true
 abbrev pub other_than : ℕ → List ℕ → ℕ → List ℕ → Bool
 other_than d name e other = not (is_at d name e other)
 
--- ---- legality goes down
+-- ---- legality goes further down
 
 pub legal-under : (past : Past) (facts : List Fact) → AllLegal (on_top past facts) → AllLegal past
 legal-under past [] after = after
@@ -42,7 +43,12 @@ fewer d name past k legal = record {
   all_copied = k.all_copied;
   copying = λ e other hand is has. k.copying e other hand refl has;
   apart = λ e other f third one two p is also. k.apart e other f third one two p refl refl;
+  running = λ e other table is. k.running e other table refl;
 }
+
+-- where there is nothing in hand, no copy runs
+pub idle-hand : (past : Past) (d : ℕ) (name : List ℕ) → Keeps each_table past → hands past d name ≡ None → Uncopied (history_in past d) name
+idle-hand past d name k nothing n c = absurd (cc (sym (k.running d name n refl c) ∙ ap is_some nothing))
 
 -- the workers of other tables with this provider's database have other numbers of holds in hand
 abbrev pub Free : Past → (p d : ℕ) → List ℕ → ℕ → Type 0
@@ -75,6 +81,7 @@ kept-alone p d name hold past kept legal = (kept legal).0
 -- ---- the marks of the own copy
 
 abbrev pub is_own : List ℕ → ℕ → Mark → Bool
+is_own name table (began (of_copy n) t) = n == table
 is_own name table (ended (of_copy n) t c) = n == table
 is_own name table (tabled (wrote (of_copy n) t m key old new)) = n == table
 is_own name table (noded (leaf_removed other)) = bytes_eq name other
@@ -96,6 +103,10 @@ own-spares name table third other (noded (leaf_removed x)) apart differ e = ap (
 own-spares name table third other (noded (state_set x state)) apart differ e = e
 own-spares name table third other mark apart differ e = refl
 
+own-begins : (name : List ℕ) (table other : ℕ) (mark : Mark) → (table == other) ≡ false → is_own name table mark ≡ true → begins_no_copy other mark ≡ true
+own-begins name table other (began (of_copy n) t) apart e = grind (arith, nat_tests, apart, e)
+own-begins name table other mark apart e = refl
+
 -- another table of this database has another name
 pub names-differ : (d : ℕ) (name : List ℕ) (e : ℕ) (other : List ℕ) → other_than d name e other ≡ true → d ≡ e → bytes_eq other name ≡ false
 names-differ d name e other differ same =
@@ -109,7 +120,7 @@ own-step past d name table mark there own kept =
     (λ _ _ e other hand differ has c. record {
       replica = λ same. own-spares name table other c.table mark (apart e other differ same c.table c.here.named) (names-differ d name e other differ same) own;
       provider = λ _. own-held name table hand.hold mark own;
-    }) kept
+    }) (λ other n differ at. own-begins name table n mark (apart d other differ refl n at) own) kept
   where
     apart : (e : ℕ) (other : List ℕ) → other_than d name e other ≡ true → d ≡ e → (n : ℕ) → place_of other (table_names (history_in past e)) ≡ Some n → (table == n) ≡ false
     apart e other differ same n at =
@@ -163,19 +174,27 @@ ends-hold p d name hold past kept after =
     (λ legal _ e other hand differ has c. record {
       replica = λ _. refl;
       provider = λ same. ap not ((kept legal).1 e other hand differ has (c.from ∙ ap Some (sym same)));
-    }) (kept-alone p d name hold past kept) after
+    }) (λ _ _ _ _. refl) (kept-alone p d name hold past kept) after
 
 -- ---- what the own worker has in hand
 
-pub puts-down : (d : ℕ) (name : List ℕ) (past : Past) → Kept (other_than d name) past → Kept each_table (in_hand d name None ∷ past)
-puts-down d name past kept after =
-    let k = kept (legal-before past (in_hand d name None) after) in
+-- nothing, if no copy of its table runs
+pub puts-down : (d : ℕ) (name : List ℕ) (past : Past) → (AllLegal past → Uncopied (history_in past d) name) → Kept (other_than d name) past → Kept each_table (in_hand d name None ∷ past)
+puts-down d name past none kept after =
+    let legal : AllLegal past = legal-before past (in_hand d name None) after in
+    let k = kept legal in
     record {
       all_noded = k.all_noded;
       all_copied = copied-beside past (in_hand d name None) (λ e. refl) (λ e q found. found) k.all_copied;
       copying = λ e other hand _ has. let o = others e other hand has in copying-handed past d name None e other hand (k.copying e other hand o.0 o.1);
       apart = λ e other f third one two p _ _ differ has have.
           let x = others e other one has in let y = others f third two have in k.apart e other f third one two p x.0 y.0 differ x.1 y.1;
+      running = λ e other table _ c.
+          ap is_some (hand-is past d name None e other)
+          ∙ by_test (λ b. is_at d name e other ≡ b → is_some (if b then None else hands past e other) ≡ true) (is_at d name e other)
+          (λ _ at. let one : AreOne d name e other = one-at d name e other at in
+          absurd (none legal table (subst (λ x. IsCopied (history_in past d) x table) (sym one.table) (subst (λ n. IsCopied (history_in past n) other table) (sym one.database) c))))
+          (λ _ no. k.running e other table (ap not no) c) refl;
     }
   where
     others : (e : ℕ) (other : List ℕ) (hand : CopyHand) → hands (in_hand d name None ∷ past) e other ≡ Some hand → (other_than d name e other ≡ true) × (hands past e other ≡ Some hand)
@@ -199,6 +218,9 @@ takes-up p d name hand past kept copy from after =
       all_copied = copied-beside past (in_hand d name (Some hand)) (λ e. refl) (λ e q found. found) k.all_copied;
       copying = λ e other held _ has. copying-handed past d name (Some hand) e other held (of k (copy legal) e other held (whom e other held has));
       apart = λ e other f third one two q _ _ differ has have comes goes. apart (from legal) k both.1 e other f third one two q differ comes goes (whom e other one has) (whom f third two have);
+      running = λ e other table _ c.
+          ap is_some (hand-is past d name (Some hand) e other)
+          ∙ by_test (λ b. is_at d name e other ≡ b → is_some (if b then Some hand else hands past e other) ≡ true) (is_at d name e other) (λ _ _. refl) (λ _ no. k.running e other table (ap not no) c) refl;
     }
   where
     whom : (e : ℕ) (other : List ℕ) (held : CopyHand) → hands (in_hand d name (Some hand) ∷ past) e other ≡ Some held → Whom d name hand past e other held

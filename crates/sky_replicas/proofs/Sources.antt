@@ -22,7 +22,7 @@ pub record IsSource (past : Past) (d p : ℕ) : Type 0 where
   pub from : source_of past d ≡ Some p
   pub other : (p == d) ≡ false
 
-root-has : (d : Database) (n : Option Node) (queue : ℕ) → set_queue_of d n ≡ Some queue → is_root n ≡ true
+pub root-has : (d : Database) (n : Option Node) (queue : ℕ) → set_queue_of d n ≡ Some queue → is_root n ≡ true
 root-has d None queue is = absurd (cc is)
 root-has d (Some (of_leaf l)) queue is = absurd (cc is)
 root-has d (Some (of_root r)) queue is = refl

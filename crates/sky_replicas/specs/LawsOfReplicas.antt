@@ -1,47 +1,69 @@
 -- The laws on tables that are copied from one database to another, after all calls of the world.
-use Rattle.std.specs.Prelude.{◌≡◌, ℕ, ◌==◌, true, false, List, ◌∷◌, ◌++◌, Some, None, Ok, All}
+use Rattle.std.specs.Prelude.{◌≡◌, ℕ, ◌==◌, Bool, true, false, List, [], ◌∷◌, ◌++◌, Option, Some, None, is_some, IfSome, Ok, All, bytes_eq}
 use Rattle.std.specs.List.{list_any}
 use Rattle.sky_val.specs.declared.val.Val.{Val}
 use Rattle.sky_val.specs.Entries.{Entries}
 use Rattle.sky_names.specs.Places.{place_of}
 use Rattle.sky_txid.specs.Snapshot.{SnapshotView}
-use Rattle.sky_model.specs.History.{Mark, of_copy, began, ended, noded, copied, History, Past}
+use Rattle.londiste_state.specs.declared.state.TableState.TheVariants.{InCopy}
+use Rattle.londiste_state.specs.Nodes.{of_leaf, Leaf, is_among, tables_of}
+use Rattle.sky_model.specs.History.{Mark, of_copy, began, ended, noded, leaf_removed, copied, hold_begun, hold_ended, History, Fact, within, Past}
 use Rattle.sky_model.specs.Transactions.{snapshot}
 use Rattle.sky_model.specs.Copies.{copies, is_copied, is_copied_by, Hold, holds}
 use Rattle.sky_model.specs.Rows.{table_names, committed, writes, put_all, in_turn, rows, own_writes, rows_shown}
 use Rattle.sky_model.specs.Sessions.{own_txid, sight, place_of_sight}
 use Rattle.sky_model.specs.HistoryPlaces.{IsPlace}
 use Rattle.sky_model.specs.Versions.{versions}
-use Rattle.sky_model.specs.State.{database_of}
+use Rattle.sky_model.specs.State.{Database, database_of}
 use Rattle.sky_model.specs.Hands.{CopyHand}
-use Rattle.sky_model.specs.CopyMoves.{copy_move, starts_copy}
+use Rattle.sky_model.specs.CopyMoves.{held_snapshot, next_piece, copy_move, leaf_state, starts_copy}
 use Rattle.sky_model.specs.NodesOfWorld.{Located, WorldOutcome, node_called}
-use Rattle.sky_model.specs.WorkersOfWorld.{restart_table}
+use Rattle.sky_model.specs.WorkersOfWorld.{source_alike, restart_table}
 use Rattle.sky_model.specs.Nodes.{node}
-use Rattle.londiste_state.specs.Nodes.{of_leaf, Leaf}
-use Rattle.sky_model.specs.World.{world_of, history_in, hands, on_top}
+use Rattle.sky_model.specs.World.{World, world_of, history_in, hands, on_top}
 use Rattle.sky_model.specs.Calls.{Call, past_of}
 use Rattle.sky_model.specs.Steps.{IsCallInForm}
 
--- at a place of a leaf's database `d` the table of a name has the rows that the table of this name had in the provider's database, at the place of a
--- snapshot
+-- a snapshot of database `p` that is held for a copy is let go before the copy begins, if the copy is made at once, by one move
+abbrev pub let_go_if : (at_once : Bool) (p hold : ℕ) → List Fact
+let_go_if true p hold = within p (noded (hold_ended hold)) ∷ []
+let_go_if false p hold = []
+
+-- the copy of a table of database `d` began, by a transaction, and right before a snapshot of database `p` was taken for it, which is held under a
+-- number; `before` is what had happened before that
+pub record CopyBegan (past : Past) (d p table t hold : ℕ) (at_once : Bool) (before : Past) : Type 0 where
+  pub later : List Fact
+  pub is : past ≡ later ++ within d (began (of_copy table) t) ∷ let_go_if at_once p hold ++ within p (noded (hold_begun hold)) ∷ before
+
+-- at a place of a leaf's database `d`, at which a copy of the table of a name has ended, the table has the rows that the table of this name had in the
+-- provider's database at the place at which a snapshot was taken for this copy
 pub record HasProvidersRows (past : Past) (d : ℕ) (p : History) (name : List ℕ) (under : SnapshotView) : Type 0 where
   -- the leaf, and its provider
   pub leaf : Leaf
   pub is_leaf : node (history_in past d) ≡ Some (of_leaf leaf)
   pub provider : Located
   pub found : node_called (world_of past) leaf.provider ≡ Some provider
-  -- the place in the history of the provider's database at which the snapshot was taken
-  pub later : List Mark
-  pub held : History
-  pub place : history_in past provider.database ≡ later ++ held
-  pub taken : snapshot held ≡ under
-  -- the two tables
+  -- the table, and the copy's transaction
   pub table : ℕ
   pub named : place_of name (table_names p) ≡ Some table
+  pub t : ℕ
+  pub tick : ℕ
+  pub below : History
+  pub copy_ended : p ≡ noded (copied name under tick) ∷ ended (of_copy table) t true ∷ below
+  -- the place at which it began
+  pub hold : ℕ
+  pub at_once : Bool
+  pub before : Past
+  pub copy_began : CopyBegan past d provider.database table t hold at_once before
+  pub taken : snapshot (history_in before provider.database) ≡ under
+  -- the provider's table
   pub source : ℕ
-  pub source_named : place_of name (table_names held) ≡ Some source
-  pub same : rows table p ≡ rows source held
+  pub source_named : place_of name (table_names (history_in before provider.database)) ≡ Some source
+  pub same : rows table p ≡ rows source (history_in before provider.database)
+
+-- the rows that the provider's table had there
+abbrev pub copied_rows : (past : Past) (d : ℕ) (p : History) (name : List ℕ) (under : SnapshotView) → HasProvidersRows past d p name under → Entries (List Val)
+copied_rows past d p name under c = rows c.source (history_in c.before c.provider.database)
 
 -- each table does, where it has just been copied
 abbrev pub CopiedTablesHaveProvidersRows : Type 0
@@ -57,7 +79,7 @@ rows_since table later p rows = in_turn (λ t. writes table t (later ++ p)) (com
 -- above the place at which a table was copied, it has the rows of its provider's table at the place of the snapshot, with what was written since
 pub record ShowsProvidersRows (past : Past) (d : ℕ) (later : List Mark) (p : History) (name : List ℕ) (under : SnapshotView) : Type 0 where
   pub copy : HasProvidersRows past d p name under
-  pub shown : rows copy.table (later ++ p) ≡ rows_since copy.table later p (rows copy.source copy.held)
+  pub shown : rows copy.table (later ++ p) ≡ rows_since copy.table later p (copied_rows past d p name under copy)
 
 -- so it is at each place of each history
 abbrev pub ReplicasShowProvidersRows : Type 0
@@ -65,10 +87,26 @@ ReplicasShowProvidersRows = (calls : List Call) → All IsCallInForm calls → (
     → history_in (past_of calls) database ≡ above ++ (later ++ noded (copied name under tick) ∷ p)
     → ShowsProvidersRows (past_of calls) database later (noded (copied name under tick) ∷ p) name under
 
+-- whether the table of a name leaves its leaf by a mark
+abbrev pub takes_out : List ℕ → Mark → Bool
+takes_out name (noded (leaf_removed other)) = bytes_eq name other
+takes_out name mark = false
+
+-- above the place at which a table was copied, it has the rows of its provider's table at the place of the snapshot, and no others
+pub record KeepsProvidersRows (past : Past) (d : ℕ) (later : List Mark) (p : History) (name : List ℕ) (under : SnapshotView) : Type 0 where
+  pub copy : HasProvidersRows past d p name under
+  pub kept : rows copy.table (later ++ p) ≡ copied_rows past d p name under copy
+
+-- so it is until the table leaves its leaf
+abbrev pub ReplicasKeepProvidersRows : Type 0
+ReplicasKeepProvidersRows = (calls : List Call) → All IsCallInForm calls → (database : ℕ) (above later : List Mark) (p : History) (name : List ℕ) (under : SnapshotView) (tick : ℕ)
+    → history_in (past_of calls) database ≡ above ++ (later ++ noded (copied name under tick) ∷ p) → list_any (takes_out name) later ≡ false
+    → KeepsProvidersRows (past_of calls) database later (noded (copied name under tick) ∷ p) name under
+
 -- a session is shown those rows, with its own writes on top, if its sight is above that place: so `get` and `scan` print them
 pub record SessionSees (past : Past) (d : ℕ) (h : History) (who : ℕ) (later : List Mark) (p : History) (name : List ℕ) (under : SnapshotView) : Type 0 where
   pub copy : HasProvidersRows past d p name under
-  pub shown : rows_shown who copy.table h ≡ put_all (own_writes copy.table (own_txid who h) h) (rows_since copy.table later p (rows copy.source copy.held))
+  pub shown : rows_shown who copy.table h ≡ put_all (own_writes copy.table (own_txid who h) h) (rows_since copy.table later p (copied_rows past d p name under copy))
 
 -- at each place of each history
 abbrev pub SessionsSeeProvidersRows : Type 0
@@ -92,30 +130,86 @@ abbrev pub GivenUpCopiesLeaveNothing : Type 0
 GivenUpCopiesLeaveNothing = (later : List Mark) (q : History) (table t : ℕ) → IsPlace (ended (of_copy table) t false ∷ (later ++ began (of_copy table) t ∷ q))
     → IsUndone (ended (of_copy table) t false ∷ (later ++ began (of_copy table) t ∷ q)) q table
 
--- after something has happened, the worker of a table of a leaf's database `d` has nothing in hand, and the provider's database has no hold of the number
--- that it had; of the copy that ran nothing is left; and the worker's next move begins a copy, whichever database it is from
-pub record IsRestarted (past now : Past) (d : ℕ) (name : List ℕ) (hand : CopyHand) : Type 0 where
-  pub put_down : hands now d name ≡ None
+-- the worker of the table of a name has a copy of it in hand, which runs by a transaction: the provider's database holds the snapshot that was taken as it
+-- began
+pub record InHand (past : Past) (d : ℕ) (name : List ℕ) (hand : CopyHand) : Type 0 where
+  pub is : hands past d name ≡ Some hand
   -- the leaf, and its provider
   pub leaf : Leaf
   pub is_leaf : node (history_in past d) ≡ Some (of_leaf leaf)
   pub provider : Located
   pub found : node_called (world_of past) leaf.provider ≡ Some provider
-  pub let_go : list_any (λ (x : Hold). x.number == hand.hold) (holds (history_in now provider.database)) ≡ false
+  -- the copy that runs
   pub table : ℕ
-  pub named : place_of name (table_names (history_in now d)) ≡ Some table
-  -- the copy, and the place at which it began
+  pub named : place_of name (table_names (history_in past d)) ≡ Some table
   pub t : ℕ
+  pub runs : is_copied_by table t (copies (history_in past d)) ≡ true
+  pub before : Past
+  pub copy_began : CopyBegan past d provider.database table t hand.hold false before
+  pub holds : held_snapshot (database_of (history_in past provider.database)) hand.hold ≡ Some (snapshot (history_in before provider.database))
+
+-- a worker of a leaf's table has something in hand
+pub record HasInHand (past : Past) (d : ℕ) (name : List ℕ) : Type 0 where
+  pub hand : CopyHand
+  pub in_hand : InHand past d name hand
+
+-- what a worker has in hand is of a copy that runs
+abbrev pub HandsAreOfRunningCopies : Type 0
+HandsAreOfRunningCopies = (calls : List Call) → All IsCallInForm calls → (database : ℕ) (name : List ℕ) (hand : CopyHand) → hands (past_of calls) database name ≡ Some hand
+    → InHand (past_of calls) database name hand
+
+-- a copy that runs is in hand
+abbrev pub RunningCopiesAreInHand : Type 0
+RunningCopiesAreInHand = (calls : List Call) → All IsCallInForm calls → (database : ℕ) (name : List ℕ) (table : ℕ) → place_of name (table_names (history_in (past_of calls) database)) ≡ Some table
+    → is_copied table (copies (history_in (past_of calls) database)) ≡ true → HasInHand (past_of calls) database name
+
+-- the next move of the worker of a table that is being copied begins a copy, if nothing is in hand; else the copy goes on with the next rows, under the
+-- snapshot that is held for it. So no copy is waited for
+pub record GoesOn (provider replica : Database) (name : List ℕ) (hand : Option CopyHand) : Type 0 where
+  pub begins : hand ≡ None → copy_move provider replica name hand ≡ starts_copy provider replica name
+  pub goes_on : (x : CopyHand) → hand ≡ Some x → IfSome (held_snapshot provider x.hold) (λ snapshot. copy_move provider replica name hand ≡ Ok (next_piece provider name snapshot x))
+  pub holds : (x : CopyHand) → hand ≡ Some x → is_some (held_snapshot provider x.hold) ≡ true
+
+abbrev pub CopiesGoOn : Type 0
+CopiesGoOn = (calls : List Call) → All IsCallInForm calls → (database : ℕ) (leaf : Leaf) (provider : Located) (name : List ℕ) → node (history_in (past_of calls) database) ≡ Some (of_leaf leaf)
+    → node_called (world_of (past_of calls)) leaf.provider ≡ Some provider → leaf_state name (Some (of_leaf leaf)) ≡ InCopy
+    → GoesOn (database_of (history_in (past_of calls) provider.database)) (database_of (history_in (past_of calls) database)) name (hands (past_of calls) database name)
+
+-- ---- tables of leaves
+
+-- a table of a leaf is in the set of its provider, whose queue exists, with the same columns
+pub record IsProvided (w : World) (d : ℕ) (leaf : Leaf) (table : List ℕ) : Type 0 where
+  pub provider : ℕ
+  pub alike : source_alike w d leaf table ≡ Ok provider
+
+-- so is each table of each leaf: no statement on a leaf's table is refused for its provider
+abbrev pub LeafTablesAreProvided : Type 0
+LeafTablesAreProvided = (calls : List Call) → All IsCallInForm calls → (name : List ℕ) (n : Located) (leaf : Leaf) (table : List ℕ) → node_called (world_of (past_of calls)) name ≡ Some n
+    → n.node ≡ of_leaf leaf → is_among table (tables_of n.node) ≡ true → IsProvided (world_of (past_of calls)) n.database leaf table
+
+-- ---- restarts
+
+-- after a copy in hand was given up: of the copy that ran nothing is left, and the provider's database has no hold of the number that it had
+pub record IsGivenUp (past now : Past) (d : ℕ) (name : List ℕ) (hand : CopyHand) : Type 0 where
+  pub was : InHand past d name hand
+  pub let_go : list_any (λ (x : Hold). x.number == hand.hold) (holds (history_in now was.provider.database)) ≡ false
   pub later : List Mark
   pub before : History
-  pub ran : history_in past d ≡ later ++ began (of_copy table) t ∷ before
-  pub undone : IsUndone (history_in now d) before table
-  pub anew : (p : ℕ) → copy_move (database_of (history_in now p)) (database_of (history_in now d)) name (hands now d name)
-      ≡ starts_copy (database_of (history_in now p)) (database_of (history_in now d)) name
+  pub ran : history_in past d ≡ later ++ began (of_copy was.table) was.t ∷ before
+  pub undone : IsUndone (history_in now d) before was.table
 
--- so it is after `restart NAME TABLE`, if the table's worker has something in hand
+-- `restart NAME TABLE` is done: the table's worker has nothing in hand, what it had is given up, and its next move, if the table is being copied, begins a
+-- copy, whichever database it is from
+pub record IsRestarted (past : Past) (d : ℕ) (name table : List ℕ) : Type 0 where
+  pub outcome : WorldOutcome
+  pub done : restart_table (world_of past) name table ≡ Ok outcome
+  pub put_down : hands (on_top past outcome.facts) d table ≡ None
+  pub given_up : (hand : CopyHand) → hands past d table ≡ Some hand → IsGivenUp past (on_top past outcome.facts) d table hand
+  pub anew : (p : ℕ) → leaf_state table (node (history_in (on_top past outcome.facts) d)) ≡ InCopy
+      → copy_move (database_of (history_in (on_top past outcome.facts) p)) (database_of (history_in (on_top past outcome.facts) d)) table None
+      ≡ starts_copy (database_of (history_in (on_top past outcome.facts) p)) (database_of (history_in (on_top past outcome.facts) d)) table
+
+-- so it is for each table of a leaf
 abbrev pub RestartsBeginAnew : Type 0
-RestartsBeginAnew = (calls : List Call) (name table : List ℕ) (n : Located) (hand : CopyHand) (outcome : WorldOutcome)
-    → node_called (world_of (past_of calls)) name ≡ Some n → hands (past_of calls) n.database table ≡ Some hand
-    → restart_table (world_of (past_of calls)) name table ≡ Ok outcome
-    → IsRestarted (past_of calls) (on_top (past_of calls) outcome.facts) n.database table hand
+RestartsBeginAnew = (calls : List Call) → All IsCallInForm calls → (name table : List ℕ) (n : Located) (leaf : Leaf) → node_called (world_of (past_of calls)) name ≡ Some n → n.node ≡ of_leaf leaf
+    → is_among table (tables_of n.node) ≡ true → IsRestarted (past_of calls) n.database name table

@@ -1,8 +1,13 @@
+use Rattle.sky_replicas.proofs.KeptCalls.{copied_tables_have_providers_rows}
+use Rattle.sky_replicas.proofs.KeptRows.{replicas_keep_providers_rows}
 use Rattle.sky_replicas.proofs.LaterRows as law
 use Rattle.sky_replicas.proofs.laws.replicas_show_providers_rows.Goals as goal
 
 pub returns-clause-shown : goal.returns-clause-shown
 returns-clause-shown c = law.replicas_show_providers_rows
+
+pub returns-clause-kept : goal.returns-clause-kept
+returns-clause-kept c = replicas_keep_providers_rows copied_tables_have_providers_rows
 
 pub returns-clause-unseen : goal.returns-clause-unseen
 returns-clause-unseen c = law.copies_are_unseen
