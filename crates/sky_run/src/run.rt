@@ -216,7 +216,7 @@ impl Run {
         ensures number { self.new.number ≡ self.old.number }
     {
         self.replies.clear();
-        let Ok(()) = self.world.step_into(who, stmt, &mut self.replies) else {
+        let Ok(()) = self.world.step_into(who.as_str(), stmt, &mut self.replies) else {
             return Err(AllocError);
         };
         print_answers(

@@ -126,14 +126,14 @@ impl World {
         ensures fails { OnErr result (self.new.has_failed ≡ true) }
     {
         let mut replies = Replies::new(self.alloc);
-        self.step_into(name, stmt, &mut replies)?;
+        self.step_into(name.as_str(), stmt, &mut replies)?;
         Ok(replies)
     }
 
     /// The same; the answers are added to those that were given before.
     pub fn step_into(
         &mut self,
-        name: &Text,
+        name: &str,
         stmt: &Stmt,
         replies: &mut Replies,
     ) -> Result<(), WorldFault>
@@ -156,12 +156,12 @@ impl World {
         }
     }
 
-    fn answer(&mut self, name: &Text, stmt: &Stmt, replies: &mut Replies) -> Result<(), NoMemory>
+    fn answer(&mut self, name: &str, stmt: &Stmt, replies: &mut Replies) -> Result<(), NoMemory>
         requires form { IsInForm stmt.now }
         ensures adds { OnOk result (AddsCall (seen_world self.old) (seen_world self.new) (record { who = name.now; stmt = stmt.now }) replies.old replies.new) }
         ensures failed { OnOk result (self.new.has_failed ≡ self.old.has_failed) }
     {
-        match self.number(name) {
+        match self.number(name)? {
             Some(who) => self.answer_known(who, name, stmt, replies),
             None => self.answer_new(name, stmt, replies),
         }
@@ -170,7 +170,7 @@ impl World {
     fn answer_known(
         &mut self,
         who: SessionId,
-        name: &Text,
+        name: &str,
         stmt: &Stmt,
         replies: &mut Replies,
     ) -> Result<(), NoMemory>
@@ -186,7 +186,7 @@ impl World {
 
     fn answer_new(
         &mut self,
-        name: &Text,
+        name: &str,
         stmt: &Stmt,
         replies: &mut Replies,
     ) -> Result<(), NoMemory>
@@ -205,11 +205,15 @@ impl World {
         Ok(())
     }
 
-    fn number(&self, name: &Text) -> Option<SessionId>
-        ensures number { result ≡ place_of name.now self.now.sessions.names }
-        ensures within { IfSome result (λ who. who < length self.now.sessions.names) }
+    fn number(&self, name: &str) -> Result<Option<SessionId>, NoMemory>
+        ensures number { IfOk result (λ number. number ≡ place_of name.now self.now.sessions.names) }
+        ensures within { IfOk result (λ number. IfSome number (λ who. who < length self.now.sessions.names)) }
     {
-        self.sessions.number(name)
+        if let Some(who) = self.sessions.hinted(name) {
+            return Ok(Some(who));
+        }
+        let name = Text::from_str(self.alloc, name)?;
+        Ok(self.sessions.number(&name))
     }
 
     fn session_count(&self) -> SessionId
@@ -219,14 +223,14 @@ impl World {
     }
 
     /// Adds a session, which has no database open.
-    fn appear(&mut self, name: &Text) -> Result<(), NoMemory>
+    fn appear(&mut self, name: &str) -> Result<(), NoMemory>
         requires new { place_of name.now self.old.sessions.names ≡ None }
         requires room { length self.old.sessions.names < 256 }
         ensures fact { OnOk result (seen_world self.new ≡ after_fact (seen_world self.old) (appeared name.now)) }
         ensures sessions { OnOk result (length self.new.sessions.names ≡ length self.old.sessions.names + 1) }
         ensures failed { OnOk result (self.new.has_failed ≡ self.old.has_failed) }
     {
-        let copied = name.copy(self.alloc)?;
+        let copied = Text::from_str(self.alloc, name)?;
         self.sessions.add(copied, None)?;
         Ok(())
     }
