@@ -1,13 +1,17 @@
 -- What a line says, by the result of parsing it.
 use Rattle.std.proofs.Common.{◌≡◌, ℕ, List, Bool, true, false, Result, Ok, Err, refl, ap, ◌∙◌, if◌then◌else◌}
-use Rattle.std.specs.Prelude.{OnOk, OnErr, IfErr}
+use Rattle.std.specs.Prelude.{OnOk, OnErr, IfErr, IfOk}
 use Rattle.std.specs.Str.{IsUtf8, is_utf8}
 use Rattle.std.proofs.lemmas.Bool.{false_from_ne_true}
 use Rattle.std.proofs.lemmas.Str.{IsUtf8-from_is_utf8, is_utf8-from_IsUtf8}
 use Rattle.sky_model.specs.declared.line.Cause.TheVariants as causes
 use Rattle.sky_model.specs.declared.line.Line.{Line}
-use Rattle.sky_model.specs.Grammar.{line_of}
+use Rattle.sky_model.specs.declared.line.Line.TheVariants.{Run}
+use Rattle.sky_model.specs.declared.stmt.Stmt.{Stmt}
+use Rattle.sky_model.specs.Grammar.{line_of, run_of}
+use Rattle.sky_model.specs.InForm.{IsLineInForm}
 use Rattle.sky_model.specs.Transcript.{Said, bad, said_by}
+use Rattle.sky_model.proofs.InFormLaw.{lines_are_in_form}
 use Rattle.sky_script.specs.declared.cause.LineCause.{LineCause}
 use Rattle.sky_script.specs.declared.cause.LineCause.TheVariants.{NotUtf8, BadWord, NoMemory}
 use Rattle.sky_script.specs.Reading.{IsAnswer}
@@ -31,6 +35,26 @@ tells_well n line (Err NoMemory) well is_answer = tt
 -- the result of parsing a line that is text is what it says
 pub Tells-parsed : (n : ℕ) (line : List ℕ) (r : Result Line LineCause) → IsUtf8 line → IsAnswer r (line_of line) → Tells n r (said_in line)
 Tells-parsed n line r text is_answer = tells_well n line r (is_utf8-from_IsUtf8 line text) is_answer
+
+-- a line that is text says what the grammar reads
+pub said_in-utf8 : (line : List ℕ) → IsUtf8 line → said_in line ≡ said_by (line_of line)
+said_in-utf8 line text = said_in-by line true (is_utf8-from_IsUtf8 line text)
+
+-- a cause that answers a statement answers its line
+pub IsAnswer-run : (who : List ℕ) (cause : LineCause) (says : Result Stmt ℕ) → IsAnswer {A = Stmt} (Err cause) says → IsAnswer {A = Line} (Err cause) (run_of who says)
+IsAnswer-run who NotUtf8 says is = absurd is
+IsAnswer-run who (BadWord k) says is = rw is refl
+IsAnswer-run who NoMemory says is = tt
+
+-- a session's line is in form
+pub run_in_form : (line who : List ℕ) (says : Result Stmt ℕ) → line_of line ≡ run_of who says → (stmt : Stmt) → says ≡ Ok stmt → IsLineInForm (Run who stmt)
+run_in_form line who says is stmt so = lines_are_in_form line (Run who stmt) (is ∙ ap (run_of who) so)
+
+-- and so is what was read of its statement
+pub read_in_form : (who : List ℕ) (r : Result Stmt LineCause) (says : Result Stmt ℕ) → IsAnswer r says → ((stmt : Stmt) → says ≡ Ok stmt → IsLineInForm (Run who stmt))
+    → IfOk r (λ stmt. IsLineInForm (Run who stmt))
+read_in_form who (Ok stmt) says is in_form = in_form stmt is
+read_in_form who (Err cause) says is in_form = tt
 
 -- a line that isn't text says so
 pub said_in-not_utf8 : (line : List ℕ) → ¬ (IsUtf8 line) → said_in line ≡ bad causes.NotUtf8

@@ -11,7 +11,7 @@ use std::alloc::Global;
 pub fn print_answers(
     alloc: Global,
     names: &[Text],
-    who: &Text,
+    who: &str,
     replies: &Replies,
     into: &mut Vec<u8>,
 ) -> Result<(), NoMemory>
@@ -67,13 +67,13 @@ fn has_name(names: &[Text], session: SessionId) -> bool
 }
 
 // The names, and one more.
-fn names_with(alloc: Global, names: &[Text], name: &Text) -> Result<Vec<Text>, NoMemory>
+fn names_with(alloc: Global, names: &[Text], name: &str) -> Result<Vec<Text>, NoMemory>
     ensures { IfOk result (λ all. all.items ≡ names.now ++ name.now ∷ []) }
 {
     let mut all = Vec::new(alloc);
     for other in names {
         all.push(other.copy(alloc)?)?;
     }
-    all.push(name.copy(alloc)?)?;
+    all.push(Text::from_str(alloc, name)?)?;
     Ok(all)
 }

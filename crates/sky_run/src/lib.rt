@@ -5,6 +5,7 @@
 #![tactic(auto)]
 
 mod answers;
+mod calls;
 mod end;
 mod program;
 mod run;

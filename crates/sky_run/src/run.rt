@@ -12,15 +12,15 @@ ghost use Rattle.sky_run.specs.Running.{Answers, Called, said_in};
 ghost use Rattle.sky_run.specs.Goes.{IsFresh, Counts, Goes, SameButGathered};
 ghost use Rattle.sky_run.specs.Ends.{Ends, IsBadLine, IsCut, end_of, end_by};
 
-use crate::answers::print_answers;
+use crate::calls::answer_text;
 use crate::end::End;
 use sky_io::{Sink, SinkFault, Source, write_all};
 use sky_lines::{LineFault, LineReader};
-use sky_model::{Cause, Line, Replies, Stmt};
-use sky_script::{LineCause, parse_text};
-use sky_val::{NoMemory, Text};
+use sky_model::{Cause, Replies};
+use sky_script::LineCause;
+use sky_val::NoMemory;
 use sky_world::World;
-use std::alloc::{AllocError, Global};
+use std::alloc::Global;
 use std::mem;
 
 /// If more bytes than this are gathered after a line, all that are gathered are written.
@@ -167,65 +167,19 @@ impl Run {
         let Some(line) = self.reader.text() else {
             return Err(End::Bad(self.number, Cause::NotUtf8));
         };
-        match parse_text(self.alloc, line) {
-            Ok(said) => self.count(&said),
-            Err(cause) => Err(self.end_by(cause)),
-        }
-    }
-
-    // Answers a line that was parsed, and counts it.
-    fn count(&mut self, said: &Line) -> Result<(), End>
-        requires number { self.old.number ≤ most_in_script }
-        requires form { IsLineInForm said.now }
-        ensures answers { OnOk result (Answers (said_by (Ok said.now)) (seen_world self.old.world) (seen_world self.new.world) self.old.gathered.items self.new.gathered.items) }
-        ensures number { OnOk result (self.new.number ≡ self.old.number + 1) }
-        ensures no_memory { IfErr result (λ end. end ≡ End.NoMemory) }
-        ensures err { OnErr result (self.new.gathered.items ≡ self.old.gathered.items) }
-        ensures reader { self.new.reader ≡ self.old.reader }
-    {
-        match self.answer_said(said) {
+        match answer_text(
+            self.alloc,
+            line,
+            &mut self.world,
+            &mut self.replies,
+            &mut self.gathered,
+        ) {
             Ok(()) => {
                 self.number += 1;
                 Ok(())
             }
-            Err(_) => Err(End::NoMemory),
+            Err(cause) => Err(self.end_by(cause)),
         }
-    }
-
-    // Answers what a line says. A blank line says nothing.
-    fn answer_said(&mut self, said: &Line) -> Result<(), NoMemory>
-        requires { IsLineInForm said.now }
-        ensures answers { OnOk result (Answers (said_by (Ok said.now)) (seen_world self.old.world) (seen_world self.new.world) self.old.gathered.items self.new.gathered.items) }
-        ensures err { OnErr result (self.new.gathered.items ≡ self.old.gathered.items) }
-        ensures reader { self.new.reader ≡ self.old.reader }
-        ensures number { self.new.number ≡ self.old.number }
-    {
-        match said {
-            Line::Blank => Ok(()),
-            Line::Run(who, stmt) => self.call(who, stmt),
-        }
-    }
-
-    // Runs a statement of a session, and gathers its answers.
-    fn call(&mut self, who: &Text, stmt: &Stmt) -> Result<(), NoMemory>
-        requires name { is_name who.now ≡ true }
-        requires form { IsInForm stmt.now }
-        ensures answers { OnOk result (Called (seen_world self.old.world) (seen_world self.new.world) (record { who = who.now; stmt = stmt.now }) self.old.gathered.items self.new.gathered.items) }
-        ensures err { OnErr result (self.new.gathered.items ≡ self.old.gathered.items) }
-        ensures reader { self.new.reader ≡ self.old.reader }
-        ensures number { self.new.number ≡ self.old.number }
-    {
-        self.replies.clear();
-        let Ok(()) = self.world.step_into(who.as_str(), stmt, &mut self.replies) else {
-            return Err(AllocError);
-        };
-        print_answers(
-            self.alloc,
-            self.world.session_names(),
-            who,
-            &self.replies,
-            &mut self.gathered,
-        )
     }
 
     // The end that a reader's fault makes.

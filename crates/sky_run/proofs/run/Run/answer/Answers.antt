@@ -1,5 +1,5 @@
-use Rattle.std.proofs.Common.{Ok, Err, refl}
-use Rattle.sky_run.proofs.ParsedLemmas.{Tells-parsed, said_in-not_utf8}
+use Rattle.std.proofs.Common.{Ok, Err, refl, ◌∙◌, ap}
+use Rattle.sky_run.proofs.ParsedLemmas.{Tells-parsed, said_in-utf8, said_in-not_utf8}
 use Rattle.sky_run.proofs.run.Run.answer.Goals as goal
 
 pub returns-in_default-clause-bad : goal.returns-in_default-clause-bad
@@ -7,11 +7,11 @@ returns-in_default-clause-bad c = (refl, said_in-not_utf8 c.args.self.now.reader
 
 pub returns-in-Ok-clause-answers : goal.returns-in-Ok-clause-answers
 returns-in-Ok-clause-answers c =
-    let says = Tells-parsed c.args.self.now.number c.in-Some.line.now (Ok c.in-Ok.said) c.in-Ok.ensures.utf8 c.in-Ok.ensures.answer in
+    let says = said_in-utf8 c.in-Some.line.now c.in-Ok.ensures.utf8 in
     let line_says = rw c.in-Some.ensures at says in
-    rw line_says c.count.ensures.answers
+    rw line_says c.in-Ok.ensures.answers
 
 pub returns-in-Err-clause-bad : goal.returns-in-Err-clause-bad
 returns-in-Err-clause-bad c =
-    let says = Tells-parsed c.args.self.now.number c.in-Some.line.now (Err c.in-Err.cause) c.in-Err.ensures.utf8 c.in-Err.ensures.answer in
+    let says = Tells-parsed c.args.self.now.number c.in-Some.line.now (Err c.in-Err.cause) c.in-Err.ensures.utf8 c.in-Err.ensures.bad in
     rw c.end_by.ensures (rw c.in-Some.ensures at says)

@@ -3,7 +3,7 @@ use Rattle.std.proofs.lemmas.Result.{on_ok_weaker}
 use Rattle.sky_model.specs.declared.reply.Reply.{Reply}
 use Rattle.sky_model.specs.Printed.{printed}
 use Rattle.sky_world.proofs.Worlds.{added-alone}
-use Rattle.sky_run.proofs.run.Run.call.Goals as goal
+use Rattle.sky_run.proofs.calls.call.Goals as goal
 
 pub print_answers-requires : goal.print_answers-requires
 print_answers-requires c =
@@ -19,5 +19,5 @@ returns-clause-answers c =
       replies = c.step_into.new.replies;
       in_form = (c.requires.name, c.requires.form);
       steps = (added-alone _ _ _ _ _ c.clear.ensures c.in-Ok.ensures.adds).0;
-      prints = prints ∙ ap (λ (names : List (List ℕ)). c.args.self.now.gathered.items ++ printed (names ++ c.args.who.now ∷ []) c.step_into.new.replies) c.session_names.ensures;
+      prints = prints ∙ ap (λ (names : List (List ℕ)). c.args.into.now.items ++ printed (names ++ c.args.who.now ∷ []) c.step_into.new.replies) c.session_names.ensures;
     }) c.print_answers.ensures.ok
