@@ -184,12 +184,7 @@ impl World {
         Ok(())
     }
 
-    fn answer_new(
-        &mut self,
-        name: &str,
-        stmt: &Stmt,
-        replies: &mut Replies,
-    ) -> Result<(), NoMemory>
+    fn answer_new(&mut self, name: &str, stmt: &Stmt, replies: &mut Replies) -> Result<(), NoMemory>
         requires form { IsInForm stmt.now }
         requires new { place_of name.now self.old.sessions.names ≡ None }
         ensures adds { OnOk result (AddsCall (seen_world self.old) (seen_world self.new) (record { who = name.now; stmt = stmt.now }) replies.old replies.new) }
