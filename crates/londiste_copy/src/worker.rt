@@ -104,11 +104,11 @@ impl CopyWorker {
                 Ok(replies)
             }
             TableState::Synced => {
-                replies.push(Reply::Idle)?;
+                print(Reply::Idle, &mut replies)?;
                 Ok(replies)
             }
             _ => {
-                replies.push(Reply::AwaitsTable(table.copy(self.alloc)?))?;
+                print(Reply::AwaitsTable(table.copy(self.alloc)?), &mut replies)?;
                 Ok(replies)
             }
         }
@@ -305,6 +305,15 @@ fn give_up(replica: &mut Db, table: &Text)
     if state_of(replica.node(), table) == TableState::InCopy {
         replica.copy_drop(table);
     }
+}
+
+/// Prints a reply behind the others.
+// A fault of `push` itself isn't one that `?` makes a worker's.
+fn print(reply: Reply, replies: &mut Vec<Reply>) -> Result<(), NoMemory>
+    ensures { OnOk result (replies.new.items ≡ replies.old.items ++ reply ∷ []) }
+{
+    replies.push(reply)?;
+    Ok(())
 }
 
 /// The key of the last of some rows of a table that the database has, or if there are none, one from before.

@@ -510,6 +510,13 @@ fn as_list(alloc: Global, ran: Result<Reply, Stop>) -> Result<Vec<Reply>, Stop>
     ensures err { IfErr result (λ stop. StopsLike ran stop) }
 {
     let reply = ran?;
+    Ok(single(alloc, reply)?)
+}
+
+/// One answer as a list.
+fn single(alloc: Global, reply: Reply) -> Result<Vec<Reply>, NoMemory>
+    ensures { IfOk result (λ given. given.items ≡ reply ∷ []) }
+{
     let mut given = Vec::new(alloc);
     given.push(reply)?;
     Ok(given)
