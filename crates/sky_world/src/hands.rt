@@ -95,11 +95,14 @@ impl Hands {
                 let _before = mem::replace(&mut self.hands[at].hand, hand);
             }
             None => {
+                let Some(hand) = hand else {
+                    return Ok(());
+                };
                 let table = table.copy(self.alloc)?;
                 self.hands.push(HandAt {
                     database,
                     table,
-                    hand,
+                    hand: Some(hand),
                 })?;
             }
         }
