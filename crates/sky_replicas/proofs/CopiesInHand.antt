@@ -9,7 +9,7 @@ use Rattle.sky_model.specs.Copies.{copies, copy_txid}
 use Rattle.sky_model.specs.Nodes.{node}
 use Rattle.sky_model.specs.State.{Database, database_of}
 use Rattle.sky_model.specs.Hands.{CopyHand}
-use Rattle.sky_model.specs.CopyMoves.{held_snapshot, next_piece, copy_running, under_way, continues, goes_on, leaf_state, moves_in, copy_move}
+use Rattle.sky_model.specs.CopyMoves.{newest_of, held_snapshot, next_piece, copy_running, under_way, continues, goes_on, leaf_state, moves_in, copy_move}
 use Rattle.sky_model.specs.NodesOfWorld.{Located, node_called}
 use Rattle.sky_model.specs.World.{world_of, history_in, hands, nodes}
 use Rattle.sky_model.specs.Calls.{past_of}
@@ -17,6 +17,7 @@ use Rattle.sky_model.proofs.Histories.{AllLegal, legal_past}
 use Rattle.sky_replicas.specs.LawsOfReplicas.{CopyBegan, InHand, HasInHand, HandsAreOfRunningCopies, RunningCopiesAreInHand, GoesOn, CopiesGoOn}
 use Rattle.sky_replicas.proofs.NodeNames.{provider_of, database_among, names_in, source_of, called-database}
 use Rattle.sky_replicas.proofs.Copying.{copy-found}
+use Rattle.sky_replicas.proofs.InCopyTables.{in-copy-state}
 use Rattle.sky_replicas.proofs.RunningCopies.{uncopied-idle}
 use Rattle.sky_replicas.proofs.Keeping.{Copying, Keeps}
 use Rattle.sky_replicas.proofs.Others.{each_table, idle-hand}
@@ -44,6 +45,8 @@ in-hand past d name hand is c =
       runs = c.here.runs;
       before = c.before;
       copy_began = subst (λ q. CopyBegan past d q c.table c.t hand.hold false c.before) (sym f.is) c.copy_began;
+      from_newest = ap (λ q. newest_of (database_of (history_in c.before q))) f.is ∙ c.from_newest;
+      in_copy = ap (leaf_state name) (sym f.is_leaf) ∙ in-copy-state name (node (history_in past d)) c.here.may;
       holds = ap (λ q. held_snapshot (database_of (history_in past q)) hand.hold) f.is ∙ c.there.is ∙ ap (λ q. Some (snapshot (history_in c.before q))) (sym f.is);
     }
 

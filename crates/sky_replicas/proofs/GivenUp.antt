@@ -47,10 +47,10 @@ use Rattle.sky_replicas.specs.LawsOfReplicas.{IsUndone, GivenUpCopiesLeaveNothin
 use Rattle.sky_replicas.proofs.HandsAt.{at-itself, hand-is}
 use Rattle.sky_replicas.proofs.RunningCopies.{uncopied-idle}
 use Rattle.sky_replicas.proofs.Keeping.{Copying, Keeps}
-use Rattle.sky_replicas.proofs.Others.{each_table}
+use Rattle.sky_replicas.proofs.Others.{each_table, idle-hand}
 use Rattle.sky_replicas.proofs.CallPasts.{call_marks, called, after_calls, on-move, history-called, history-elsewhere}
 use Rattle.sky_replicas.proofs.Sources.{IsSource, source-is}
-use Rattle.sky_replicas.proofs.CopySteps.{given_up-history, uncopied-given_up}
+use Rattle.sky_replicas.proofs.CopySteps.{nothing-given_up, given_up-history, uncopied-given_up}
 use Rattle.sky_replicas.proofs.CopiesInHand.{found-source, in-hand}
 use Rattle.sky_replicas.proofs.LaterRows.{still-copied, ran-before, unseen}
 
@@ -266,6 +266,8 @@ is-restarted past name table n leaf p legal k found leaf_is among from = record 
   given_up = λ x has.
       subst (λ q. IsGivenUp past q d table x) (sym (now-is ∙ ap (λ o. in_hand d table None ∷ called (after_calls past p (lets_go_for o)) d (giving_up_copy table)) has))
       (let c : Copying past d table x = k.copying d table x refl has in is-given-up past d p table x (legal d) s c.here.may (in-hand past d table x has c));
+  unchanged = still;
+  same_node = node-is hand refl;
   anew = λ q state.
       ap (λ x. moves_in x (database_of (history_in now q)) (database_of (history_in now d)) table None) state
       ∙ ap (goes_on (database_of (history_in now q)) (database_of (history_in now d)) table None) idle;
@@ -297,6 +299,18 @@ is-restarted past name table n leaf p legal k found leaf_is among from = record 
 
     idle : copy_running (database_of (history_in now d)) table ≡ None
     idle = ap (λ q. copy_running (database_of (history_in q d)) table) now-is ∙ uncopied-idle (history_in after d) table (uncopied-given_up past d p table hand refl (legal d) s.other k)
+
+    still : hands past d table ≡ None → (e : ℕ) → history_in now e ≡ history_in past e
+    still nothing e =
+        ap (λ q. history_in q e) now-is ∙ ap (λ o. history_in (called (after_calls past p (lets_go_for o)) d (giving_up_copy table)) e) nothing
+        ∙ ap (λ q. history_in q e) (nothing-given_up past d table (idle-hand past d table k nothing))
+
+    node-is : (o : Option CopyHand) → hands past d table ≡ o → node (history_in now d) ≡ node (history_in past d)
+    node-is None is = ap node (still is d)
+    node-is (Some x) is =
+        let c : Copying past d table x = k.copying d table x refl is in
+        ap (λ q. node (history_in q d)) now-is ∙ ap (λ o. node (history_in (called (after_calls past p (lets_go_for o)) d (giving_up_copy table)) d)) is
+        ∙ ap node (given_up-history past d p table x c.table c.t (legal d) s.other c.here.may c.here.named c.here.runs)
 
     done : restart_table w name table ≡ Ok outcome
     done =

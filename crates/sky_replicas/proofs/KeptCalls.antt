@@ -29,7 +29,7 @@ use Rattle.sky_model.specs.Clock.{deed_in, waits_at}
 use Rattle.sky_model.specs.StepQueue.{newest_id}
 use Rattle.sky_model.specs.StepCopy.{given_up}
 use Rattle.sky_model.specs.StepNode.{NodeCall, joining, parting, removing, moving, letting_go, giving_up_copy, if_there, set_queue, joins, lists, adds, unlists, may_serve, call_form, node_does}
-use Rattle.sky_model.specs.CopyMoves.{CopyMove, copy_move, copy_consumer, lets_go_for}
+use Rattle.sky_model.specs.CopyMoves.{CopyMove, newest_of, copy_move, copy_consumer, lets_go_for}
 use Rattle.sky_model.specs.NodesOfWorld.{WorldOutcome, node_called, done_in, leaf_of, create_leaf, provides, are_columns, columns_called, adds_to, first_user, shows_state, Located}
 use Rattle.sky_model.specs.WorkersOfWorld.{move_facts, moves, source, source_alike, leaf_table, restarts, restarting, is_on_way, next_to_copy, starts_next, leaf_steps, parts_for, leaves_leaf, removes_from, node_form}
 use Rattle.sky_model.specs.World.{World, world_of, session_names, database_names, home, history_in, hands, on_top, nodes}
@@ -399,7 +399,7 @@ has-source past d p from = of (node (history_in past d)) refl from
 pub copied_tables_have_providers_rows : CopiedTablesHaveProvidersRows
 copied_tables_have_providers_rows calls in_form database later p name under tick is =
     let k : Keeps each_table (past_of calls) = kept-past calls (legal_past calls) in
-    let c : CopiedFrom (past_of calls) database p name under = k.all_copied database later p name under tick is in
+    let c : CopiedFrom (past_of calls) database p name under tick = k.all_copied database later p name under tick is in
     let h : HasCopied p name = copies_leave_their_rows p name under tick (world_place calls database later (noded (copied name under tick) ∷ p) in_form is) in
     let one : ended (of_copy h.table) h.t true ∷ h.below ≡ ended (of_copy c.table) c.t true ∷ c.below = sym h.last ∙ c.last in
     let table_is : h.table ≡ c.table = cc one in
@@ -421,6 +421,7 @@ copied_tables_have_providers_rows calls in_form database later p name under tick
       before = c.before;
       copy_began = subst (λ q. CopyBegan (past_of calls) database q c.table c.t c.hold c.at_once c.before) (sym f.is) c.copy_began;
       taken = ap (λ q. snapshot (history_in c.before q)) f.is ∙ c.taken;
+      from_newest = ap (λ q. newest_of (database_of (history_in c.before q))) f.is ∙ c.from_newest;
       source = c.source;
       source_named = ap (λ q. place_of name (table_names (history_in c.before q))) f.is ∙ c.source_named;
       same = ap (λ n. rows n p) (sym table_is) ∙ h.whole ∙ ap (λ n. put_all (writes_of n h.t p) []) table_is ∙ ap (λ n. put_all (writes_of c.table n p) []) t_is ∙ ap (λ q. put_all (writes_of c.table c.t q) []) c.last
