@@ -16,6 +16,7 @@ pub mod KeptMoves
 pub mod KeptCalls
 pub mod CopiesInHand
 pub mod LaterRows
+pub mod SessionsRows
 pub mod GivenUp
 pub mod InCopyTables
 pub mod SessionsMarks

@@ -105,10 +105,10 @@ ReplicasKeepProvidersRows = (calls : List Call) → All IsCallInForm calls → (
     → history_in (past_of calls) database ≡ above ++ (later ++ noded (copied name under tick) ∷ p) → list_any (takes_out name) later ≡ false
     → KeepsProvidersRows (past_of calls) database later (noded (copied name under tick) ∷ p) name under
 
--- whether a mark says that the table of a name was copied
-abbrev pub copies_again : List ℕ → Mark → Bool
-copies_again name (noded (copied other under tick)) = bytes_eq name other
-copies_again name mark = false
+-- whether a copy of a table commits by a mark: the next one says that the table was copied
+abbrev pub copies_again : ℕ → Mark → Bool
+copies_again table (ended (of_copy n) t true) = n == table
+copies_again table mark = false
 
 -- the sessions' transactions that have committed by these marks, the first one first
 abbrev pub committed_by_sessions : List Mark → List ℕ
@@ -116,15 +116,16 @@ committed_by_sessions [] = []
 committed_by_sessions (ended (of_session who) t true ∷ marks) = committed_by_sessions marks ++ t ∷ []
 committed_by_sessions (_ ∷ marks) = committed_by_sessions marks
 
--- above the place at which a table was copied, it has the rows of its provider's table with what sessions wrote since
+-- above the place at which a table was copied, and until it is copied again, it has the rows of its provider's table with what sessions wrote since
 pub record ShowsSessionsWrites (past : Past) (d : ℕ) (later : List Mark) (p : History) (name : List ℕ) (under : SnapshotView) : Type 0 where
   pub copy : HasProvidersRows past d p name under
-  pub written : rows copy.table (later ++ p) ≡ in_turn (λ t. writes copy.table t (later ++ p)) (committed_by_sessions later) (copied_rows past d p name under copy)
+  pub written : list_any (copies_again copy.table) later ≡ false
+      → rows copy.table (later ++ p) ≡ in_turn (λ t. writes copy.table t (later ++ p)) (committed_by_sessions later) (copied_rows past d p name under copy)
 
--- so it is until the table is copied again
+-- so it is at each place of each history
 abbrev pub ReplicasShowSessionsWrites : Type 0
 ReplicasShowSessionsWrites = (calls : List Call) → All IsCallInForm calls → (database : ℕ) (above later : List Mark) (p : History) (name : List ℕ) (under : SnapshotView) (tick : ℕ)
-    → history_in (past_of calls) database ≡ above ++ (later ++ noded (copied name under tick) ∷ p) → list_any (copies_again name) later ≡ false
+    → history_in (past_of calls) database ≡ above ++ (later ++ noded (copied name under tick) ∷ p)
     → ShowsSessionsWrites (past_of calls) database later (noded (copied name under tick) ∷ p) name under
 
 -- a session is shown those rows, with its own writes on top, if its sight is above that place: so `get` and `scan` print them
