@@ -51,6 +51,7 @@ use Rattle.sky_replicas.proofs.Others.{each_table, idle-hand}
 use Rattle.sky_replicas.proofs.CallPasts.{call_marks, called, after_calls, on-move, history-called, history-elsewhere}
 use Rattle.sky_replicas.proofs.Sources.{IsSource, source-is}
 use Rattle.sky_replicas.proofs.CopySteps.{nothing-given_up, given_up-history, uncopied-given_up}
+use Rattle.sky_replicas.proofs.HoldsInHand.{let-go}
 use Rattle.sky_replicas.proofs.CopiesInHand.{found-source, in-hand}
 use Rattle.sky_replicas.proofs.LaterRows.{still-copied, ran-before, unseen}
 
@@ -203,17 +204,6 @@ has-begun (ended (of_copy n) u c ∷ h) table t is =
 has-begun (mark ∷ h) table t is = above-it mark h table t (has-begun h table t is)
 
 -- ---- restarts
-
-none-left : (number : ℕ) (held : List Hold) → list_any (λ (x : Hold). x.number == number) (without_hold number held) ≡ false
-none-left number [] = refl
-none-left number (x ∷ held) =
-    by_test (λ b. list_any (λ (y : Hold). y.number == number) (if not b then x ∷ without_hold number held else without_hold number held) ≡ false) (x.number == number)
-    (λ _. none-left number held) (λ other. ap (λ b. b || list_any (λ (y : Hold). y.number == number) (without_hold number held)) other ∙ none-left number held)
-
-let-go : (h : History) (number : ℕ) → list_any (λ (x : Hold). x.number == number) (holds (marked h (call_marks h (letting_go number)))) ≡ false
-let-go h number =
-    by_test (λ b. list_any (λ (x : Hold). x.number == number) (holds (marked h (marks_of (if b then does_marks Done (noded (hold_ended number) ∷ []) else answers Null)))) ≡ false)
-    (list_any (λ (x : Hold). x.number == number) (holds h)) (λ _. none-left number (holds h)) (λ none. none)
 
 -- a copy in hand was given up
 is-given-up : (past : Past) (d p : ℕ) (name : List ℕ) (hand : CopyHand) → Legal (history_in past d) → IsSource past d p → may_copy name (node (history_in past d)) ≡ true → InHand past d name hand

@@ -7,7 +7,7 @@ use Rattle.sky_names.specs.Places.{place_of}
 use Rattle.sky_txid.specs.Ids.{contains}
 use Rattle.sky_txid.specs.Snapshot.{SnapshotView}
 use Rattle.londiste_state.specs.Nodes.{Node, node_name}
-use Rattle.sky_model.specs.History.{Mark, of_copy, began, ended, tabled, wrote, noded, copied, leaf_removed, state_set, hold_ended, History, Fact, within, node_made, in_hand, Past}
+use Rattle.sky_model.specs.History.{Mark, of_copy, began, ended, tabled, wrote, noded, copied, leaf_removed, state_set, hold_begun, hold_ended, History, Fact, within, node_made, in_hand, Past}
 use Rattle.sky_model.specs.Transactions.{snapshot}
 use Rattle.sky_model.specs.Rows.{table_names, rows, writes as writes_of, put_all}
 use Rattle.sky_model.specs.Nodes.{node}
@@ -280,13 +280,14 @@ keeps-within among past e mark tells passes none kept after =
 
 -- ---- marks of other statements
 
--- whether a mark is none of a copy that begins, writes or ends, of one that has ended, of a hold that ends, and of a table that leaves a leaf or goes on
--- from being copied
+-- whether a mark is none of a copy that begins, writes or ends, of one that has ended, of a hold that begins or ends, and of a table that leaves a leaf or
+-- goes on from being copied
 abbrev pub is_quiet : Mark → Bool
 is_quiet (began (of_copy n) t) = false
 is_quiet (ended (of_copy n) t c) = false
 is_quiet (tabled (wrote (of_copy n) t m key old new)) = false
 is_quiet (noded (copied name under tick)) = false
+is_quiet (noded (hold_begun hold)) = false
 is_quiet (noded (hold_ended hold)) = false
 is_quiet (noded (leaf_removed name)) = false
 is_quiet (noded (state_set name state)) = is_in_copy state
@@ -324,7 +325,7 @@ abbrev pub FactsFit : Past → List Fact → Type 0
 FactsFit past [] = Unit {0}
 FactsFit past (fact ∷ facts) = FactFits past fact × FactsFit (fact ∷ past) facts
 
-made-noded : (past : Past) (e : ℕ) → is_some (node (history_in past e)) ≡ true → Noded past → Noded (node_made e ∷ past)
+pub made-noded : (past : Past) (e : ℕ) → is_some (node (history_in past e)) ≡ true → Noded past → Noded (node_made e ∷ past)
 made-noded past e has all d there =
     by_same (λ b. (contains d (nodes past) || b) ≡ true → is_some (node (history_in past d)) ≡ true) d e
     (λ same _. subst (λ k. is_some (node (history_in past k)) ≡ true) (sym same) has) (λ _ is. all d (grind (arith, is))) (sym (contains-push d e (nodes past)) ∙ there)
@@ -335,7 +336,7 @@ copying-handed past e other new d name hand c = copying-on past (in_hand e other
 pub copied-beside : (past : Past) (fact : Fact) → ((d : ℕ) → history_in (fact ∷ past) d ≡ history_in past d) → ((d : ℕ) → StillFound past fact d) → AllCopied past → AllCopied (fact ∷ past)
 copied-beside past fact same still all d later p name under tick is = copied-still past fact d p name under tick (still d) (all d later p name under tick (sym (same d) ∙ is))
 
-handed-same : (past : Past) (e : ℕ) (other : List ℕ) (hand : Option CopyHand) → hands past e other ≡ hand → (d : ℕ) (name : List ℕ) → hands (in_hand e other hand ∷ past) d name ≡ hands past d name
+pub handed-same : (past : Past) (e : ℕ) (other : List ℕ) (hand : Option CopyHand) → hands past e other ≡ hand → (d : ℕ) (name : List ℕ) → hands (in_hand e other hand ∷ past) d name ≡ hands past d name
 handed-same past e other hand is d name =
     hand-is past e other hand d name
     ∙ by_test (λ b. is_at e other d name ≡ b → (if b then hand else hands past d name) ≡ hands past d name) (is_at e other d name)

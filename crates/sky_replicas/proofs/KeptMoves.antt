@@ -46,7 +46,7 @@ use Rattle.sky_replicas.proofs.HeldRows.{piece-is, held-fit, rows-in-order}
 use Rattle.sky_replicas.proofs.Sources.{IsAlike}
 use Rattle.sky_replicas.proofs.Copying.{Holds, held_at}
 use Rattle.sky_replicas.proofs.Keeping.{began-under, Copying, Keeps, Kept, is_quiet}
-use Rattle.sky_replicas.proofs.Others.{each_table, other_than, by-before, legal-under, fewer, Free, own-free, KeptFree, is_own, own-marks, own-marks-free, quiet-marks, quiet-marks-free}
+use Rattle.sky_replicas.proofs.Others.{each_table, other_than, by-before, legal-under, fewer, Free, own-free, KeptFree, is_own, own-marks, own-marks-free, quiet-marks, begins-hold}
 use Rattle.sky_replicas.proofs.CallPasts.{call_marks, called, history-called, history-elsewhere, quiet-consumer, lets-go, own-call, beginning-marks}
 use Rattle.sky_replicas.proofs.CopySteps.{StillFrom, still-marks, MoveKept, move-kept, prints-kept, AtCopy, at-copy, Begins, begins, Source, ends, goes}
 
@@ -62,7 +62,7 @@ cut : (n : ℕ) (es : Entries (List Val)) → Cut n es
 cut n es = record { piece = take n es; others = drop n es; is = sym (take-append-drop n es); taken = refl; all = all-taken n es }
 
 -- the two ends of a piece
-abbrev last_move : List ℕ → SnapshotView → CopyHand → Entries (List Val) → CopyMove
+abbrev pub last_move : List ℕ → SnapshotView → CopyHand → Entries (List Val) → CopyMove
 last_move name under hand piece = record {
   provider = letting_go hand.hold ∷ [];
   replica = copying_rows name (rows_of piece) ∷ ending_copy name under hand.tick ∷ [];
@@ -70,7 +70,7 @@ last_move name under hand piece = record {
   hand = None;
 }
 
-abbrev next_move : List ℕ → CopyHand → Entries (List Val) → CopyMove
+abbrev pub next_move : List ℕ → CopyHand → Entries (List Val) → CopyMove
 next_move name hand piece = record {
   provider = [];
   replica = copying_rows name (rows_of piece) ∷ [];
@@ -79,7 +79,7 @@ next_move name hand piece = record {
 }
 
 -- a leaf has still the provider's database that it had after a call
-still-called : (past : Past) (e : ℕ) (call : NodeCall) (d p : ℕ) → (AllLegal past → StillFrom past d p) → AllLegal (called past e call) → StillFrom (called past e call) d p
+pub still-called : (past : Past) (e : ℕ) (call : NodeCall) (d p : ℕ) → (AllLegal past → StillFrom past d p) → AllLegal (called past e call) → StillFrom (called past e call) d p
 still-called past e call d p from after =
     still-marks past e (call_marks (history_in past e) call) d p after (from (legal-under past (map (within e) (call_marks (history_in past e) call)) after))
 
@@ -280,7 +280,7 @@ module _ (past : Past) (d p : ℕ) (name consumer : List ℕ) (legal : AllLegal 
       (each-given AnyReply is_quiet (node_does (database_of (history_in past p)) (parting consumer)) (quiet-consumer (database_of (history_in past p)) (parting consumer) refl)) (fewer d name past k))
 
   -- the number of the hold is new
-  number-is : least_free (map Hold.number (holds (history_in second p))) ≡ hand.hold
+  pub number-is : least_free (map Hold.number (holds (history_in second p))) ≡ hand.hold
   number-is = ap (λ hs. least_free (map Hold.number hs)) as-read.holds_are
 
   new : contains hand.hold (map Hold.number (holds (history_in second p))) ≡ false
@@ -300,7 +300,7 @@ module _ (past : Past) (d p : ℕ) (name consumer : List ℕ) (legal : AllLegal 
           absurd (cc (sym (held-none hand.hold (holds (history_in second p)) new) ∙ ap (λ n. held_at n (holds (history_in second p))) same ∙ held))) (λ _. refl)
 
   free-third : KeptFree p d name hand.hold third
-  free-third = quiet-marks-free p hand.hold second p d name (call_marks (history_in second p) holding) tt free-second
+  free-third = begins-hold p d name hand.hold (least_free (map Hold.number (holds (history_in second p)))) second free-second
 
   -- it is held, with the snapshot and the rows of the table as they were read
   abbrev taken_at : History
@@ -459,22 +459,22 @@ starts-kept past d p name assumed alike may none =
     of false false true is = tt
     of false false false is = assumed (move_facts (world_of past) p d name move) (λ legal k. begin-kept past d p name consumer legal k alike may none is)
 
+-- a table that is to be copied
+pub to-copy : (name : List ℕ) (n : Option Node) → leaf_state name n ≡ InCopy → may_copy name n ≡ true
+to-copy name None e = absurd (cc e)
+to-copy name (Some (of_root r)) e = absurd (cc e)
+to-copy name (Some (of_leaf l)) e = of (table_of name l) e
+  where
+    of : (o : Option LeafTable) → unwrap_or (option_map LeafTable.state o) Absent ≡ InCopy → unwrap_or (option_map (λ t. is_in_copy t.state) o) false ≡ true
+    of None e = absurd (cc e)
+    of (Some t) e = ap is_in_copy e
+
 pub copy-kept : (past : Past) (d p : ℕ) (name : List ℕ) → Kept each_table past → IsAlike past d p name
     → IfKept past p d name (copy_move (database_of (history_in past p)) (database_of (history_in past d)) name (hands past d name))
 copy-kept past d p name kept alike = in-state (leaf_state name (node (history_in past d))) refl
   where
     assumed : Assumed past
     assumed facts so = by-before past facts so kept
-
-    -- a table that is to be copied
-    may : (n : Option Node) → leaf_state name n ≡ InCopy → may_copy name n ≡ true
-    may None e = absurd (cc e)
-    may (Some (of_root r)) e = absurd (cc e)
-    may (Some (of_leaf l)) e = of (table_of name l) e
-      where
-        of : (o : Option LeafTable) → unwrap_or (option_map LeafTable.state o) Absent ≡ InCopy → unwrap_or (option_map (λ t. is_in_copy t.state) o) false ≡ true
-        of None e = absurd (cc e)
-        of (Some t) e = ap is_in_copy e
 
     going : (hand : Option CopyHand) → hands past d name ≡ hand → may_copy name (node (history_in past d)) ≡ true
         → (o : Option (CopyHand × SnapshotView)) → under_way (database_of (history_in past p)) hand ≡ o → IfKept past p d name (continues (database_of (history_in past p)) name hand o)
@@ -498,6 +498,6 @@ copy-kept past d p name kept alike = in-state (leaf_state name (node (history_in
 
     in-state : (state : TableState) → leaf_state name (node (history_in past d)) ≡ state
         → IfKept past p d name (moves_in state (database_of (history_in past p)) (database_of (history_in past d)) name (hands past d name))
-    in-state InCopy is = running (may (node (history_in past d)) is) (copy_running (database_of (history_in past d)) name) refl
+    in-state InCopy is = running (to-copy name (node (history_in past d)) is) (copy_running (database_of (history_in past d)) name) refl
     in-state Synced is = prints-kept past p d name Idle (hands past d name) refl kept
     in-state state is = prints-kept past p d name (AwaitsTable name) (hands past d name) refl kept

@@ -13,6 +13,7 @@ pub mod HeldRows
 pub mod Sources
 pub mod CopySteps
 pub mod KeptMoves
+pub mod HoldsInHand
 pub mod KeptCalls
 pub mod CopiesInHand
 pub mod LaterRows
