@@ -14,17 +14,17 @@ use Rattle.sky_keys.specs.Versions.{with_version, without, version_of, versions_
 use Rattle.sky_keys.proofs.EntryLemmas.{key_ties-is, at-written, is_in_order-written, at-forgotten, is_in_order-forgotten}
 use Rattle.sky_keys.proofs.VersionLemmas.{without-none}
 use Rattle.londiste_state.specs.Nodes.{of_leaf, Leaf, is_among, tables_of}
-use Rattle.sky_model.specs.declared.reply.Reply.TheVariants.{Done, Null}
+use Rattle.sky_model.specs.declared.reply.Reply.TheVariants.{Done}
 use Rattle.sky_model.specs.declared.reply.Refusal.TheVariants.{NoNode, NotInSet}
-use Rattle.sky_model.specs.History.{Mark, of_copy, began, ended, tabled, wrote, noded, restarted, hold_ended, History, in_hand, Past}
+use Rattle.sky_model.specs.History.{Mark, of_copy, began, ended, tabled, wrote, noded, restarted, History, in_hand, Past}
 use Rattle.sky_model.specs.Hands.{CopyHand}
 use Rattle.sky_model.specs.Transactions.{next_txid, has_ended}
-use Rattle.sky_model.specs.Copies.{copies, is_copied_by, Hold, holds, without_hold}
+use Rattle.sky_model.specs.Copies.{copies, is_copied_by, Hold, holds}
 use Rattle.sky_model.specs.Rows.{is_read_only, writes as writes_of, has_written}
 use Rattle.sky_model.specs.Versions.{versions}
 use Rattle.sky_model.specs.Nodes.{node}
 use Rattle.sky_model.specs.State.{database_of}
-use Rattle.sky_model.specs.Outcome.{◌>>=◌, ◌>>◌, refused_if, found_or, answers, does_marks, marks_of}
+use Rattle.sky_model.specs.Outcome.{◌>>=◌, ◌>>◌, refused_if, found_or}
 use Rattle.sky_model.specs.StepNode.{letting_go, giving_up_copy, may_copy}
 use Rattle.sky_model.specs.CopyMoves.{copy_running, goes_on, moves_in, lets_go_for}
 use Rattle.sky_model.specs.NodesOfWorld.{Located, WorldOutcome, node_called}

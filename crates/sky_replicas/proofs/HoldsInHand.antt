@@ -1,31 +1,28 @@
 -- Each hold of a database is that of what a worker has in hand: what the moves of workers, and all other facts, leave of it.
-use Rattle.std.proofs.Common.{arith, ◌≡◌, ℕ, ◌==◌, ◌^◌, nat_le, nat_lt, List, [], ◌∷◌, ◌++◌, map, length, Bool, true, false, not, ◌||◌, Option, Some, None, Ok, IfOk, is_some, option_map, option_and_then, unwrap_or, refl, sym, ap, subst, ◌∙◌, if◌then◌else◌}
+use Rattle.std.proofs.Common.{arith, ◌≡◌, ℕ, ◌==◌, ◌^◌, nat_le, nat_lt, List, [], ◌∷◌, ◌++◌, map, length, Bool, true, false, not, ◌||◌, Option, Some, None, Ok, IfOk, option_map, option_and_then, refl, sym, ap, subst, ◌∙◌, if◌then◌else◌}
 use Rattle.std.specs.List.{list_any}
-use Rattle.std.proofs.lemmas.Bool.Decides.{nat_tests}
 use Rattle.std.proofs.lemmas.Bool.{eqb-true}
 use Rattle.std.proofs.lemmas.List.Folds.{list_any-append}
 use Rattle.sky_val.specs.declared.val.Val.{Val}
 use Rattle.sky_val.specs.Entries.{Entries}
-use Rattle.sky_names.specs.Places.{place_of}
 use Rattle.sky_txid.specs.Snapshot.{SnapshotView}
 use Rattle.londiste_state.specs.declared.state.TableState.{TableState}
-use Rattle.londiste_state.specs.declared.state.TableState.TheVariants.{Absent, InCopy, CatchingUp, Synced}
-use Rattle.londiste_state.specs.Nodes.{Node, of_root, of_leaf, LeafTable, table_of}
-use Rattle.sky_model.specs.declared.reply.Reply.TheVariants.{Done, Null, AwaitsTable, Idle}
+use Rattle.londiste_state.specs.declared.state.TableState.TheVariants.{InCopy, Synced}
+use Rattle.sky_model.specs.declared.reply.Reply.TheVariants.{Done, Null}
 use Rattle.sky_model.specs.declared.reply.Refusal.TheVariants.{IdsSpent, TooMany, TxidsSpent}
 use Rattle.sky_model.specs.declared.reply.Limit.TheVariants.{Consumers}
 use Rattle.sky_model.specs.History.{Mark, of_copy, began, tabled, read_only, noded, leaf_removed, hold_begun, hold_ended, History, Fact, within, node_made, in_hand, Past}
 use Rattle.sky_model.specs.Hands.{CopyHand}
 use Rattle.sky_model.specs.Transactions.{next_txid, snapshot}
 use Rattle.sky_model.specs.Copies.{copies, copy_txid, Hold, holds, without_hold, least_free}
-use Rattle.sky_model.specs.Rows.{Write, table_names}
+use Rattle.sky_model.specs.Rows.{Write}
 use Rattle.sky_model.specs.Nodes.{node}
 use Rattle.sky_model.specs.State.{RowPart, part_of, after_part, Database, database_of}
 use Rattle.sky_model.specs.ShownRows.{snapshot_now}
 use Rattle.sky_model.specs.Outcome.{Checked, Outcome, ◌>>=◌, ◌>>◌, refused_if, answers, does_marks, marks_of}
 use Rattle.sky_model.specs.StepCopy.{copy_write, copy_writes, deletions, insertions, rows_now, begins_copy, all_fit, copies_rows, given_up}
 use Rattle.sky_model.specs.StepConsumer.{sub_ids_spent}
-use Rattle.sky_model.specs.StepNode.{NodeCall, joining, parting, removing, beginning_copy, copying_rows, ending_copy, giving_up_copy, holding, letting_go, table_number, is_full, is_in_copy, may_copy, may_serve, call_form, node_does}
+use Rattle.sky_model.specs.StepNode.{NodeCall, joining, parting, removing, beginning_copy, copying_rows, ending_copy, giving_up_copy, holding, letting_go, table_number, is_full, may_copy, may_serve, call_form, node_does}
 use Rattle.sky_model.specs.CopyMoves.{CopyMove, piece_size, held_snapshot, rows_from, rows_of, last_key, copies_piece, next_piece, behind_calls, copy_consumer, first_hand, starts_copy, copy_running, under_way, continues, goes_on, leaf_state, moves_in, copy_move, lets_go_for}
 use Rattle.sky_model.specs.WorkersOfWorld.{move_facts}
 use Rattle.sky_model.specs.Settling.{marked}
@@ -297,6 +294,10 @@ own-held d p name past from o has kept legal = record { all_noded = k.all_noded;
         own r n hand (ap (hands past d) one.table ∙ ap (λ q. hands past q other) one.database ∙ mine) (ap (source_of past) one.database ∙ comes) number_is)
         (λ _ no. others e other hand (ap not no) mine comes number_is) refl
 
+isnt : (b : Bool) → not b ≡ true → b ≡ false
+isnt true e = absurd (cc e)
+isnt false e = refl
+
 -- it has nothing
 puts-held : (d p : ℕ) (name : List ℕ) (past : Past) → KeptHeld (other_than d name) p None past → AllHeld (in_hand d name None ∷ past)
 puts-held d p name past kept after = record { all_noded = k.all_noded; holders = λ r n is. of r n (k.holders r n is) }
@@ -308,10 +309,6 @@ puts-held d p name past kept after = record { all_noded = k.all_noded; holders =
     of r n (owns at none) = absurd (cc none)
     of r n (others e other hand differ has comes number_is) =
         others e other hand refl (hand-is past d name None e other ∙ ap (λ b. if b then None else hands past e other) (isnt (is_at d name e other) differ) ∙ has) comes number_is
-      where
-        isnt : (b : Bool) → not b ≡ true → b ≡ false
-        isnt true e = absurd (cc e)
-        isnt false e = refl
 
 -- or this
 takes-held : (d p : ℕ) (name : List ℕ) (hand : CopyHand) (past : Past) → (AllLegal past → source_of past d ≡ Some p) → KeptHeld (other_than d name) p (Some hand.hold) past → AllHeld (in_hand d name (Some hand) ∷ past)
@@ -328,10 +325,6 @@ takes-held d p name hand past from kept after = record { all_noded = k.all_noded
         others d name hand refl (hand-is past d name (Some hand) d name ∙ ap (λ b. if b then Some hand else hands past d name) (at-itself d name)) (from legal ∙ ap Some (sym at)) (cc own)
     of r n (others e other theirs differ has comes number_is) =
         others e other theirs refl (hand-is past d name (Some hand) e other ∙ ap (λ b. if b then Some hand else hands past e other) (isnt (is_at d name e other) differ) ∙ has) comes number_is
-      where
-        isnt : (b : Bool) → not b ≡ true → b ≡ false
-        isnt true e = absurd (cc e)
-        isnt false e = refl
 
 -- ---- moves
 

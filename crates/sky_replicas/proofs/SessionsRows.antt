@@ -1,17 +1,15 @@
 -- The rows of a table that was copied, until it is copied again: only sessions write it.
-use Rattle.std.proofs.Common.{arith, ◌≡◌, ℕ, ◌==◌, List, [], ◌∷◌, ◌++◌, Bool, true, false, not, ◌&&◌, ◌||◌, Some, append_assoc, refl, sym, ap, subst, ◌∙◌, if◌then◌else◌}
+use Rattle.std.proofs.Common.{arith, ◌≡◌, ℕ, ◌==◌, List, [], ◌∷◌, ◌++◌, true, false, ◌&&◌, ◌||◌, Some, append_assoc, refl, sym, ap, subst, ◌∙◌, if◌then◌else◌}
 use Rattle.std.specs.List.{list_any}
 use Rattle.std.proofs.lemmas.Bool.Decides.{nat_tests}
 use Rattle.std.proofs.lemmas.Bool.{false_from_ne_true, or_parts}
 use Rattle.sky_txid.specs.Ids.{contains}
-use Rattle.sky_val.specs.declared.val.Val.{Val}
-use Rattle.sky_val.specs.Entries.{Entries}
 use Rattle.sky_model.specs.History.{Mark, Whose, of_session, of_worker, of_copy, ended, tabled, wrote, noded, copied, History}
 use Rattle.sky_model.specs.Transactions.{next_txid, workers}
-use Rattle.sky_model.specs.Copies.{copies, is_copied_by, is_copys}
+use Rattle.sky_model.specs.Copies.{copies, is_copied_by}
 use Rattle.sky_model.specs.Rows.{committed, writes as writes_of, rows, in_turn, put_all}
 use Rattle.sky_model.specs.Calls.{past_of}
-use Rattle.sky_model.proofs.Legal.{Fine, begins_work, ends_work, begins_copy, ends_copy, writes, copies_row, IsWork, Legal, start, next, legal-below_mark, fine_mark}
+use Rattle.sky_model.proofs.Legal.{Fine, begins_work, ends_work, begins_copy, ends_copy, writes, copies_row, Legal, start, next, legal-below_mark, fine_mark}
 use Rattle.sky_model.proofs.Snapshots.{contains-push, contains-filter, copys-of, sound}
 use Rattle.sky_model.proofs.SnapshotLaws.{legal-below}
 use Rattle.sky_model.proofs.Guarded.{copied_by-push, copied_by-without}
