@@ -8,7 +8,7 @@ use Rattle.sky_txid.specs.Snapshot.{SnapshotView}
 use Rattle.londiste_state.specs.Nodes.{is_among}
 use Rattle.sky_model.specs.declared.reply.Reply.TheVariants.{Done, Null}
 use Rattle.sky_model.specs.declared.reply.Refusal.TheVariants.{TxidsSpent}
-use Rattle.sky_model.specs.History.{Mark, of_copy, began, ended, tabled, read_only, noded, leaf_removed, state_set, copied, restarted, hold_ended, History, Fact, within, in_hand, Past}
+use Rattle.sky_model.specs.History.{Mark, of_copy, began, ended, tabled, read_only, noded, leaf_removed, state_set, copied, restarted, hold_begun, hold_ended, History, Fact, within, in_hand, Past}
 use Rattle.sky_model.specs.Transactions.{next_txid}
 use Rattle.sky_model.specs.Copies.{copies, copy_txid, Hold, holds}
 use Rattle.sky_model.specs.Rows.{Write, table_names, columns_of, writes as writes_of}
@@ -86,6 +86,7 @@ quiet-if (began (of_copy n) t) e = absurd (cc)
 quiet-if (ended (of_copy n) t c) e = absurd (cc)
 quiet-if (tabled mark) e = absurd (cc)
 quiet-if (noded (copied name under tick)) e = absurd (cc)
+quiet-if (noded (hold_begun hold)) e = absurd (cc)
 quiet-if (noded (hold_ended hold)) e = absurd (cc)
 quiet-if (noded (leaf_removed name)) e = absurd (cc)
 quiet-if (noded (state_set name state)) e = absurd (cc)

@@ -9,18 +9,20 @@ use Rattle.sky_model.specs.Copies.{copies, copy_txid}
 use Rattle.sky_model.specs.Nodes.{node}
 use Rattle.sky_model.specs.State.{Database, database_of}
 use Rattle.sky_model.specs.Hands.{CopyHand}
-use Rattle.sky_model.specs.CopyMoves.{held_snapshot, next_piece, copy_running, under_way, continues, goes_on, leaf_state, moves_in, copy_move}
+use Rattle.sky_model.specs.CopyMoves.{newest_of, held_snapshot, next_piece, copy_running, under_way, continues, goes_on, leaf_state, moves_in, copy_move}
 use Rattle.sky_model.specs.NodesOfWorld.{Located, node_called}
 use Rattle.sky_model.specs.World.{world_of, history_in, hands, nodes}
 use Rattle.sky_model.specs.Calls.{past_of}
 use Rattle.sky_model.proofs.Histories.{AllLegal, legal_past}
-use Rattle.sky_replicas.specs.LawsOfReplicas.{CopyBegan, InHand, HasInHand, HandsAreOfRunningCopies, RunningCopiesAreInHand, GoesOn, CopiesGoOn}
+use Rattle.sky_replicas.specs.LawsOfReplicas.{CopyBegan, InHand, HasInHand, HandsAreOfRunningCopies, RunningCopiesAreInHand, IsHandsHold, HoldsAreInHand, GoesOn, CopiesGoOn}
 use Rattle.sky_replicas.proofs.NodeNames.{provider_of, database_among, names_in, source_of, called-database}
 use Rattle.sky_replicas.proofs.Copying.{copy-found}
+use Rattle.sky_replicas.proofs.InCopyTables.{in-copy-state}
 use Rattle.sky_replicas.proofs.RunningCopies.{uncopied-idle}
 use Rattle.sky_replicas.proofs.Keeping.{Copying, Keeps}
 use Rattle.sky_replicas.proofs.Others.{each_table, idle-hand}
-use Rattle.sky_replicas.proofs.KeptCalls.{kept-past, HasSource, has-source}
+use Rattle.sky_replicas.proofs.HoldsInHand.{Holder, others, owns}
+use Rattle.sky_replicas.proofs.KeptCalls.{kept-past, held-past, HasSource, has-source}
 
 -- the provider of a leaf is of its database
 pub found-source : (past : Past) (d : ℕ) (leaf : Leaf) (provider : Located) → node (history_in past d) ≡ Some (of_leaf leaf) → node_called (world_of past) leaf.provider ≡ Some provider
@@ -44,6 +46,8 @@ in-hand past d name hand is c =
       runs = c.here.runs;
       before = c.before;
       copy_began = subst (λ q. CopyBegan past d q c.table c.t hand.hold false c.before) (sym f.is) c.copy_began;
+      from_newest = ap (λ q. newest_of (database_of (history_in c.before q))) f.is ∙ c.from_newest;
+      in_copy = ap (leaf_state name) (sym f.is_leaf) ∙ in-copy-state name (node (history_in past d)) c.here.may;
       holds = ap (λ q. held_snapshot (database_of (history_in past q)) hand.hold) f.is ∙ c.there.is ∙ ap (λ q. Some (snapshot (history_in c.before q))) (sym f.is);
     }
 
@@ -60,6 +64,20 @@ running_copies_are_in_hand calls in_form d name table named runs =
     of : (o : Option CopyHand) → hands (past_of calls) d name ≡ o → is_some o ≡ true → HasInHand (past_of calls) d name
     of None is some = absurd (cc some)
     of (Some hand) is some = record { hand = hand; in_hand = hands_are_of_running_copies calls in_form d name hand is }
+
+-- each hold is that of what one has in hand
+pub holds_are_in_hand : HoldsAreInHand
+holds_are_in_hand calls in_form p number is = of ((held-past calls (legal_past calls)).holders p number is)
+  where
+    past : Past
+    past = past_of calls
+
+    of : Holder each_table 0 None past p number → IsHandsHold past p number
+    of (owns at none) = absurd (cc none)
+    of (others d name hand _ has from number_is) =
+        let c : InHand past d name hand = hands_are_of_running_copies calls in_form d name hand has in
+        let one : Some c.provider.database ≡ Some p = sym (found-source past d c.leaf c.provider c.is_leaf c.found) ∙ from in
+        record { database = d; name = name; hand = hand; in_hand = c; from = cc one; is = number_is }
 
 -- ---- the next move
 

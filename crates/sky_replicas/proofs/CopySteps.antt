@@ -17,7 +17,7 @@ use Rattle.sky_model.specs.State.{RowPart, part_of, after_part, database_of}
 use Rattle.sky_model.specs.Outcome.{answers, does_marks, marks_of}
 use Rattle.sky_model.specs.StepCopy.{copy_writes, deletions, insertions, rows_now, given_up}
 use Rattle.sky_model.specs.StepNode.{beginning_copy, copying_rows, ending_copy, giving_up_copy, letting_go, if_there, may_copy, call_form}
-use Rattle.sky_model.specs.CopyMoves.{CopyMove, rows_of, last_key, only_prints, lets_go_for}
+use Rattle.sky_model.specs.CopyMoves.{CopyMove, newest_of, rows_of, last_key, only_prints, lets_go_for}
 use Rattle.sky_model.specs.WorkersOfWorld.{move_facts}
 use Rattle.sky_model.specs.Settling.{marked}
 use Rattle.sky_model.specs.World.{world_of, history_in, hands, on_top}
@@ -160,9 +160,10 @@ begins h l name table may named none unspent =
 -- ---- the two ends of a piece
 
 -- where the rows that are copied come from: the copy by this transaction began right after the snapshot had been taken
-pub record Source (past : Past) (d p : ℕ) (name : List ℕ) (table t hold : ℕ) (at_once : Bool) (before : Past) (source : ℕ) : Type 0 where
+pub record Source (past : Past) (d p : ℕ) (name : List ℕ) (table t hold : ℕ) (at_once : Bool) (before : Past) (source tick : ℕ) : Type 0 where
   pub copy_began : CopyBegan past d p table t hold at_once before
   pub named : place_of name (table_names (history_in before p)) ≡ Some source
+  pub newest : newest_of (database_of (history_in before p)) ≡ tick
 
 -- no copy of its table runs once one has ended
 pub uncopied-ended : (h : History) → Legal h → (name : List ℕ) (table t : ℕ) → place_of name (table_names h) ≡ Some table → is_copied_by table t (copies h) ≡ true → (committed : Bool) (mark : NodeMark)
@@ -219,7 +220,7 @@ uncopied-given_up past d p name (Some hand) has l other k =
 -- the last piece: the copy ends
 pub ends : (past : Past) (d p : ℕ) (name : List ℕ) (table t hold : ℕ) (at_once : Bool) (made piece : Entries (List Val)) (before : Past) (source : ℕ) (under : SnapshotView) (tick : ℕ)
     → AtCopy (history_in past d) name table t made → AllFit (columns_of table (history_in past d)) piece → is_in_order (made ++ (piece ++ [])) ≡ true
-    → Source past d p name table t hold at_once before source → snapshot (history_in before p) ≡ under → rows source (history_in before p) ≡ made ++ piece
+    → Source past d p name table t hold at_once before source tick → snapshot (history_in before p) ≡ under → rows source (history_in before p) ≡ made ++ piece
     → (AllLegal past → StillFrom past d p) → Kept (other_than d name) past
     → Kept each_table (in_hand d name None ∷ after_calls past d (copying_rows name (rows_of piece) ∷ ending_copy name under tick ∷ []))
 ends past d p name table t hold at_once made piece before source under tick c fits order s taken rows_are from kept =
@@ -262,7 +263,7 @@ ends past d p name table t hold at_once made piece before source under tick c fi
         let still : StillFrom second d p = still-marks past d marks d p legal (from (legal-under past (map (within d) marks) legal)) in
         source-within second d (ended (of_copy table) t true) d p still.all (fine-within second d (ended (of_copy table) t true) after) still.from
 
-    tells : AllLegal third → CopiedFrom third d (history_in third d) name under
+    tells : AllLegal third → CopiedFrom third d (history_in third d) name under tick
     tells after = record {
       provider = p;
       from = found after;
@@ -273,6 +274,7 @@ ends past d p name table t hold at_once made piece before source under tick c fi
       before = before;
       copy_began = began-on (within d (ended (of_copy table) t true)) (began-under (map (within d) marks) s.copy_began);
       taken = taken;
+      from_newest = s.newest;
       source = source;
       source_named = s.named;
       below = history_in second d;
@@ -292,7 +294,7 @@ ends past d p name table t hold at_once made piece before source under tick c fi
 -- another piece: the copy stays in hand
 pub goes : (past : Past) (d p : ℕ) (name : List ℕ) (table t : ℕ) (made piece rest : Entries (List Val)) (before : Past) (source : ℕ) (hand : CopyHand)
     → (p == d) ≡ false → AtCopy (history_in past d) name table t made → AllFit (columns_of table (history_in past d)) piece → is_in_order (made ++ (piece ++ rest)) ≡ true
-    → Holds (history_in past p) hand.hold (history_in before p) → Source past d p name table t hand.hold false before source → rows source (history_in before p) ≡ made ++ (piece ++ rest)
+    → Holds (history_in past p) hand.hold (history_in before p) → Source past d p name table t hand.hold false before source hand.tick → rows source (history_in before p) ≡ made ++ (piece ++ rest)
     → hand.last ≡ last_key None (made ++ piece) → (AllLegal past → StillFrom past d p) → KeptFree p d name hand.hold past
     → Kept each_table (in_hand d name (Some hand) ∷ called past d (copying_rows name (rows_of piece)))
 goes past d p name table t made piece rest before source hand other c fits order there s rows_are last from kept =
@@ -322,6 +324,7 @@ goes past d p name table t made piece rest before source hand other c fits order
       before = before;
       copy_began = began-under (map (within d) marks) s.copy_began;
       there = subst (λ g. Holds g hand.hold (history_in before p)) (sym (history-elsewhere past d (copying_rows name (rows_of piece)) p apart)) there;
+      from_newest = s.newest;
       source = source;
       source_named = s.named;
       made = made ++ piece;

@@ -14,17 +14,17 @@ use Rattle.sky_keys.specs.Versions.{with_version, without, version_of, versions_
 use Rattle.sky_keys.proofs.EntryLemmas.{key_ties-is, at-written, is_in_order-written, at-forgotten, is_in_order-forgotten}
 use Rattle.sky_keys.proofs.VersionLemmas.{without-none}
 use Rattle.londiste_state.specs.Nodes.{of_leaf, Leaf, is_among, tables_of}
-use Rattle.sky_model.specs.declared.reply.Reply.TheVariants.{Done, Null}
+use Rattle.sky_model.specs.declared.reply.Reply.TheVariants.{Done}
 use Rattle.sky_model.specs.declared.reply.Refusal.TheVariants.{NoNode, NotInSet}
-use Rattle.sky_model.specs.History.{Mark, of_copy, began, ended, tabled, wrote, noded, restarted, hold_ended, History, in_hand, Past}
+use Rattle.sky_model.specs.History.{Mark, of_copy, began, ended, tabled, wrote, noded, restarted, History, in_hand, Past}
 use Rattle.sky_model.specs.Hands.{CopyHand}
 use Rattle.sky_model.specs.Transactions.{next_txid, has_ended}
-use Rattle.sky_model.specs.Copies.{copies, is_copied_by, Hold, holds, without_hold}
+use Rattle.sky_model.specs.Copies.{copies, is_copied_by, Hold, holds}
 use Rattle.sky_model.specs.Rows.{is_read_only, writes as writes_of, has_written}
 use Rattle.sky_model.specs.Versions.{versions}
 use Rattle.sky_model.specs.Nodes.{node}
 use Rattle.sky_model.specs.State.{database_of}
-use Rattle.sky_model.specs.Outcome.{◌>>=◌, ◌>>◌, refused_if, found_or, answers, does_marks, marks_of}
+use Rattle.sky_model.specs.Outcome.{◌>>=◌, ◌>>◌, refused_if, found_or}
 use Rattle.sky_model.specs.StepNode.{letting_go, giving_up_copy, may_copy}
 use Rattle.sky_model.specs.CopyMoves.{copy_running, goes_on, moves_in, lets_go_for}
 use Rattle.sky_model.specs.NodesOfWorld.{Located, WorldOutcome, node_called}
@@ -47,10 +47,11 @@ use Rattle.sky_replicas.specs.LawsOfReplicas.{IsUndone, GivenUpCopiesLeaveNothin
 use Rattle.sky_replicas.proofs.HandsAt.{at-itself, hand-is}
 use Rattle.sky_replicas.proofs.RunningCopies.{uncopied-idle}
 use Rattle.sky_replicas.proofs.Keeping.{Copying, Keeps}
-use Rattle.sky_replicas.proofs.Others.{each_table}
+use Rattle.sky_replicas.proofs.Others.{each_table, idle-hand}
 use Rattle.sky_replicas.proofs.CallPasts.{call_marks, called, after_calls, on-move, history-called, history-elsewhere}
 use Rattle.sky_replicas.proofs.Sources.{IsSource, source-is}
-use Rattle.sky_replicas.proofs.CopySteps.{given_up-history, uncopied-given_up}
+use Rattle.sky_replicas.proofs.CopySteps.{nothing-given_up, given_up-history, uncopied-given_up}
+use Rattle.sky_replicas.proofs.HoldsInHand.{let-go}
 use Rattle.sky_replicas.proofs.CopiesInHand.{found-source, in-hand}
 use Rattle.sky_replicas.proofs.LaterRows.{still-copied, ran-before, unseen}
 
@@ -204,17 +205,6 @@ has-begun (mark ∷ h) table t is = above-it mark h table t (has-begun h table t
 
 -- ---- restarts
 
-none-left : (number : ℕ) (held : List Hold) → list_any (λ (x : Hold). x.number == number) (without_hold number held) ≡ false
-none-left number [] = refl
-none-left number (x ∷ held) =
-    by_test (λ b. list_any (λ (y : Hold). y.number == number) (if not b then x ∷ without_hold number held else without_hold number held) ≡ false) (x.number == number)
-    (λ _. none-left number held) (λ other. ap (λ b. b || list_any (λ (y : Hold). y.number == number) (without_hold number held)) other ∙ none-left number held)
-
-let-go : (h : History) (number : ℕ) → list_any (λ (x : Hold). x.number == number) (holds (marked h (call_marks h (letting_go number)))) ≡ false
-let-go h number =
-    by_test (λ b. list_any (λ (x : Hold). x.number == number) (holds (marked h (marks_of (if b then does_marks Done (noded (hold_ended number) ∷ []) else answers Null)))) ≡ false)
-    (list_any (λ (x : Hold). x.number == number) (holds h)) (λ _. none-left number (holds h)) (λ none. none)
-
 -- a copy in hand was given up
 is-given-up : (past : Past) (d p : ℕ) (name : List ℕ) (hand : CopyHand) → Legal (history_in past d) → IsSource past d p → may_copy name (node (history_in past d)) ≡ true → InHand past d name hand
     → IsGivenUp past (in_hand d name None ∷ called (called past p (letting_go hand.hold)) d (giving_up_copy name)) d name hand
@@ -266,6 +256,8 @@ is-restarted past name table n leaf p legal k found leaf_is among from = record 
   given_up = λ x has.
       subst (λ q. IsGivenUp past q d table x) (sym (now-is ∙ ap (λ o. in_hand d table None ∷ called (after_calls past p (lets_go_for o)) d (giving_up_copy table)) has))
       (let c : Copying past d table x = k.copying d table x refl has in is-given-up past d p table x (legal d) s c.here.may (in-hand past d table x has c));
+  unchanged = still;
+  same_node = node-is hand refl;
   anew = λ q state.
       ap (λ x. moves_in x (database_of (history_in now q)) (database_of (history_in now d)) table None) state
       ∙ ap (goes_on (database_of (history_in now q)) (database_of (history_in now d)) table None) idle;
@@ -297,6 +289,18 @@ is-restarted past name table n leaf p legal k found leaf_is among from = record 
 
     idle : copy_running (database_of (history_in now d)) table ≡ None
     idle = ap (λ q. copy_running (database_of (history_in q d)) table) now-is ∙ uncopied-idle (history_in after d) table (uncopied-given_up past d p table hand refl (legal d) s.other k)
+
+    still : hands past d table ≡ None → (e : ℕ) → history_in now e ≡ history_in past e
+    still nothing e =
+        ap (λ q. history_in q e) now-is ∙ ap (λ o. history_in (called (after_calls past p (lets_go_for o)) d (giving_up_copy table)) e) nothing
+        ∙ ap (λ q. history_in q e) (nothing-given_up past d table (idle-hand past d table k nothing))
+
+    node-is : (o : Option CopyHand) → hands past d table ≡ o → node (history_in now d) ≡ node (history_in past d)
+    node-is None is = ap node (still is d)
+    node-is (Some x) is =
+        let c : Copying past d table x = k.copying d table x refl is in
+        ap (λ q. node (history_in q d)) now-is ∙ ap (λ o. node (history_in (called (after_calls past p (lets_go_for o)) d (giving_up_copy table)) d)) is
+        ∙ ap node (given_up-history past d p table x c.table c.t (legal d) s.other c.here.may c.here.named c.here.runs)
 
     done : restart_table w name table ≡ Ok outcome
     done =

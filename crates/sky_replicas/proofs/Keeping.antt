@@ -7,12 +7,13 @@ use Rattle.sky_names.specs.Places.{place_of}
 use Rattle.sky_txid.specs.Ids.{contains}
 use Rattle.sky_txid.specs.Snapshot.{SnapshotView}
 use Rattle.londiste_state.specs.Nodes.{Node, node_name}
-use Rattle.sky_model.specs.History.{Mark, of_copy, began, ended, tabled, wrote, noded, copied, leaf_removed, state_set, hold_ended, History, Fact, within, node_made, in_hand, Past}
+use Rattle.sky_model.specs.History.{Mark, of_copy, began, ended, tabled, wrote, noded, copied, leaf_removed, state_set, hold_begun, hold_ended, History, Fact, within, node_made, in_hand, Past}
 use Rattle.sky_model.specs.Transactions.{snapshot}
 use Rattle.sky_model.specs.Rows.{table_names, rows, writes as writes_of, put_all}
 use Rattle.sky_model.specs.Nodes.{node}
+use Rattle.sky_model.specs.State.{database_of}
 use Rattle.sky_model.specs.Hands.{CopyHand}
-use Rattle.sky_model.specs.CopyMoves.{last_key}
+use Rattle.sky_model.specs.CopyMoves.{newest_of, last_key}
 use Rattle.sky_model.specs.StepNode.{is_in_copy}
 use Rattle.sky_model.specs.World.{history_in, nodes, hands, on_top}
 use Rattle.sky_model.proofs.Legal.{Fine, Legal, legal-below_mark, fine_mark}
@@ -112,6 +113,7 @@ pub record Copying (past : Past) (d : ℕ) (name : List ℕ) (hand : CopyHand) :
   pub before : Past
   pub copy_began : CopyBegan past d p table t hand.hold false before
   pub there : Holds (history_in past p) hand.hold (history_in before p)
+  pub from_newest : newest_of (database_of (history_in before p)) ≡ hand.tick
   pub source : ℕ
   pub source_named : place_of name (table_names (history_in before p)) ≡ Some source
   pub made : Entries (List Val)
@@ -122,7 +124,7 @@ pub record Copying (past : Past) (d : ℕ) (name : List ℕ) (hand : CopyHand) :
 
 -- ---- tables that have been copied
 
-pub record CopiedFrom (past : Past) (d : ℕ) (p : History) (name : List ℕ) (under : SnapshotView) : Type 0 where
+pub record CopiedFrom (past : Past) (d : ℕ) (p : History) (name : List ℕ) (under : SnapshotView) (tick : ℕ) : Type 0 where
   pub provider : ℕ
   pub from : source_of past d ≡ Some provider
   pub table : ℕ
@@ -132,6 +134,7 @@ pub record CopiedFrom (past : Past) (d : ℕ) (p : History) (name : List ℕ) (u
   pub before : Past
   pub copy_began : CopyBegan past d provider table t hold at_once before
   pub taken : snapshot (history_in before provider) ≡ under
+  pub from_newest : newest_of (database_of (history_in before provider)) ≡ tick
   pub source : ℕ
   pub source_named : place_of name (table_names (history_in before provider)) ≡ Some source
   pub below : History
@@ -139,14 +142,16 @@ pub record CopiedFrom (past : Past) (d : ℕ) (p : History) (name : List ℕ) (u
   pub same : put_all (writes_of table t below) [] ≡ rows source (history_in before provider)
 
 abbrev pub AllCopied : Past → Type 0
-AllCopied past = (d : ℕ) (later : List Mark) (p : History) (name : List ℕ) (under : SnapshotView) (tick : ℕ) → history_in past d ≡ later ++ noded (copied name under tick) ∷ p → CopiedFrom past d p name under
+AllCopied past = (d : ℕ) (later : List Mark) (p : History) (name : List ℕ) (under : SnapshotView) (tick : ℕ) → history_in past d ≡ later ++ noded (copied name under tick) ∷ p
+    → CopiedFrom past d p name under tick
 
 -- a database that was found is found still
 abbrev pub StillFound : Past → Fact → ℕ → Type 0
 StillFound past fact d = (p : ℕ) → source_of past d ≡ Some p → source_of (fact ∷ past) d ≡ Some p
 
-copied-still : (past : Past) (fact : Fact) (d : ℕ) (p : History) (name : List ℕ) (under : SnapshotView) → StillFound past fact d → CopiedFrom past d p name under → CopiedFrom (fact ∷ past) d p name under
-copied-still past fact d p name under still c = record {
+copied-still : (past : Past) (fact : Fact) (d : ℕ) (p : History) (name : List ℕ) (under : SnapshotView) (tick : ℕ) → StillFound past fact d → CopiedFrom past d p name under tick
+    → CopiedFrom (fact ∷ past) d p name under tick
+copied-still past fact d p name under tick still c = record {
   provider = c.provider;
   from = still c.provider c.from;
   table = c.table;
@@ -156,6 +161,7 @@ copied-still past fact d p name under still c = record {
   before = c.before;
   copy_began = began-on fact c.copy_began;
   taken = c.taken;
+  from_newest = c.from_newest;
   source = c.source;
   source_named = c.source_named;
   below = c.below;
@@ -165,20 +171,20 @@ copied-still past fact d p name under still c = record {
 
 -- a mark that tells of a copied table, of one that has its provider's rows
 abbrev pub TellsOfCopied : Past → ℕ → Mark → Type 0
-TellsOfCopied past e (noded (copied name under tick)) = CopiedFrom past e (history_in past e) name under
+TellsOfCopied past e (noded (copied name under tick)) = CopiedFrom past e (history_in past e) name under tick
 TellsOfCopied past e mark = Unit {0}
 
 copied-within : (past : Past) (e : ℕ) (mark : Mark) → Noded past → Fine (history_in past e) mark → TellsOfCopied past e mark → AllCopied past → AllCopied (within e mark ∷ past)
 copied-within past e mark there fine tells all d later p name under tick is =
-    copied-still past (within e mark) d p name under (λ q found. source-within past e mark d q there fine found)
-    (by_same (λ b. (if b then mark ∷ history_in past d else history_in past d) ≡ later ++ noded (copied name under tick) ∷ p → CopiedFrom past d p name under) e d
+    copied-still past (within e mark) d p name under tick (λ q found. source-within past e mark d q there fine found)
+    (by_same (λ b. (if b then mark ∷ history_in past d else history_in past d) ≡ later ++ noded (copied name under tick) ∷ p → CopiedFrom past d p name under tick) e d
     (λ same. here later (subst (λ k. TellsOfCopied past k mark) same tells)) (λ _ there. all d later p name under tick there) is)
   where
-    here : (later : List Mark) → TellsOfCopied past d mark → mark ∷ history_in past d ≡ later ++ noded (copied name under tick) ∷ p → CopiedFrom past d p name under
+    here : (later : List Mark) → TellsOfCopied past d mark → mark ∷ history_in past d ≡ later ++ noded (copied name under tick) ∷ p → CopiedFrom past d p name under tick
     here [] told e =
         let one : mark ≡ noded (copied name under tick) = cc in
         let same : history_in past d ≡ p = cc in
-        subst (λ x. CopiedFrom past d x name under) same (subst (TellsOfCopied past d) one told)
+        subst (λ x. CopiedFrom past d x name under tick) same (subst (TellsOfCopied past d) one told)
     here (m ∷ ms) told e = all d ms p name under tick (let same : history_in past d ≡ ms ++ noded (copied name under tick) ∷ p = cc in same)
 
 -- ---- all of it
@@ -216,6 +222,7 @@ copying-on past fact d name hand c from there here = record {
   before = c.before;
   copy_began = began-on fact c.copy_began;
   there = there;
+  from_newest = c.from_newest;
   source = c.source;
   source_named = c.source_named;
   made = c.made;
@@ -273,13 +280,14 @@ keeps-within among past e mark tells passes none kept after =
 
 -- ---- marks of other statements
 
--- whether a mark is none of a copy that begins, writes or ends, of one that has ended, of a hold that ends, and of a table that leaves a leaf or goes on
--- from being copied
+-- whether a mark is none of a copy that begins, writes or ends, of one that has ended, of a hold that begins or ends, and of a table that leaves a leaf or
+-- goes on from being copied
 abbrev pub is_quiet : Mark → Bool
 is_quiet (began (of_copy n) t) = false
 is_quiet (ended (of_copy n) t c) = false
 is_quiet (tabled (wrote (of_copy n) t m key old new)) = false
 is_quiet (noded (copied name under tick)) = false
+is_quiet (noded (hold_begun hold)) = false
 is_quiet (noded (hold_ended hold)) = false
 is_quiet (noded (leaf_removed name)) = false
 is_quiet (noded (state_set name state)) = is_in_copy state
@@ -317,7 +325,7 @@ abbrev pub FactsFit : Past → List Fact → Type 0
 FactsFit past [] = Unit {0}
 FactsFit past (fact ∷ facts) = FactFits past fact × FactsFit (fact ∷ past) facts
 
-made-noded : (past : Past) (e : ℕ) → is_some (node (history_in past e)) ≡ true → Noded past → Noded (node_made e ∷ past)
+pub made-noded : (past : Past) (e : ℕ) → is_some (node (history_in past e)) ≡ true → Noded past → Noded (node_made e ∷ past)
 made-noded past e has all d there =
     by_same (λ b. (contains d (nodes past) || b) ≡ true → is_some (node (history_in past d)) ≡ true) d e
     (λ same _. subst (λ k. is_some (node (history_in past k)) ≡ true) (sym same) has) (λ _ is. all d (grind (arith, is))) (sym (contains-push d e (nodes past)) ∙ there)
@@ -326,9 +334,9 @@ pub copying-handed : (past : Past) (e : ℕ) (other : List ℕ) (new : Option Co
 copying-handed past e other new d name hand c = copying-on past (in_hand e other new) d name hand c c.from c.there c.here
 
 pub copied-beside : (past : Past) (fact : Fact) → ((d : ℕ) → history_in (fact ∷ past) d ≡ history_in past d) → ((d : ℕ) → StillFound past fact d) → AllCopied past → AllCopied (fact ∷ past)
-copied-beside past fact same still all d later p name under tick is = copied-still past fact d p name under (still d) (all d later p name under tick (sym (same d) ∙ is))
+copied-beside past fact same still all d later p name under tick is = copied-still past fact d p name under tick (still d) (all d later p name under tick (sym (same d) ∙ is))
 
-handed-same : (past : Past) (e : ℕ) (other : List ℕ) (hand : Option CopyHand) → hands past e other ≡ hand → (d : ℕ) (name : List ℕ) → hands (in_hand e other hand ∷ past) d name ≡ hands past d name
+pub handed-same : (past : Past) (e : ℕ) (other : List ℕ) (hand : Option CopyHand) → hands past e other ≡ hand → (d : ℕ) (name : List ℕ) → hands (in_hand e other hand ∷ past) d name ≡ hands past d name
 handed-same past e other hand is d name =
     hand-is past e other hand d name
     ∙ by_test (λ b. is_at e other d name ≡ b → (if b then hand else hands past d name) ≡ hands past d name) (is_at e other d name)
@@ -365,7 +373,7 @@ fits-step among past _ fits kept after =
     let k = kept (λ d. after d) in
     record {
       all_noded = k.all_noded;
-      all_copied = λ d later p name under tick is. copied-still past _ d p name under (λ q found. found) (k.all_copied d later p name under tick is);
+      all_copied = λ d later p name under tick is. copied-still past _ d p name under tick (λ q found. found) (k.all_copied d later p name under tick is);
       copying = λ d name hand is has. let c = k.copying d name hand is has in copying-on past _ d name hand c c.from c.there c.here;
       apart = k.apart;
       running = k.running;

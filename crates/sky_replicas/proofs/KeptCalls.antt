@@ -29,7 +29,7 @@ use Rattle.sky_model.specs.Clock.{deed_in, waits_at}
 use Rattle.sky_model.specs.StepQueue.{newest_id}
 use Rattle.sky_model.specs.StepCopy.{given_up}
 use Rattle.sky_model.specs.StepNode.{NodeCall, joining, parting, removing, moving, letting_go, giving_up_copy, if_there, set_queue, joins, lists, adds, unlists, may_serve, call_form, node_does}
-use Rattle.sky_model.specs.CopyMoves.{CopyMove, copy_move, copy_consumer, lets_go_for}
+use Rattle.sky_model.specs.CopyMoves.{CopyMove, newest_of, copy_move, copy_consumer, lets_go_for}
 use Rattle.sky_model.specs.NodesOfWorld.{WorldOutcome, node_called, done_in, leaf_of, create_leaf, provides, are_columns, columns_called, adds_to, first_user, shows_state, Located}
 use Rattle.sky_model.specs.WorkersOfWorld.{move_facts, moves, source, source_alike, leaf_table, restarts, restarting, is_on_way, next_to_copy, starts_next, leaf_steps, parts_for, leaves_leaf, removes_from, node_form}
 use Rattle.sky_model.specs.World.{World, world_of, session_names, database_names, home, history_in, hands, on_top, nodes}
@@ -50,12 +50,25 @@ use Rattle.std.specs.Option.{option_and_then}
 use Rattle.sky_replicas.proofs.NodeNames.{provider_of, database_among, names_in, source_of, called-database}
 use Rattle.sky_replicas.proofs.RunningCopies.{Uncopied}
 use Rattle.sky_replicas.proofs.QuietStatements.{quiet-turn, quiet-daemon}
-use Rattle.sky_replicas.proofs.Keeping.{CopiedFrom, Copying, Keeps, Kept, is_quiet, FactsFit, fits-step, fits-steps}
+use Rattle.sky_replicas.proofs.Keeping.{CopiedFrom, Copying, Keeps, Kept, is_quiet, FactFits, FactsFit, fits-step, fits-steps}
 use Rattle.sky_replicas.proofs.Others.{each_table, other_than, by-before, fewer, idle-hand, own-free, own-marks, quiet-marks, puts-down}
 use Rattle.sky_replicas.proofs.CallPasts.{call_marks, called, after_calls, history-called, history-elsewhere, histories-elsewhere, quiet-consumer, lets-go, own-call, removing-marks}
-use Rattle.sky_replicas.proofs.Sources.{IsSource, source-is, alike-is}
+use Rattle.sky_replicas.proofs.Sources.{IsSource, source-is, IsAlike, alike-is}
 use Rattle.sky_replicas.proofs.CopySteps.{MoveKept, move-kept, uncopied-removed, nothing-given_up, uncopied-given_up}
 use Rattle.sky_replicas.proofs.KeptMoves.{copy-kept}
+use Rattle.sky_replicas.proofs.HoldsInHand.{AllHeld, held-steps, AreOther, MoveHeld, move-held, down-held, copy-held}
+
+-- ---- what is kept
+
+-- that, and each hold is that of what a worker has in hand
+abbrev pub AllKept : Past → Type 0
+AllKept past = Kept each_table past × AllHeld past
+
+all-step : (past : Past) (fact : Fact) → FactFits past fact → AllKept past → AllKept (fact ∷ past)
+all-step past fact fit kept = (fits-step each_table past fact fit kept.0, held-steps past (fact ∷ []) (fit, tt) kept.1)
+
+all-steps : (past : Past) (facts : List Fact) → FactsFit past facts → AllKept past → AllKept (on_top past facts)
+all-steps past facts fit kept = (fits-steps each_table past facts fit kept.0, held-steps past facts fit kept.1)
 
 -- ---- facts that fit
 
@@ -87,7 +100,7 @@ fit-beside past w who stmt d =
 
 -- ---- statements of sessions
 
-kept-if : (past : Past) (b : Bool) (x y : Deed) → Kept each_table (on_top past x.facts) → Kept each_table (on_top past y.facts) → Kept each_table (on_top past (if b then x else y).facts)
+kept-if : (past : Past) (b : Bool) (x y : Deed) → AllKept (on_top past x.facts) → AllKept (on_top past y.facts) → AllKept (on_top past (if b then x else y).facts)
 kept-if past true x y kept also = kept
 kept-if past false x y kept also = also
 
@@ -95,20 +108,20 @@ quiet-within : (past : Past) (d : ℕ) (now : ℤ) (who : ℕ) (stmt : Stmt) →
 quiet-within past d now who stmt = subst (λ (x : Turn). EachMark is_quiet x.marks) (sym (same-turn-within past d now who stmt)) (quiet-turn (history_in past d) now who stmt)
 
 kept-deed : (past : Past) (d who : ℕ) (stmt : Stmt) (outside : List Fact)
-    → FactsFit (on_top past (map (within d) (database_turn (within_database by_past d) past (world_of past).now who stmt).marks)) outside → Kept each_table past
-    → Kept each_table (on_top past (deed_in d outside (database_turn (within_database by_past d) past (world_of past).now who stmt)).facts)
+    → FactsFit (on_top past (map (within d) (database_turn (within_database by_past d) past (world_of past).now who stmt).marks)) outside → AllKept past
+    → AllKept (on_top past (deed_in d outside (database_turn (within_database by_past d) past (world_of past).now who stmt)).facts)
 kept-deed past d who stmt outside fit kept =
     let turn_within : Turn = database_turn (within_database by_past d) past (world_of past).now who stmt in
-    fits-steps each_table past (map (within d) turn_within.marks ++ outside)
+    all-steps past (map (within d) turn_within.marks ++ outside)
     (fit-append past (map (within d) turn_within.marks) outside (fit-marks past d turn_within.marks (quiet-within past d (world_of past).now who stmt)) fit) kept
 
-kept-opens : (past : Past) (who : ℕ) (stmt : Stmt) (name : List ℕ) (found : Option ℕ) → Kept each_table past → Kept each_table (on_top past (opens by_past past who stmt name found).facts)
+kept-opens : (past : Past) (who : ℕ) (stmt : Stmt) (name : List ℕ) (found : Option ℕ) → AllKept past → AllKept (on_top past (opens by_past past who stmt name found).facts)
 kept-opens past who stmt name (Some d) kept = kept-deed past d who stmt (entered who d ∷ []) (tt, tt) kept
 kept-opens past who stmt name None kept =
     let d : ℕ = length (database_names past) in
-    kept-if past (nat_le 16 d) _ _ kept (kept-deed (founded name ∷ past) d who stmt (entered who d ∷ []) (tt, tt) (fits-step each_table past (founded name) tt kept))
+    kept-if past (nat_le 16 d) _ _ kept (kept-deed (founded name ∷ past) d who stmt (entered who d ∷ []) (tt, tt) (all-step past (founded name) tt kept))
 
-kept-outside : (past : Past) (who : ℕ) (stmt : Stmt) (name : Option (List ℕ)) → Kept each_table past → Kept each_table (on_top past (outside_does by_past past who stmt name).facts)
+kept-outside : (past : Past) (who : ℕ) (stmt : Stmt) (name : Option (List ℕ)) → AllKept past → AllKept (on_top past (outside_does by_past past who stmt name).facts)
 kept-outside past who stmt None kept = kept
 kept-outside past who stmt (Some name) kept = kept-opens past who stmt name (place_of name (database_names past)) kept
 
@@ -124,12 +137,12 @@ leaf-is name table (of_root r) l is = absurd (cc is)
 leaf-is name table (of_leaf m) l is =
     by_test (λ b. (refused_if b (NotInSet table) >> Ok m) ≡ Ok l → of_leaf m ≡ of_leaf l) (not (is_among table (tables_of (of_leaf m)))) (λ _ e. absurd (cc e)) (λ _ e. let same : m ≡ l = cc e in ap of_leaf same) is
 
-module _ (past : Past) (kept : Kept each_table past) where
+module _ (past : Past) (kept : AllKept past) where
   abbrev w : World
   w = world_of past
 
   abbrev KeptIfOk : Checked WorldOutcome → Type 0
-  KeptIfOk c = IfOk c (λ o. Kept each_table (on_top past o.facts))
+  KeptIfOk c = IfOk c (λ o. AllKept (on_top past o.facts))
 
   if-test : (b : Bool) (refusal : Refusal) (c : Checked WorldOutcome) → KeptIfOk c → KeptIfOk (refused_if b refusal >> c)
   if-test true refusal c holds = tt
@@ -152,14 +165,14 @@ module _ (past : Past) (kept : Kept each_table past) where
   if-checked (Err refusal) next holds = tt
 
   kept-done : (d : ℕ) (reply : Reply) (c : Checked Outcome) → Gives AnyReply is_quiet c → KeptIfOk (done_in d reply c)
-  kept-done d reply (Ok o) given = fits-steps each_table past (map (within d) o.marks) (fit-marks past d o.marks given.1) kept
+  kept-done d reply (Ok o) given = all-steps past (map (within d) o.marks) (fit-marks past d o.marks given.1) kept
   kept-done d reply (Err refusal) given = tt
 
   kept-leaf : (d p : ℕ) (name provider : List ℕ) (tick : ℕ) (c : Checked Outcome) → Gives AnyReply is_quiet c → KeptIfOk (leaf_of d p name provider tick c)
   kept-leaf d p name provider tick (Err refusal) given = tt
   kept-leaf d p name provider tick (Ok o) given =
       let q : Past = on_top past (map (within p) o.marks) in
-      fits-steps each_table past (map (within p) o.marks ++ within d (noded (leaf_made name provider tick)) ∷ node_made d ∷ [])
+      all-steps past (map (within p) o.marks ++ within d (noded (leaf_made name provider tick)) ∷ node_made d ∷ [])
       (fit-append past (map (within p) o.marks) (within d (noded (leaf_made name provider tick)) ∷ node_made d ∷ []) (fit-marks past p o.marks given.1)
       (refl, (ap (λ b. is_some (node (if b then noded (leaf_made name provider tick) ∷ history_in q d else history_in q d))) (same-session d), tt))) kept
 
@@ -199,7 +212,7 @@ module _ (past : Past) (kept : Kept each_table past) where
 
   kept-remove : (d p table : ℕ) (name : List ℕ) (l : Leaf) → node (history_in past d) ≡ Some (of_leaf l) → is_among name (tables_of (of_leaf l)) ≡ true
       → place_of name (table_names (history_in past d)) ≡ Some table → IsSource past d p → MoveKept past p d name (leaves_leaf l name (hands past d name))
-  kept-remove d p table name l leaf among named s = by-before past (move_facts w p d name (leaves_leaf l name (hands past d name))) so kept
+  kept-remove d p table name l leaf among named s = by-before past (move_facts w p d name (leaves_leaf l name (hands past d name))) so kept.0
     where
       lets : List NodeCall
       lets = lets_go_for (hands past d name)
@@ -235,7 +248,7 @@ module _ (past : Past) (kept : Kept each_table past) where
   kept-gives-up : (d p : ℕ) (name : List ℕ) (hand : Option CopyHand) → hands past d name ≡ hand → IsSource past d p → AllLegal past → Keeps each_table past → MoveKept past p d name (restarting name hand)
   kept-gives-up d p name None has s legal k =
       move-kept past p d name (restarting name None)
-      (subst (λ q. Kept each_table (in_hand d name None ∷ q)) (sym (nothing-given_up past d name (idle-hand past d name k has))) (fits-step each_table past (in_hand d name None) has kept))
+      (subst (λ q. Kept each_table (in_hand d name None ∷ q)) (sym (nothing-given_up past d name (idle-hand past d name k has))) (fits-step each_table past (in_hand d name None) has kept.0))
   kept-gives-up d p name (Some hand) has s legal k =
       let c : Copying past d name hand = k.copying d name hand refl has in
       let q : Past = called past p (letting_go hand.hold) in
@@ -246,14 +259,31 @@ module _ (past : Past) (kept : Kept each_table past) where
       (kept-lets d p name (Some hand) legal k has s)))
 
   kept-restart : (d p : ℕ) (name : List ℕ) → IsSource past d p → MoveKept past p d name (restarting name (hands past d name))
-  kept-restart d p name s = by-before past (move_facts w p d name (restarting name (hands past d name))) (kept-gives-up d p name (hands past d name) refl s) kept
+  kept-restart d p name s = by-before past (move_facts w p d name (restarting name (hands past d name))) (kept-gives-up d p name (hands past d name) refl s) kept.0
+
+  -- the worker's hold ends
+  parts-other : (n : Option Node) (o : Option TableState) → AreOther (parts_for n o)
+  parts-other n None = tt
+  parts-other n (Some state) = by_test (λ b. AreOther (if b then parting (copy_consumer n) ∷ [] else [])) (is_on_way state) (λ _. (tt, tt)) (λ _. tt)
+
+  held-remove : (d p : ℕ) (name : List ℕ) (l : Leaf) → IsSource past d p → MoveHeld past p d name (leaves_leaf l name (hands past d name))
+  held-remove d p name l s =
+      let lets : List NodeCall = lets_go_for (hands past d name) in
+      let parts : List NodeCall = parts_for (Some (of_leaf l)) (option_map LeafTable.state (table_of name l)) in
+      move-held past p d name (leaves_leaf l name (hands past d name))
+      (subst (λ q. AllHeld (in_hand d name None ∷ called q d (removing name))) (sym (after-append past p lets parts))
+      (down-held past d p name (hands past d name) parts (removing name ∷ []) (parts-other (Some (of_leaf l)) (option_map LeafTable.state (table_of name l))) (tt, tt) refl s.from kept.1))
+
+  held-restart : (d p : ℕ) (name : List ℕ) → IsSource past d p → MoveHeld past p d name (restarting name (hands past d name))
+  held-restart d p name s =
+      move-held past p d name (restarting name (hands past d name)) (down-held past d p name (hands past d name) [] (giving_up_copy name ∷ []) tt (tt, tt) refl s.from kept.1)
 
   kept-removes : (d table : ℕ) (name : List ℕ) (n : Node) → (w.database d).node ≡ Some n → is_among name (tables_of n) ≡ true → place_of name (w.database d).part.tables ≡ Some table
       → KeptIfOk (removes_from w d table name n)
   kept-removes d table name (of_root r) stands among there =
       if-refused (option_map TableInUse (first_user w r.name name)) _ (kept-done d Done (unlists table name) (tt, tt))
   kept-removes d table name (of_leaf l) stands among there =
-      if-checked (source w l name) _ (λ p is. kept-remove d p table name l stands among there (source-is past d p l name stands is))
+      if-checked (source w l name) _ (λ p is. let s : IsSource past d p = source-is past d p l name stands is in (kept-remove d p table name l stands among there s, held-remove d p name l s))
 
   kept-state : (name table : List ℕ) (n : Node) → KeptIfOk (shows_state name table n)
   kept-state name table (of_root r) = tt
@@ -273,9 +303,9 @@ module _ (past : Past) (kept : Kept each_table past) where
   kept-steps d name (of_root r) = tt
   kept-steps d name (of_leaf l) = kept-next d (next_to_copy l)
 
-  kept-moves : (p d : ℕ) (table : List ℕ) (c : Checked CopyMove) → IfOk c (λ move. MoveKept past p d table move) → KeptIfOk (moves w p d table c)
-  kept-moves p d table (Ok move) holds = holds
-  kept-moves p d table (Err refusal) holds = tt
+  kept-moves : (p d : ℕ) (table : List ℕ) (c : Checked CopyMove) → IfOk c (λ move. MoveKept past p d table move) → IfOk c (λ move. MoveHeld past p d table move) → KeptIfOk (moves w p d table c)
+  kept-moves p d table (Ok move) holds also = (holds, also)
+  kept-moves p d table (Err refusal) holds also = tt
 
   kept-form : (d : ℕ) (s : NodeStmt) → KeptIfOk (node_form w d s)
   kept-form d (CreateLeaf name provider) = kept-create_leaf d name provider
@@ -293,17 +323,19 @@ module _ (past : Past) (kept : Kept each_table past) where
       if-found (node_called w name) (NoNode name) _ (λ n found.
       if-checked (leaf_table name table n.node) _ (λ l leaf.
       if-checked (source_alike w n.database l table) _ (λ p alike.
-      kept-moves p n.database table (copy_move (w.database p) (w.database n.database) table (w.hands n.database table))
-      (copy-kept past n.database p table kept (alike-is past n.database p l table (called-there w name n found ∙ ap Some (leaf-is name table n.node l leaf)) alike)))))
+      let both : IsAlike past n.database p table = alike-is past n.database p l table (called-there w name n found ∙ ap Some (leaf-is name table n.node l leaf)) alike in
+      kept-moves p n.database table (copy_move (w.database p) (w.database n.database) table (w.hands n.database table)) (copy-kept past n.database p table kept.0 both)
+      (copy-held past n.database p table kept.0 kept.1 both))))
   kept-form d (Restart name) = if-found (node_called w name) (NoNode name) _ (λ n _. kept-restarts name n.node)
   kept-form d (RestartTable name table) =
       if-found (node_called w name) (NoNode name) _ (λ n found.
       if-checked (leaf_table name table n.node) _ (λ l leaf.
       if-checked (source w l table) _ (λ p is.
-      kept-restart n.database p table (source-is past n.database p l table (called-there w name n found ∙ ap Some (leaf-is name table n.node l leaf)) is))))
+      let s : IsSource past n.database p = source-is past n.database p l table (called-there w name n found ∙ ap Some (leaf-is name table n.node l leaf)) is in
+      (kept-restart n.database p table s, held-restart n.database p table s))))
   kept-form d (LondisteStep name) = if-found (node_called w name) (NoNode name) _ (λ n _. kept-steps n.database name n.node)
 
-  kept-does : (who : ℕ) (c : Checked WorldOutcome) → KeptIfOk c → Kept each_table (on_top past (world_does who c).facts)
+  kept-does : (who : ℕ) (c : Checked WorldOutcome) → KeptIfOk c → AllKept (on_top past (world_does who c).facts)
   kept-does who (Ok o) holds = holds
   kept-does who (Err refusal) holds = kept
 
@@ -323,7 +355,7 @@ fit-node past d old marks deed is same true got = (
     has : is_some (after_marks old deed.marks).node ≡ true
     has = (and_parts (not (is_some old.node)) (is_some (after_marks old deed.marks).node) got).1
 
-kept-at : (past : Past) (who : ℕ) (stmt : Stmt) (d : ℕ) → Kept each_table past → Kept each_table (on_top past (does_at by_past past who stmt d).facts)
+kept-at : (past : Past) (who : ℕ) (stmt : Stmt) (d : ℕ) → AllKept past → AllKept (on_top past (does_at by_past past who stmt d).facts)
 kept-at past who (OnNodes s) d kept =
     kept-if past (may_make ((world_of past).database d) who (OnNodes s)) _ _ (kept-does past kept who (node_form (world_of past) d s) (kept-form past kept d s)) (kept-deed past d who (OnNodes s) [] tt kept)
 kept-at past who (CreateRoot name queue) d kept =
@@ -333,27 +365,27 @@ kept-at past who (CreateRoot name queue) d kept =
     (kept-deed past d who (CreateRoot name queue) (node_if got d) (fit-node past d ((world_of past).database d) turn_within.marks turn_within refl refl got refl) kept)
 kept-at past who stmt d kept = kept-deed past d who stmt (beside (world_of past) who stmt d) (fit-beside (on_top past (map (within d) (database_turn (within_database by_past d) past (world_of past).now who stmt).marks)) (world_of past) who stmt d) kept
 
-kept-session : (past : Past) (who : ℕ) (stmt : Stmt) (at : Option ℕ) → Kept each_table past → Kept each_table (on_top past (session_does by_past past who stmt at).facts)
+kept-session : (past : Past) (who : ℕ) (stmt : Stmt) (at : Option ℕ) → AllKept past → AllKept (on_top past (session_does by_past past who stmt at).facts)
 kept-session past who stmt None kept = kept-outside past who stmt (opening stmt) kept
 kept-session past who stmt (Some d) kept = kept-at past who stmt d kept
 
-kept-works : (past : Past) (d : ℕ) (part : DaemonPart) (now : ℤ) → Kept each_table past → Kept each_table (on_top past (map (within d) (daemon_does (within_database by_past d) past part now).marks))
+kept-works : (past : Past) (d : ℕ) (part : DaemonPart) (now : ℤ) → AllKept past → AllKept (on_top past (map (within d) (daemon_does (within_database by_past d) past part now).marks))
 kept-works past d part now kept =
     let deed : Turn = daemon_does (within_database by_past d) past part now in
-    fits-steps each_table past (map (within d) deed.marks)
+    all-steps past (map (within d) deed.marks)
     (fit-marks past d deed.marks (subst (λ (x : Turn). EachMark is_quiet x.marks) (sym (same-daemon-within past d part now)) (quiet-daemon (history_in past d) part now))) kept
 
-kept-statement : (past : Past) (who : ℕ) (stmt : Stmt) → Kept each_table past → Kept each_table (on_top past (turn by_past who stmt past).facts)
+kept-statement : (past : Past) (who : ℕ) (stmt : Stmt) → AllKept past → AllKept (on_top past (turn by_past who stmt past).facts)
 kept-statement past who (Clock time) kept =
-    after-clock (Kept each_table) (λ p moment holds. fits-step each_table p (clock_at moment) tt holds) kept-works past who time (waits_at (world_of past) who (home past who)) kept
+    after-clock AllKept (λ p moment holds. all-step p (clock_at moment) tt holds) kept-works past who time (waits_at (world_of past) who (home past who)) kept
 kept-statement past who stmt kept = kept-session past who stmt (home past who) kept
 
-kept-called : (past : Past) (call : Call) (found : Option ℕ) → Kept each_table past → Kept each_table (on_top past (call_does by_past past call found).facts)
+kept-called : (past : Past) (call : Call) (found : Option ℕ) → AllKept past → AllKept (on_top past (call_does by_past past call found).facts)
 kept-called past call (Some who) kept = kept-statement past who call.stmt kept
 kept-called past call None kept =
     kept-if past (nat_le 256 (length (session_names past))) _ _ kept
-    (subst (Kept each_table) (sym (on_top-append past (appears call.who).facts (turn by_past (length (session_names past)) call.stmt (appeared call.who ∷ past)).facts))
-    (kept-statement (appeared call.who ∷ past) (length (session_names past)) call.stmt (fits-step each_table past (appeared call.who) tt kept)))
+    (subst AllKept (sym (on_top-append past (appears call.who).facts (turn by_past (length (session_names past)) call.stmt (appeared call.who ∷ past)).facts))
+    (kept-statement (appeared call.who ∷ past) (length (session_names past)) call.stmt (all-step past (appeared call.who) tt kept)))
 
 kept-none : Kept each_table []
 kept-none legal = record {
@@ -368,9 +400,15 @@ kept-none legal = record {
     nothing [] p mark is = absurd (cc is)
     nothing (x ∷ later) p mark is = absurd (cc is)
 
+all-past : (calls : List Call) → AllKept (past_of calls)
+all-past [] = (kept-none, λ legal. record { all_noded = λ d there. absurd (cc there); holders = λ r number is. absurd (cc is) })
+all-past (call ∷ calls) = kept-called (past_of calls) call (place_of call.who (session_names (past_of calls))) (all-past calls)
+
 pub kept-past : (calls : List Call) → Kept each_table (past_of calls)
-kept-past [] = kept-none
-kept-past (call ∷ calls) = kept-called (past_of calls) call (place_of call.who (session_names (past_of calls))) (kept-past calls)
+kept-past calls = (all-past calls).0
+
+pub held-past : (calls : List Call) → AllHeld (past_of calls)
+held-past calls = (all-past calls).1
 
 -- ---- the law
 
@@ -399,7 +437,7 @@ has-source past d p from = of (node (history_in past d)) refl from
 pub copied_tables_have_providers_rows : CopiedTablesHaveProvidersRows
 copied_tables_have_providers_rows calls in_form database later p name under tick is =
     let k : Keeps each_table (past_of calls) = kept-past calls (legal_past calls) in
-    let c : CopiedFrom (past_of calls) database p name under = k.all_copied database later p name under tick is in
+    let c : CopiedFrom (past_of calls) database p name under tick = k.all_copied database later p name under tick is in
     let h : HasCopied p name = copies_leave_their_rows p name under tick (world_place calls database later (noded (copied name under tick) ∷ p) in_form is) in
     let one : ended (of_copy h.table) h.t true ∷ h.below ≡ ended (of_copy c.table) c.t true ∷ c.below = sym h.last ∙ c.last in
     let table_is : h.table ≡ c.table = cc one in
@@ -421,6 +459,7 @@ copied_tables_have_providers_rows calls in_form database later p name under tick
       before = c.before;
       copy_began = subst (λ q. CopyBegan (past_of calls) database q c.table c.t c.hold c.at_once c.before) (sym f.is) c.copy_began;
       taken = ap (λ q. snapshot (history_in c.before q)) f.is ∙ c.taken;
+      from_newest = ap (λ q. newest_of (database_of (history_in c.before q))) f.is ∙ c.from_newest;
       source = c.source;
       source_named = ap (λ q. place_of name (table_names (history_in c.before q))) f.is ∙ c.source_named;
       same = ap (λ n. rows n p) (sym table_is) ∙ h.whole ∙ ap (λ n. put_all (writes_of n h.t p) []) table_is ∙ ap (λ n. put_all (writes_of c.table n p) []) t_is ∙ ap (λ q. put_all (writes_of c.table c.t q) []) c.last

@@ -13,19 +13,21 @@ use Rattle.londiste_state.specs.Nodes.{Node, of_root, of_leaf, LeafTable, table_
 use Rattle.sky_model.specs.declared.reply.Reply.TheVariants.{Done, Null, TableMoved, RowsCopied, AwaitsTable, Idle}
 use Rattle.sky_model.specs.declared.reply.Refusal.TheVariants.{IdsSpent, TooMany, TxidsSpent}
 use Rattle.sky_model.specs.declared.reply.Limit.TheVariants.{Consumers}
-use Rattle.sky_model.specs.History.{Mark, of_copy, began, queued, noded, joined, parted, hold_begun, hold_ended, History, within, Past}
+use Rattle.sky_model.specs.History.{Mark, of_copy, began, queued, registered, unregistered, opened, closed, NodeMark, noded, joined, parted, hold_begun, hold_ended, History, within, Past}
 use Rattle.sky_model.specs.Hands.{CopyHand}
 use Rattle.sky_model.specs.Transactions.{next_txid, snapshot}
 use Rattle.sky_model.specs.Copies.{copies, copy_txid, Hold, holds, least_free}
 use Rattle.sky_model.specs.Rows.{table_names, columns_of, rows}
 use Rattle.sky_model.specs.Nodes.{node}
-use Rattle.sky_model.specs.State.{part_of, after_part, Database, database_of}
+use Rattle.sky_model.specs.Queues.{queues}
+use Rattle.sky_model.specs.StepQueue.{newest_id}
+use Rattle.sky_model.specs.State.{queue_of, part_of, after_part, Database, database_of}
 use Rattle.sky_model.specs.ShownRows.{snapshot_now}
 use Rattle.sky_model.specs.Outcome.{Checked, ◌>>=◌, ◌>>◌, refused_if, answers, does_marks, marks_of}
 use Rattle.sky_model.specs.StepCopy.{copy_writes, deletions, rows_now}
 use Rattle.sky_model.specs.StepConsumer.{sub_ids_spent}
 use Rattle.sky_model.specs.StepNode.{NodeCall, joining, parting, holding, letting_go, beginning_copy, copying_rows, ending_copy, is_full, is_in_copy, may_copy, node_does}
-use Rattle.sky_model.specs.CopyMoves.{CopyMove, piece_size, held_snapshot, rows_from, rows_of, last_key, copies_piece, next_piece, behind_calls, copy_consumer, first_hand, starts_copy, copy_running, under_way, continues, goes_on, leaf_state, moves_in, copy_move}
+use Rattle.sky_model.specs.CopyMoves.{CopyMove, newest_of, piece_size, held_snapshot, rows_from, rows_of, last_key, copies_piece, next_piece, behind_calls, copy_consumer, first_hand, starts_copy, copy_running, under_way, continues, goes_on, leaf_state, moves_in, copy_move}
 use Rattle.sky_model.specs.WorkersOfWorld.{move_facts}
 use Rattle.sky_model.specs.Settling.{marked}
 use Rattle.sky_model.specs.World.{world_of, history_in, hands, on_top}
@@ -33,7 +35,9 @@ use Rattle.sky_model.proofs.Histories.{AllLegal}
 use Rattle.sky_model.proofs.Good.{same-session}
 use Rattle.sky_model.proofs.LeastNumbers.{least-free}
 use Rattle.sky_model.proofs.NodeCalls.{is_for_consumers, gives-consumers}
-use Rattle.sky_model.proofs.StatementMarks.{EachMark, each-given, each-rest, Gives, AnyReply}
+use Rattle.sky_model.proofs.Legal.{queue_of_set}
+use Rattle.sky_model.proofs.NodeReadings.{set-number, is_change, same-node}
+use Rattle.sky_model.proofs.StatementMarks.{EachMark, each-given, each-rest, when-true, Gives, AnyReply}
 use Rattle.sky_model.proofs.Cases.{by_test, by_same}
 use Rattle.sky_replicas.specs.LawsOfReplicas.{let_go_if, CopyBegan}
 use Rattle.sky_replicas.proofs.Pieces.{last_key-append, all-taken}
@@ -42,7 +46,7 @@ use Rattle.sky_replicas.proofs.HeldRows.{piece-is, held-fit, rows-in-order}
 use Rattle.sky_replicas.proofs.Sources.{IsAlike}
 use Rattle.sky_replicas.proofs.Copying.{Holds, held_at}
 use Rattle.sky_replicas.proofs.Keeping.{began-under, Copying, Keeps, Kept, is_quiet}
-use Rattle.sky_replicas.proofs.Others.{each_table, other_than, by-before, legal-under, fewer, Free, own-free, KeptFree, is_own, own-marks, own-marks-free, quiet-marks, quiet-marks-free}
+use Rattle.sky_replicas.proofs.Others.{each_table, other_than, by-before, legal-under, fewer, Free, own-free, KeptFree, is_own, own-marks, own-marks-free, quiet-marks, begins-hold}
 use Rattle.sky_replicas.proofs.CallPasts.{call_marks, called, history-called, history-elsewhere, quiet-consumer, lets-go, own-call, beginning-marks}
 use Rattle.sky_replicas.proofs.CopySteps.{StillFrom, still-marks, MoveKept, move-kept, prints-kept, AtCopy, at-copy, Begins, begins, Source, ends, goes}
 
@@ -58,7 +62,7 @@ cut : (n : ℕ) (es : Entries (List Val)) → Cut n es
 cut n es = record { piece = take n es; others = drop n es; is = sym (take-append-drop n es); taken = refl; all = all-taken n es }
 
 -- the two ends of a piece
-abbrev last_move : List ℕ → SnapshotView → CopyHand → Entries (List Val) → CopyMove
+abbrev pub last_move : List ℕ → SnapshotView → CopyHand → Entries (List Val) → CopyMove
 last_move name under hand piece = record {
   provider = letting_go hand.hold ∷ [];
   replica = copying_rows name (rows_of piece) ∷ ending_copy name under hand.tick ∷ [];
@@ -66,7 +70,7 @@ last_move name under hand piece = record {
   hand = None;
 }
 
-abbrev next_move : List ℕ → CopyHand → Entries (List Val) → CopyMove
+abbrev pub next_move : List ℕ → CopyHand → Entries (List Val) → CopyMove
 next_move name hand piece = record {
   provider = [];
   replica = copying_rows name (rows_of piece) ∷ [];
@@ -75,7 +79,7 @@ next_move name hand piece = record {
 }
 
 -- a leaf has still the provider's database that it had after a call
-still-called : (past : Past) (e : ℕ) (call : NodeCall) (d p : ℕ) → (AllLegal past → StillFrom past d p) → AllLegal (called past e call) → StillFrom (called past e call) d p
+pub still-called : (past : Past) (e : ℕ) (call : NodeCall) (d p : ℕ) → (AllLegal past → StillFrom past d p) → AllLegal (called past e call) → StillFrom (called past e call) d p
 still-called past e call d p from after =
     still-marks past e (call_marks (history_in past e) call) d p after (from (legal-under past (map (within e) (call_marks (history_in past e) call)) after))
 
@@ -95,10 +99,11 @@ module _ (past : Past) (d p : ℕ) (name : List ℕ) (hand : CopyHand) (under : 
   there : Holds (history_in past p) hand.hold held
   there = subst (λ q. Holds (history_in past q) hand.hold (history_in c.before q)) same-p c.there
 
-  source : Source past d p name c.table c.t hand.hold false c.before c.source
+  source : Source past d p name c.table c.t hand.hold false c.before c.source hand.tick
   source = record {
     copy_began = subst (λ q. CopyBegan past d q c.table c.t hand.hold false c.before) same-p c.copy_began;
     named = ap (λ q. place_of name (table_names (history_in c.before q))) (sym same-p) ∙ c.source_named;
+    newest = ap (λ q. newest_of (database_of (history_in c.before q))) (sym same-p) ∙ c.from_newest;
   }
 
   rows-held : rows c.source held ≡ c.made ++ c.rest
@@ -151,7 +156,7 @@ module _ (past : Past) (d p : ℕ) (name : List ℕ) (hand : CopyHand) (under : 
           (ends first d p name c.table c.t hand.hold false c.made piece c.before c.source under hand.tick
           (subst (λ g. AtCopy g name c.table c.t c.made) still-here at) (subst (λ g. AllFit (columns_of c.table g) piece) still-here fits)
           (subst (λ x. is_in_order (c.made ++ (piece ++ x)) ≡ true) none order)
-          (record { copy_began = began-under (map (within p) (call_marks (history_in past p) (letting_go hand.hold))) source.copy_began; named = source.named })
+          (record { copy_began = began-under (map (within p) (call_marks (history_in past p) (letting_go hand.hold))) source.copy_began; named = source.named; newest = source.newest })
           (sym under-is) (rows-are ∙ ap (λ x. c.made ++ x) (ap (λ x. piece ++ x) none ∙ append-nil piece))
           (still-called past p (letting_go hand.hold) d p (λ _. record { all = k.all_noded; from = alike.source.from })) (lets-go p d name hand.hold past free))
 
@@ -177,6 +182,7 @@ record IsAsRead (h g : History) : Type 0 where
   snapshot_is : snapshot g ≡ snapshot h
   names_are : table_names g ≡ table_names h
   rows_are : (table : ℕ) → rows table g ≡ rows table h
+  newest_is : newest_of (database_of g) ≡ newest_of (database_of h)
 
 as-before : (h g f : History) → IsAsRead h g → IsAsRead g f → IsAsRead h f
 as-before h g f one two = record {
@@ -184,20 +190,37 @@ as-before h g f one two = record {
   snapshot_is = two.snapshot_is ∙ one.snapshot_is;
   names_are = two.names_are ∙ one.names_are;
   rows_are = λ table. two.rows_are table ∙ one.rows_are table;
+  newest_is = two.newest_is ∙ one.newest_is;
 }
 
-same-read : {h g : History} → holds g ≡ holds h → snapshot g ≡ snapshot h → table_names g ≡ table_names h → ((table : ℕ) → rows table g ≡ rows table h) → IsAsRead h g
-same-read holds_are snapshot_is names_are rows_are = record { holds_are = holds_are; snapshot_is = snapshot_is; names_are = names_are; rows_are = rows_are }
+-- nor do they make a tick
+newest-is : (h : History) → newest_of (database_of h) ≡ unwrap_or (option_map (λ q. newest_id (queue_of h q)) (queue_of_set (queues h) (node h))) 0
+newest-is h = ap (λ o. unwrap_or (option_map (λ q. newest_id (queue_of h q)) o) 0) (set-number (database_of h))
+
+newest-noded : (h : History) (mark : NodeMark) → is_change mark ≡ true → newest_of (database_of (noded mark ∷ h)) ≡ newest_of (database_of h)
+newest-noded h mark change =
+    newest-is (noded mark ∷ h) ∙ ap (λ o. unwrap_or (option_map (λ q. newest_id (queue_of h q)) o) 0) ((same-node mark change (node h)).set (queues h)) ∙ sym (newest-is h)
+
+newest-same : (h : History) (mark : Mark) → is_for_consumers mark ≡ true → newest_of (database_of (mark ∷ h)) ≡ newest_of (database_of h)
+newest-same h (queued (registered q name sub tick)) e = newest-is (queued (registered q name sub tick) ∷ h) ∙ sym (newest-is h)
+newest-same h (queued (unregistered q name sub)) e = newest-is (queued (unregistered q name sub) ∷ h) ∙ sym (newest-is h)
+newest-same h (queued (opened batch)) e = newest-is (queued (opened batch) ∷ h) ∙ sym (newest-is h)
+newest-same h (queued (closed batch)) e = newest-is (queued (closed batch) ∷ h) ∙ sym (newest-is h)
+newest-same h (noded (joined consumer)) e = newest-noded h (joined consumer) refl
+newest-same h (noded (parted consumer)) e = newest-noded h (parted consumer) refl
+newest-same h _ e = absurd (cc e)
+
+same-read : (h : History) (mark : Mark) → is_for_consumers mark ≡ true → IsAsRead h (mark ∷ h)
+same-read h (queued mark) e = record { holds_are = refl; snapshot_is = refl; names_are = refl; rows_are = λ table. refl; newest_is = newest-same h (queued mark) e }
+same-read h (noded (joined consumer)) e = record { holds_are = refl; snapshot_is = refl; names_are = refl; rows_are = λ table. refl; newest_is = newest-same h (noded (joined consumer)) e }
+same-read h (noded (parted consumer)) e = record { holds_are = refl; snapshot_is = refl; names_are = refl; rows_are = λ table. refl; newest_is = newest-same h (noded (parted consumer)) e }
+same-read h _ e = absurd (cc e)
 
 consumers-same : (h : History) (marks : List Mark) → EachMark is_for_consumers marks → IsAsRead h (marked h marks)
-consumers-same h [] each = same-read refl refl refl (λ table. refl)
-consumers-same h (queued mark ∷ marks) each =
-    as-before h (queued mark ∷ h) (marked (queued mark ∷ h) marks) (same-read refl refl refl (λ table. refl)) (consumers-same (queued mark ∷ h) marks (each-rest is_for_consumers (queued mark) marks each))
-consumers-same h (noded (joined consumer) ∷ marks) each =
-    as-before h (noded (joined consumer) ∷ h) (marked (noded (joined consumer) ∷ h) marks) (same-read refl refl refl (λ table. refl)) (consumers-same (noded (joined consumer) ∷ h) marks each)
-consumers-same h (noded (parted consumer) ∷ marks) each =
-    as-before h (noded (parted consumer) ∷ h) (marked (noded (parted consumer) ∷ h) marks) (same-read refl refl refl (λ table. refl)) (consumers-same (noded (parted consumer) ∷ h) marks each)
-consumers-same h (_ ∷ marks) each = absurd each
+consumers-same h [] each = record { holds_are = refl; snapshot_is = refl; names_are = refl; rows_are = λ table. refl; newest_is = refl }
+consumers-same h (mark ∷ marks) each =
+    as-before h (mark ∷ h) (marked (mark ∷ h) marks) (same-read h mark (when-true (EachMark is_for_consumers marks) (is_for_consumers mark) each))
+    (consumers-same (mark ∷ h) marks (each-rest is_for_consumers mark marks each))
 
 held-none : (n : ℕ) (hs : List Hold) → contains n (map Hold.number hs) ≡ false → held_at n hs ≡ None
 held-none n [] none = refl
@@ -257,7 +280,7 @@ module _ (past : Past) (d p : ℕ) (name consumer : List ℕ) (legal : AllLegal 
       (each-given AnyReply is_quiet (node_does (database_of (history_in past p)) (parting consumer)) (quiet-consumer (database_of (history_in past p)) (parting consumer) refl)) (fewer d name past k))
 
   -- the number of the hold is new
-  number-is : least_free (map Hold.number (holds (history_in second p))) ≡ hand.hold
+  pub number-is : least_free (map Hold.number (holds (history_in second p))) ≡ hand.hold
   number-is = ap (λ hs. least_free (map Hold.number hs)) as-read.holds_are
 
   new : contains hand.hold (map Hold.number (holds (history_in second p))) ≡ false
@@ -277,7 +300,7 @@ module _ (past : Past) (d p : ℕ) (name consumer : List ℕ) (legal : AllLegal 
           absurd (cc (sym (held-none hand.hold (holds (history_in second p)) new) ∙ ap (λ n. held_at n (holds (history_in second p))) same ∙ held))) (λ _. refl)
 
   free-third : KeptFree p d name hand.hold third
-  free-third = quiet-marks-free p hand.hold second p d name (call_marks (history_in second p) holding) tt free-second
+  free-third = begins-hold p d name hand.hold (least_free (map Hold.number (holds (history_in second p)))) second free-second
 
   -- it is held, with the snapshot and the rows of the table as they were read
   abbrev taken_at : History
@@ -356,7 +379,7 @@ module _ (past : Past) (d p : ℕ) (name consumer : List ℕ) (legal : AllLegal 
           move-kept past p d name (behind_calls (parting consumer ∷ joining consumer ∷ holding ∷ []) (beginning_copy name ∷ []) (last_move name under hand piece))
           (ends fifth d p name alike.table t hand.hold true [] piece second alike.number under hand.tick start.at
           (subst (λ cs. AllFit cs piece) (sym start.columns) fits) (subst (λ x. is_in_order (piece ++ x) ≡ true) no_more order)
-          (record { copy_began = began-at fourth true fourth-d (let-go ∙ ap (λ q. within p (noded (hold_ended hand.hold)) ∷ q) third-is); named = named-held })
+          (record { copy_began = began-at fourth true fourth-d (let-go ∙ ap (λ q. within p (noded (hold_ended hand.hold)) ∷ q) third-is); named = named-held; newest = as-read.newest_is })
           as-read.snapshot_is (as-read.rows_are alike.number ∙ rows-are ∙ ap (λ x. piece ++ x) no_more ∙ append-nil piece)
           (still-called fourth d (beginning_copy name) d p (still-called third p (letting_go hand.hold) d p from-third)) kept-fifth)
         where
@@ -383,7 +406,7 @@ module _ (past : Past) (d p : ℕ) (name consumer : List ℕ) (legal : AllLegal 
           (goes fourth d p name alike.table t [] piece others second alike.number (record hand { last = last_key hand.last piece }) alike.source.other start.at
           (subst (λ cs. AllFit cs piece) (sym start.columns) fits) order
           (subst (λ g. Holds g hand.hold taken_at) (sym (history-elsewhere third d (beginning_copy name) p apart)) held-there)
-          (record { copy_began = began-at third false third-d third-is; named = named-held }) (as-read.rows_are alike.number ∙ rows-are) refl
+          (record { copy_began = began-at third false third-d third-is; named = named-held; newest = as-read.newest_is }) (as-read.rows_are alike.number ∙ rows-are) refl
           (still-called third d (beginning_copy name) d p from-third) free-fourth)
         where
           fourth : Past
@@ -436,22 +459,22 @@ starts-kept past d p name assumed alike may none =
     of false false true is = tt
     of false false false is = assumed (move_facts (world_of past) p d name move) (λ legal k. begin-kept past d p name consumer legal k alike may none is)
 
+-- a table that is to be copied
+pub to-copy : (name : List ℕ) (n : Option Node) → leaf_state name n ≡ InCopy → may_copy name n ≡ true
+to-copy name None e = absurd (cc e)
+to-copy name (Some (of_root r)) e = absurd (cc e)
+to-copy name (Some (of_leaf l)) e = of (table_of name l) e
+  where
+    of : (o : Option LeafTable) → unwrap_or (option_map LeafTable.state o) Absent ≡ InCopy → unwrap_or (option_map (λ t. is_in_copy t.state) o) false ≡ true
+    of None e = absurd (cc e)
+    of (Some t) e = ap is_in_copy e
+
 pub copy-kept : (past : Past) (d p : ℕ) (name : List ℕ) → Kept each_table past → IsAlike past d p name
     → IfKept past p d name (copy_move (database_of (history_in past p)) (database_of (history_in past d)) name (hands past d name))
 copy-kept past d p name kept alike = in-state (leaf_state name (node (history_in past d))) refl
   where
     assumed : Assumed past
     assumed facts so = by-before past facts so kept
-
-    -- a table that is to be copied
-    may : (n : Option Node) → leaf_state name n ≡ InCopy → may_copy name n ≡ true
-    may None e = absurd (cc e)
-    may (Some (of_root r)) e = absurd (cc e)
-    may (Some (of_leaf l)) e = of (table_of name l) e
-      where
-        of : (o : Option LeafTable) → unwrap_or (option_map LeafTable.state o) Absent ≡ InCopy → unwrap_or (option_map (λ t. is_in_copy t.state) o) false ≡ true
-        of None e = absurd (cc e)
-        of (Some t) e = ap is_in_copy e
 
     going : (hand : Option CopyHand) → hands past d name ≡ hand → may_copy name (node (history_in past d)) ≡ true
         → (o : Option (CopyHand × SnapshotView)) → under_way (database_of (history_in past p)) hand ≡ o → IfKept past p d name (continues (database_of (history_in past p)) name hand o)
@@ -475,6 +498,6 @@ copy-kept past d p name kept alike = in-state (leaf_state name (node (history_in
 
     in-state : (state : TableState) → leaf_state name (node (history_in past d)) ≡ state
         → IfKept past p d name (moves_in state (database_of (history_in past p)) (database_of (history_in past d)) name (hands past d name))
-    in-state InCopy is = running (may (node (history_in past d)) is) (copy_running (database_of (history_in past d)) name) refl
+    in-state InCopy is = running (to-copy name (node (history_in past d)) is) (copy_running (database_of (history_in past d)) name) refl
     in-state Synced is = prints-kept past p d name Idle (hands past d name) refl kept
     in-state state is = prints-kept past p d name (AwaitsTable name) (hands past d name) refl kept

@@ -13,9 +13,11 @@ pub mod HeldRows
 pub mod Sources
 pub mod CopySteps
 pub mod KeptMoves
+pub mod HoldsInHand
 pub mod KeptCalls
 pub mod CopiesInHand
 pub mod LaterRows
+pub mod SessionsRows
 pub mod GivenUp
 pub mod InCopyTables
 pub mod SessionsMarks

@@ -3,7 +3,7 @@ use Rattle.std.proofs.Common.{arith, ◌≡◌, ℕ, ◌==◌, List, [], ◌∷�
 use Rattle.std.proofs.lemmas.Bool.Decides.{nat_tests}
 use Rattle.sky_names.specs.Places.{place_of}
 use Rattle.sky_names.proofs.PlaceLemmas.{same_name}
-use Rattle.sky_model.specs.History.{Mark, of_copy, began, ended, tabled, table_made, wrote, noded, copied, leaf_removed, state_set, hold_ended, History, Fact, within, in_hand, Past}
+use Rattle.sky_model.specs.History.{Mark, of_copy, began, ended, tabled, table_made, wrote, noded, copied, leaf_removed, state_set, hold_begun, hold_ended, History, Fact, within, in_hand, Past}
 use Rattle.sky_model.specs.Rows.{table_names}
 use Rattle.sky_model.specs.Hands.{CopyHand}
 use Rattle.sky_model.specs.World.{history_in, hands, on_top}
@@ -160,13 +160,13 @@ quiet-marks past e d name (mark ∷ marks) each kept =
     quiet-marks (within e mark ∷ past) e d name marks (each-rest is_quiet mark marks each)
     (fits-step (other_than d name) past (within e mark) (when-true (EachMark is_quiet marks) (is_quiet mark) each) kept)
 
-pub quiet-marks-free : (p hold : ℕ) (past : Past) (e d : ℕ) (name : List ℕ) (marks : List Mark) → EachMark is_quiet marks → KeptFree p d name hold past → KeptFree p d name hold (on_top past (map (within e) marks))
-quiet-marks-free p hold past e d name [] each kept = kept
-quiet-marks-free p hold past e d name (mark ∷ marks) each kept =
-    quiet-marks-free p hold (within e mark ∷ past) e d name marks (each-rest is_quiet mark marks each)
-    (free-within p d name hold past e mark (fits-step (other_than d name) past (within e mark) (when-true (EachMark is_quiet marks) (is_quiet mark) each) (kept-alone p d name hold past kept)) kept)
+-- ---- the own hold
 
--- ---- the end of the own hold
+pub begins-hold : (p d : ℕ) (name : List ℕ) (hold number : ℕ) (past : Past) → KeptFree p d name hold past → KeptFree p d name hold (within p (noded (hold_begun number)) ∷ past)
+begins-hold p d name hold number past kept =
+    free-within p d name hold past p (noded (hold_begun number))
+    (keeps-within (other_than d name) past p (noded (hold_begun number)) (λ _ _. tt) (λ _ _ e other hand differ has c. record { replica = λ _. refl; provider = λ _. refl }) (λ _ _ _ _. refl)
+    (kept-alone p d name hold past kept)) kept
 
 pub ends-hold : (p d : ℕ) (name : List ℕ) (hold : ℕ) (past : Past) → KeptFree p d name hold past → Kept (other_than d name) (within p (noded (hold_ended hold)) ∷ past)
 ends-hold p d name hold past kept after =

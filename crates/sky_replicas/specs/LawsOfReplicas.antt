@@ -7,7 +7,7 @@ use Rattle.sky_names.specs.Places.{place_of}
 use Rattle.sky_txid.specs.Snapshot.{SnapshotView}
 use Rattle.londiste_state.specs.declared.state.TableState.TheVariants.{InCopy}
 use Rattle.londiste_state.specs.Nodes.{of_leaf, Leaf, is_among, tables_of}
-use Rattle.sky_model.specs.History.{Mark, of_copy, began, ended, noded, leaf_removed, copied, hold_begun, hold_ended, History, Fact, within, Past}
+use Rattle.sky_model.specs.History.{Mark, of_copy, began, ended, noded, leaf_removed, copied, hold_begun, hold_ended, History, Fact, within, Past, of_session}
 use Rattle.sky_model.specs.Transactions.{snapshot}
 use Rattle.sky_model.specs.Copies.{copies, is_copied, is_copied_by, Hold, holds}
 use Rattle.sky_model.specs.Rows.{table_names, committed, writes, put_all, in_turn, rows, own_writes, rows_shown}
@@ -16,7 +16,7 @@ use Rattle.sky_model.specs.HistoryPlaces.{IsPlace}
 use Rattle.sky_model.specs.Versions.{versions}
 use Rattle.sky_model.specs.State.{Database, database_of}
 use Rattle.sky_model.specs.Hands.{CopyHand}
-use Rattle.sky_model.specs.CopyMoves.{held_snapshot, next_piece, copy_move, leaf_state, starts_copy}
+use Rattle.sky_model.specs.CopyMoves.{newest_of, held_snapshot, next_piece, copy_move, leaf_state, starts_copy}
 use Rattle.sky_model.specs.NodesOfWorld.{Located, WorldOutcome, node_called}
 use Rattle.sky_model.specs.WorkersOfWorld.{source_alike, restart_table}
 use Rattle.sky_model.specs.Nodes.{node}
@@ -56,6 +56,8 @@ pub record HasProvidersRows (past : Past) (d : ℕ) (p : History) (name : List �
   pub before : Past
   pub copy_began : CopyBegan past d provider.database table t hold at_once before
   pub taken : snapshot (history_in before provider.database) ≡ under
+  -- the newest tick of the set's queue was then the one at which the copy's consumer begins
+  pub from_newest : newest_of (database_of (history_in before provider.database)) ≡ tick
   -- the provider's table
   pub source : ℕ
   pub source_named : place_of name (table_names (history_in before provider.database)) ≡ Some source
@@ -103,6 +105,29 @@ ReplicasKeepProvidersRows = (calls : List Call) → All IsCallInForm calls → (
     → history_in (past_of calls) database ≡ above ++ (later ++ noded (copied name under tick) ∷ p) → list_any (takes_out name) later ≡ false
     → KeepsProvidersRows (past_of calls) database later (noded (copied name under tick) ∷ p) name under
 
+-- whether a copy of a table commits by a mark: the next one says that the table was copied
+abbrev pub copies_again : ℕ → Mark → Bool
+copies_again table (ended (of_copy n) t true) = n == table
+copies_again table mark = false
+
+-- the sessions' transactions that have committed by these marks, the first one first
+abbrev pub committed_by_sessions : List Mark → List ℕ
+committed_by_sessions [] = []
+committed_by_sessions (ended (of_session who) t true ∷ marks) = committed_by_sessions marks ++ t ∷ []
+committed_by_sessions (_ ∷ marks) = committed_by_sessions marks
+
+-- above the place at which a table was copied, and until it is copied again, it has the rows of its provider's table with what sessions wrote since
+pub record ShowsSessionsWrites (past : Past) (d : ℕ) (later : List Mark) (p : History) (name : List ℕ) (under : SnapshotView) : Type 0 where
+  pub copy : HasProvidersRows past d p name under
+  pub written : list_any (copies_again copy.table) later ≡ false
+      → rows copy.table (later ++ p) ≡ in_turn (λ t. writes copy.table t (later ++ p)) (committed_by_sessions later) (copied_rows past d p name under copy)
+
+-- so it is at each place of each history
+abbrev pub ReplicasShowSessionsWrites : Type 0
+ReplicasShowSessionsWrites = (calls : List Call) → All IsCallInForm calls → (database : ℕ) (above later : List Mark) (p : History) (name : List ℕ) (under : SnapshotView) (tick : ℕ)
+    → history_in (past_of calls) database ≡ above ++ (later ++ noded (copied name under tick) ∷ p)
+    → ShowsSessionsWrites (past_of calls) database later (noded (copied name under tick) ∷ p) name under
+
 -- a session is shown those rows, with its own writes on top, if its sight is above that place: so `get` and `scan` print them
 pub record SessionSees (past : Past) (d : ℕ) (h : History) (who : ℕ) (later : List Mark) (p : History) (name : List ℕ) (under : SnapshotView) : Type 0 where
   pub copy : HasProvidersRows past d p name under
@@ -147,6 +172,8 @@ pub record InHand (past : Past) (d : ℕ) (name : List ℕ) (hand : CopyHand) : 
   pub before : Past
   pub copy_began : CopyBegan past d provider.database table t hand.hold false before
   pub holds : held_snapshot (database_of (history_in past provider.database)) hand.hold ≡ Some (snapshot (history_in before provider.database))
+  pub from_newest : newest_of (database_of (history_in before provider.database)) ≡ hand.tick
+  pub in_copy : leaf_state name (Some (of_leaf leaf)) ≡ InCopy
 
 -- a worker of a leaf's table has something in hand
 pub record HasInHand (past : Past) (d : ℕ) (name : List ℕ) : Type 0 where
@@ -162,6 +189,20 @@ HandsAreOfRunningCopies = (calls : List Call) → All IsCallInForm calls → (da
 abbrev pub RunningCopiesAreInHand : Type 0
 RunningCopiesAreInHand = (calls : List Call) → All IsCallInForm calls → (database : ℕ) (name : List ℕ) (table : ℕ) → place_of name (table_names (history_in (past_of calls) database)) ≡ Some table
     → is_copied table (copies (history_in (past_of calls) database)) ≡ true → HasInHand (past_of calls) database name
+
+-- a hold of a database is that of a hand, which the worker of a table of one of its leaves has
+pub record IsHandsHold (past : Past) (p number : ℕ) : Type 0 where
+  pub database : ℕ
+  pub name : List ℕ
+  pub hand : CopyHand
+  pub in_hand : InHand past database name hand
+  pub from : in_hand.provider.database ≡ p
+  pub is : hand.hold ≡ number
+
+-- so is each: a hold ends with its copy
+abbrev pub HoldsAreInHand : Type 0
+HoldsAreInHand = (calls : List Call) → All IsCallInForm calls → (database number : ℕ) → list_any (λ (x : Hold). x.number == number) (holds (history_in (past_of calls) database)) ≡ true
+    → IsHandsHold (past_of calls) database number
 
 -- the next move of the worker of a table that is being copied begins a copy, if nothing is in hand; else the copy goes on with the next rows, under the
 -- snapshot that is held for it. So no copy is waited for
@@ -198,13 +239,16 @@ pub record IsGivenUp (past now : Past) (d : ℕ) (name : List ℕ) (hand : CopyH
   pub ran : history_in past d ≡ later ++ began (of_copy was.table) was.t ∷ before
   pub undone : IsUndone (history_in now d) before was.table
 
--- `restart NAME TABLE` is done: the table's worker has nothing in hand, what it had is given up, and its next move, if the table is being copied, begins a
--- copy, whichever database it is from
+-- `restart NAME TABLE` is done: the table's worker has nothing in hand, and what it had is given up; if it had nothing, no database has changed; the node is
+-- as it was, so the table has the state that it had; and if this is the state in which a table is copied, the worker's next move begins a copy, whichever
+-- database it is from
 pub record IsRestarted (past : Past) (d : ℕ) (name table : List ℕ) : Type 0 where
   pub outcome : WorldOutcome
   pub done : restart_table (world_of past) name table ≡ Ok outcome
   pub put_down : hands (on_top past outcome.facts) d table ≡ None
   pub given_up : (hand : CopyHand) → hands past d table ≡ Some hand → IsGivenUp past (on_top past outcome.facts) d table hand
+  pub unchanged : hands past d table ≡ None → (e : ℕ) → history_in (on_top past outcome.facts) e ≡ history_in past e
+  pub same_node : node (history_in (on_top past outcome.facts) d) ≡ node (history_in past d)
   pub anew : (p : ℕ) → leaf_state table (node (history_in (on_top past outcome.facts) d)) ≡ InCopy
       → copy_move (database_of (history_in (on_top past outcome.facts) p)) (database_of (history_in (on_top past outcome.facts) d)) table None
       ≡ starts_copy (database_of (history_in (on_top past outcome.facts) p)) (database_of (history_in (on_top past outcome.facts) d)) table

@@ -1,10 +1,14 @@
 use Rattle.sky_replicas.proofs.KeptCalls.{copied_tables_have_providers_rows}
 use Rattle.sky_replicas.proofs.KeptRows.{replicas_keep_providers_rows}
 use Rattle.sky_replicas.proofs.LaterRows as law
+use Rattle.sky_replicas.proofs.SessionsRows.{replicas_show_sessions_writes}
 use Rattle.sky_replicas.proofs.laws.replicas_show_providers_rows.Goals as goal
 
 pub returns-clause-shown : goal.returns-clause-shown
 returns-clause-shown c = law.replicas_show_providers_rows
+
+pub returns-clause-written : goal.returns-clause-written
+returns-clause-written c = replicas_show_sessions_writes
 
 pub returns-clause-kept : goal.returns-clause-kept
 returns-clause-kept c = replicas_keep_providers_rows copied_tables_have_providers_rows
