@@ -228,9 +228,11 @@ impl CopyWorker {
         provider.part(&consumer);
         let tick = match provider.join(&consumer) {
             Ok(tick) => tick,
-            Err(JoinFault::NoMemory) => return Err(WorkerFault::NoMemory),
-            // It has just left, so there is room for it, and an id was left.
-            Err(_) => unreachable!(),
+            Err(fault) => match fault {
+                JoinFault::NoMemory => return Err(WorkerFault::NoMemory),
+                // It has just left, so there is room for it, and an id was left.
+                _ => unreachable!(),
+            },
         };
         let hold = provider.hold()?;
         Ok(CopyHand {
