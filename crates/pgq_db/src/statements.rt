@@ -203,6 +203,8 @@ impl Db {
         replies.push(who, Reply::Refused(refusal))
     }
 
+    // Always inlined, so that a statement that isn't refused hands on no room for a refusal, which is large.
+    #[inline(always)]
     fn run_form(
         &mut self,
         now: i64,

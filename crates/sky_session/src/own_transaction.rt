@@ -47,6 +47,8 @@ pub(crate) fn txid_for(state: &RowState, who: SessionId) -> Result<u64, Refusal>
 
 /// Admits a statement that is allowed at this place, or refuses it. A repeatable read block takes its snapshot before
 /// its first statement that reads or writes, even if that is refused later.
+// Always inlined: a refusal is large, and the room for one takes as many steps as the tests.
+#[inline(always)]
 pub(crate) fn admit(
     state: &mut RowState,
     who: SessionId,

@@ -85,6 +85,8 @@ fn check_writable(state: &RowState, table: u32) -> Result<(), Refusal>
 /// Refuses a change of a row if a write of its key was committed that the session's snapshot doesn't see, unless its
 /// own transaction has written the key. Only a repeatable read block has such a snapshot: its change would overwrite a
 /// version that it has never seen.
+// Always inlined, since in most sessions it is one test, and a refusal is large.
+#[inline(always)]
 pub(crate) fn check_seen(
     state: &RowState,
     who: SessionId,

@@ -90,6 +90,8 @@ fn refuse<G: WriteGate>(
     Ok(())
 }
 
+// Always inlined, so that a statement that isn't refused hands on no room for a refusal, which is large.
+#[inline(always)]
 fn run_form<G: WriteGate>(
     state: &mut RowState,
     who: SessionId,
