@@ -1,1 +1,3 @@
 pub mod WriteLists
+pub mod Places
+pub mod TableWrites
