@@ -1,3 +1,4 @@
 pub mod WriteLists
 pub mod Places
 pub mod TableWrites
+pub mod HeldValues
