@@ -2,3 +2,4 @@ pub mod WriteLists
 pub mod Places
 pub mod TableWrites
 pub mod HeldValues
+pub mod RowMarks
