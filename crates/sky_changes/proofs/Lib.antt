@@ -3,3 +3,4 @@ pub mod Places
 pub mod TableWrites
 pub mod HeldValues
 pub mod RowMarks
+pub mod PlainForms
