@@ -45,7 +45,7 @@ after s (w ∷ ws) rows = if s w.by then put w.key w.new (after s ws rows) else 
 pub tied : (key : List Val) → eq_by_cmp key_cmp key key ≡ true
 tied key = ap is_eq (tied_itself key_cmp-IsTotalOrder key)
 
-at-put_one : (q key : List Val) (row : Option (List Val)) (rows : Entries (List Val)) → at q (put key row rows) ≡ (if eq_by_cmp key_cmp q key then row else at q rows)
+pub at-put_one : (q key : List Val) (row : Option (List Val)) (rows : Entries (List Val)) → at q (put key row rows) ≡ (if eq_by_cmp key_cmp q key then row else at q rows)
 at-put_one q key row rows =
     at-put_all q (record { key = key; row = row } ∷ []) rows
     ∙ by_test (λ b. over (if b then Some row else None) (at q rows) ≡ (if b then row else at q rows)) (eq_by_cmp key_cmp q key) (λ _. refl) (λ _. refl)

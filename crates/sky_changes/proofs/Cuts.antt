@@ -1,0 +1,75 @@
+-- Each history that calls in form make is cut into pieces: plain marks, writes with the events that record them, and the few others.
+use Rattle.std.proofs.Common.{◌≡◌, ℕ, zero, suc, ℤ, pos, ◌+◌, ◌^◌, nat_le, List, [], ◌∷◌, ◌++◌, Bool, true, false, not, ◌&&◌, ◌==◌, Option, Some, None, Ok, Err, IfOk, IfSome, All, is_some, length, refl, sym, ◌∙◌, ap, subst, if◌then◌else◌, filter}
+use Rattle.std.proofs.lemmas.Bool.{cond_both, not-true}
+use Rattle.std.proofs.lemmas.List.Elements.{All-head, All-tail}
+use Rattle.std.proofs.lemmas.Result.{IfOk-at_ok}
+use Rattle.sky_val.specs.declared.val.Val.{Val}
+use Rattle.sky_val.specs.declared.event.Event.{Event}
+use Rattle.sky_keys.specs.Waits.{Waiting, is_waiting}
+use Rattle.pgq_retry.specs.declared.retry.Retry.{Retry}
+use Rattle.pgq_retry.specs.Retries.{due_now}
+use Rattle.sky_names.specs.Places.{place_of}
+use Rattle.sky_model.specs.declared.stmt.Attempt.{Attempt}
+use Rattle.sky_model.specs.declared.stmt.Stmt.{Stmt}
+use Rattle.sky_model.specs.declared.stmt.Stmt.TheVariants.{Row, InsertEvent, MaintRetryEvents, CreateRoot}
+use Rattle.sky_model.specs.declared.stmt.RowStmt.{RowStmt}
+use Rattle.sky_model.specs.declared.stmt.RowStmt.TheVariants.{Commit}
+use Rattle.sky_model.specs.declared.stmt.Extra.{Extra}
+use Rattle.sky_model.specs.declared.daemon.DaemonPart.{DaemonPart}
+use Rattle.sky_model.specs.declared.daemon.DaemonPart.TheVariants as part
+use Rattle.sky_model.specs.History.{Mark, Whose, of_session, of_worker, of_copy, began, ended, looked, tabled, wrote, waits, waited, queued, made, raised, put, returned, traced, untraced, noded, NodeMark, root_made, listed, unlisted, leaf_made, History}
+use Rattle.sky_model.specs.Nodes.{after_node, node, is_leaf, set_tables, is_set_queue}
+use Rattle.sky_model.specs.Queues.{queues, queue_number}
+use Rattle.sky_model.specs.State.{part_of, database_of}
+use Rattle.sky_model.specs.Triggers.{TableTrigger, is_sets, triggers}
+use Rattle.sky_model.specs.StepQueue.{tells_of_rows}
+use Rattle.sky_model.specs.StepNode.{set_trigger}
+use Rattle.sky_model.specs.Retries.{brought_by}
+use Rattle.sky_model.specs.Rows.{table_names}
+use Rattle.sky_model.specs.LawsOfNodes.{is_one_of, triggers_into}
+use Rattle.sky_model.specs.Telling.{told_of}
+use Rattle.sky_model.specs.Settling.{marked}
+use Rattle.sky_model.proofs.Legal.{queue_of_set}
+use Rattle.sky_model.proofs.NodeReadings.{IsSameNode, same-node}
+use Rattle.sky_model.proofs.Inserted.{Inserted, none, kept, with_raised, with_put}
+use Rattle.sky_changes.proofs.HeldValues.{AreHeld}
+use Rattle.sky_changes.proofs.HeldRows.{AllHeld}
+use Rattle.sky_changes.proofs.RowMarks.{Each, Plain}
+
+-- a session's write, and a copy's
+abbrev pub write_of : (who t table : ℕ) → List Val → (old new : Option (List Val)) → Mark
+write_of who t table key old new = tabled (wrote (of_session who) t table key old new)
+
+-- each table of the set has the set's trigger, and no other table has one
+abbrev pub Tracing : History → Type 0
+Tracing h = (n : ℕ) → filter (is_sets n) (triggers h) ≡ (if is_one_of (table_names h) (set_tables (node h)) n then triggers_into n (queue_of_set (queues h) (node h)) else [])
+
+pub data Cut : History → Type 0 where
+  nothing : Cut []
+  plain : {h : History} (mark : Mark) → Cut h → Plain mark → Cut (mark ∷ h)
+  writes : {h : History} (who t table : ℕ) (key : List Val) (old new : Option (List Val)) (time : ℤ) (events : List Mark) → Cut h
+      → told_of (database_of (write_of who t table key old new ∷ h)) time (write_of who t table key old new) ≡ Ok events
+      → (old ≡ None → is_some new ≡ true) → (is_leaf (node h) ≡ false → IfSome new AreHeld) → Cut (marked (write_of who t table key old new ∷ h) events)
+  copies : {h : History} (n t table : ℕ) (key : List Val) (old new : Option (List Val)) → Cut h → is_leaf (node h) ≡ true → Cut (tabled (wrote (of_copy n) t table key old new) ∷ h)
+  inserts : {h : History} (q value : ℕ) (e : Event) → Cut h → (queue_of_set (queues h) (node h) ≡ Some q → tells_of_rows e.ev_type ≡ false) → Cut (queued (put q e) ∷ queued (raised q value) ∷ h)
+  returns : {h : History} (retry : Retry) (t : ℕ) (moment : ℤ) → Cut h → Cut (queued (returned retry moment) ∷ queued (put retry.queue (brought_by t retry.event)) ∷ h)
+  lists : {h : History} (name : List ℕ) (table q : ℕ) → Cut h → Tracing (queued (traced table None (set_trigger q)) ∷ noded (listed name) ∷ h)
+      → Cut (queued (traced table None (set_trigger q)) ∷ noded (listed name) ∷ h)
+  unlists : {h : History} (name : List ℕ) (table : ℕ) → Cut h → Tracing (queued (untraced table) ∷ noded (unlisted name) ∷ h) → Cut (queued (untraced table) ∷ noded (unlisted name) ∷ h)
+  roots : {h : History} (name queue : List ℕ) (t : ℕ) (time : ℤ) → Cut h → node h ≡ None → Cut (noded (root_made name queue) ∷ queued (made queue t time) ∷ h)
+
+-- ---- events that record a write leave all but the queues
+
+-- marks of events alone
+abbrev pub Events : List Mark → Type 0
+Events marks = Inserted [] marks
+
+pub node-events : (h : History) (marks : List Mark) → Events marks → node (marked h marks) ≡ node h
+node-events h _ none = refl
+node-events h _ (with_raised {ys = ys} queue value more) = node-events (queued (raised queue value) ∷ h) ys more
+node-events h _ (with_put {ys = ys} queue event more) = node-events (queued (put queue event) ∷ h) ys more
+
+held-events : (h : History) (marks : List Mark) → Events marks → AllHeld h → AllHeld (marked h marks)
+held-events h _ none held = held
+held-events h _ (with_raised {ys = ys} queue value more) held = held-events (queued (raised queue value) ∷ h) ys more held
+held-events h _ (with_put {ys = ys} queue event more) held = held-events (queued (put queue event) ∷ h) ys more held
