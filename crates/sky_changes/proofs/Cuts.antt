@@ -20,17 +20,18 @@ use Rattle.sky_model.specs.declared.daemon.DaemonPart.TheVariants as part
 use Rattle.sky_model.specs.History.{Mark, Whose, of_session, of_worker, of_copy, began, ended, looked, tabled, wrote, waits, waited, queued, made, raised, put, returned, traced, untraced, noded, NodeMark, root_made, listed, unlisted, leaf_made, History}
 use Rattle.sky_model.specs.Nodes.{after_node, node, is_leaf, set_tables, is_set_queue}
 use Rattle.sky_model.specs.Queues.{queues, queue_number}
-use Rattle.sky_model.specs.State.{part_of, database_of}
+use Rattle.sky_model.specs.State.{Database, part_of, database_of}
 use Rattle.sky_model.specs.Triggers.{TableTrigger, is_sets, triggers}
 use Rattle.sky_model.specs.StepQueue.{tells_of_rows}
 use Rattle.sky_model.specs.StepNode.{set_trigger}
 use Rattle.sky_model.specs.Retries.{brought_by}
 use Rattle.sky_model.specs.Rows.{table_names}
 use Rattle.sky_model.specs.LawsOfNodes.{is_one_of, triggers_into}
-use Rattle.sky_model.specs.Telling.{told_of}
+use Rattle.sky_model.specs.Telling.{events_in, told_of}
 use Rattle.sky_model.specs.Settling.{marked}
 use Rattle.sky_model.proofs.Legal.{queue_of_set}
 use Rattle.sky_model.proofs.NodeReadings.{IsSameNode, same-node}
+use Rattle.sky_model.proofs.Telling.{EventMarks, told_by-events}
 use Rattle.sky_model.proofs.Inserted.{Inserted, none, kept, with_raised, with_put}
 use Rattle.sky_changes.proofs.HeldValues.{AreHeld}
 use Rattle.sky_changes.proofs.HeldRows.{AllHeld}
@@ -73,3 +74,38 @@ held-events : (h : History) (marks : List Mark) → Events marks → AllHeld h �
 held-events h _ none held = held
 held-events h _ (with_raised {ys = ys} queue value more) held = held-events (queued (raised queue value) ∷ h) ys more held
 held-events h _ (with_put {ys = ys} queue event more) held = held-events (queued (put queue event) ∷ h) ys more held
+
+-- ---- what is written is held, unless the database is a leaf's
+
+leaf-plain : (h : History) (mark : Mark) → Plain mark → is_leaf (node (mark ∷ h)) ≡ false → is_leaf (node h) ≡ false
+leaf-plain h (noded (root_made name queue)) is e = absurd is
+leaf-plain h (noded (listed table)) is e = absurd is
+leaf-plain h (noded (unlisted table)) is e = absurd is
+leaf-plain h (noded (leaf_made name provider tick)) is e = absurd (cc)
+leaf-plain h (noded mark) is e = sym (same-node mark refl (node h)).leaf ∙ e
+leaf-plain h _ is e = e
+
+held-plain : (h : History) (mark : Mark) → Plain mark → AllHeld h → AllHeld (mark ∷ h)
+held-plain h (tabled (wrote whose t n key old new)) is held = absurd is
+held-plain h _ is held = held
+
+pub told-only : (h : History) (time : ℤ) (mark : Mark) (events : List Mark) → told_of (database_of (mark ∷ h)) time mark ≡ Ok events → Events events
+told-only h time mark events same = subst EventMarks same (told_of-events (database_of (mark ∷ h)) time mark)
+  where
+    told_of-events : (d : Database) (now : ℤ) (m : Mark) → EventMarks (told_of d now m)
+    told_of-events d now (tabled (wrote (of_session who) t table key old new)) = told_by-events d now t (events_in d table old new)
+    told_of-events d now _ = none
+
+pub cut-held : (h : History) → Cut h → is_leaf (node h) ≡ false → AllHeld h
+cut-held _ nothing free = tt
+cut-held _ (plain {h = h} mark cut is) free = held-plain h mark is (cut-held h cut (leaf-plain h mark is free))
+cut-held _ (writes {h = h} who t table key old new time events cut told some held) free =
+    let only : Events events = told-only h time (write_of who t table key old new) events told in
+    let was : is_leaf (node h) ≡ false = ap is_leaf (sym (node-events (write_of who t table key old new ∷ h) events only)) ∙ free in
+    held-events (write_of who t table key old new ∷ h) events only (held was, cut-held h cut was)
+cut-held _ (copies n t table key old new cut leaf) free = absurd (cc (sym leaf ∙ free))
+cut-held _ (inserts {h = h} q value e cut is) free = cut-held h cut free
+cut-held _ (returns {h = h} retry t moment cut) free = cut-held h cut free
+cut-held _ (lists {h = h} name table q cut traces) free = cut-held h cut (sym (same-node (listed name) refl (node h)).leaf ∙ free)
+cut-held _ (unlists {h = h} name table cut traces) free = cut-held h cut (sym (same-node (unlisted name) refl (node h)).leaf ∙ free)
+cut-held _ (roots {h = h} name queue t time cut bare) free = cut-held h cut (ap is_leaf bare)

@@ -6,3 +6,4 @@ pub mod HeldRows
 pub mod RowMarks
 pub mod PlainForms
 pub mod Cuts
+pub mod CutCalls
