@@ -23,7 +23,7 @@ use Rattle.sky_model.specs.declared.reply.Reply.TheVariants.{Done, Number}
 use Rattle.sky_model.specs.declared.reply.Refusal.TheVariants.{NoQueue, ReservedType, NodeExists, QueueExists, TooMany}
 use Rattle.sky_model.specs.declared.reply.Limit.TheVariants.{Queues}
 use Rattle.sky_model.specs.InForm.{IsInForm, IsRowInForm}
-use Rattle.sky_model.specs.History.{Mark, Whose, of_session, of_worker, of_copy, began, ended, block_failed, block_ended, looked, tabled, wrote, waits, waited, queued, made, raised, put, returned, switched, traced, untraced, noded, root_made, listed, unlisted, History}
+use Rattle.sky_model.specs.History.{Mark, Whose, of_session, of_worker, of_copy, began, ended, block_failed, block_ended, looked, tabled, wrote, waits, waited, queued, made, raised, put, returned, switched, traced, untraced, noded, root_made, listed, unlisted, leaf_made, leaf_added, leaf_removed, state_set, copied, restarted, hold_begun, hold_ended, read_only, History}
 use Rattle.sky_model.specs.Sessions.{Block, outside, inside, failed, Session, session, has_open, block, own_txid}
 use Rattle.sky_model.specs.Locks.{waiting, attempt}
 use Rattle.sky_model.specs.Nodes.{node, is_leaf, is_set_queue}
@@ -31,16 +31,33 @@ use Rattle.sky_model.specs.Queues.{NamedQueue, queues, queue_number, is_pending}
 use Rattle.sky_model.specs.Retries.{retries, brought_by}
 use Rattle.sky_model.specs.State.{Database, part_of, queue_of, database_of, after_mark, after_marks}
 use Rattle.sky_model.specs.ShownRows.{rows_in}
-use Rattle.sky_model.specs.Outcome.{Outcome, Checked, ◌>>=◌, ◌>>◌, refused_if, found_or, does_marks, reply_of, marks_of, after_marks_of, end_of, aborts, abort, or_refused}
+use Rattle.sky_model.specs.Outcome.{Outcome, Checked, ◌>>=◌, ◌>>◌, refused_if, refused_by, answers, found_or, does_marks, reply_of, marks_of, after_marks_of, end_of, aborts, abort, or_refused}
 use Rattle.sky_model.specs.OwnTransaction.{begin_of, commit_of, next_id, txid_for, in_own}
 use Rattle.sky_model.specs.Allowed.{where_of, allowed}
 use Rattle.sky_model.specs.Made.{takes_sight, looking, runs_if}
 use Rattle.sky_model.specs.StepRows.{attempts}
 use Rattle.sky_model.specs.StepQueue.{next_tick, next_event_id, tells_of_rows, made_event, insert_event}
 use Rattle.sky_model.specs.StepRetry.{back, brings, most_back, maint_retry_events}
-use Rattle.sky_model.specs.StepNode.{create_root}
+use Rattle.londiste_state.specs.Nodes.{Node, of_root, of_leaf}
+use Rattle.sky_model.specs.declared.reply.Reply.TheVariants.{Null}
+use Rattle.sky_model.specs.declared.reply.Refusal.TheVariants.{TableBusy}
+use Rattle.sky_model.specs.declared.reply.Limit.TheVariants.{Triggers}
+use Rattle.std.specs.List.{list_any}
+use Rattle.std.proofs.Common.{option_map}
+use Rattle.sky_model.specs.Rows.{table_names}
+use Rattle.sky_model.specs.Triggers.{triggers, triggers_of}
+use Rattle.sky_model.specs.ShownRows.{least_writer}
+use Rattle.sky_model.specs.Copies.{copies as copies_in, copy_txid, Hold, holds}
+use Rattle.sky_model.specs.StepCopy.{given_up}
+use Rattle.sky_model.specs.StepNode.{create_root, set_queue, set_trigger, lists as lists_table, NodeCall, joining, parting, fetching, finishing, making_leaf, adding, removing, moving, listing, unlisting, beginning_copy, copying_rows, ending_copy, giving_up_copy, holding, letting_go, if_there, may_copy, may_serve, call_form, node_does}
+use Rattle.sky_model.specs.Promises.{after_all}
+use Rattle.sky_model.specs.DatabaseCalls.{DatabaseCall, stepped, entered, failed as failed_call, worked, served, IsDatabaseCallInForm, database_does, database_part}
+use Rattle.sky_model.proofs.NodeReadings.{same-node}
+use Rattle.sky_model.proofs.NodeCalls.{is_for_consumers, is_consumers, gives-consumers}
+use Rattle.sky_model.proofs.CopyCalls.{is_for_copies, is_copies, gives-copies}
+use Rattle.sky_model.proofs.Histories.{stands_calls}
 use Rattle.sky_model.specs.StepRotation.{held_back, rotates_by_itself, lack_second_step, maint_rotate_step2, committed_by, switches_by, switches_of}
-use Rattle.sky_model.specs.SessionMarks.{look_of, failure, enters}
+use Rattle.sky_model.specs.SessionMarks.{look_of, failure, entry_place, enters, failing}
 use Rattle.sky_model.specs.declared.reply.Refusal.TheVariants.{Canceled}
 use Rattle.sky_model.specs.Daemon.{quietly, ticks_of, daemon_does, retries_of, moved_by, again_if, first_steps_of, second_step_of_all}
 use Rattle.sky_model.specs.StepSession.{commit}
@@ -52,7 +69,7 @@ use Rattle.sky_model.proofs.Legal.{queue_of_set, IsNotSets}
 use Rattle.sky_model.proofs.Marks.{database_of-mark, database_of-marks}
 use Rattle.sky_model.proofs.Lawful.{database-reads, past-behind}
 use Rattle.sky_model.proofs.Resting.{behind-append}
-use Rattle.sky_model.proofs.StatementMarks.{by_commit, none-first}
+use Rattle.sky_model.proofs.StatementMarks.{EachMark, when-true, each-rest, each-given, AnyReply, by_commit, none-first}
 use Rattle.sky_model.proofs.SetQueues.{not-sets}
 use Rattle.sky_model.proofs.Good.{same-session}
 use Rattle.sky_model.proofs.Inserted.{none, with_raised, with_put}
@@ -62,7 +79,7 @@ use Rattle.sky_changes.proofs.HeldValues.{AreHeld, HeldAttempt}
 use Rattle.sky_changes.proofs.HeldRows.{AllHeld, shown-held}
 use Rattle.sky_changes.proofs.RowMarks.{Each, each-append, Plain, Writes, RowMark, Leaves, row-attempts, row-leaves}
 use Rattle.sky_changes.proofs.PlainForms.{is_other, PlainLeaves, plain-tick, plain-alone, plain-ends_switches, plain-form}
-use Rattle.sky_changes.proofs.Cuts.{write_of, Cut, nothing, plain, writes, copies, inserts, returns, lists, unlists, roots, Events, node-events, told-only, cut-held}
+use Rattle.sky_changes.proofs.Cuts.{write_of, Tracing, Cut, nothing, plain, writes, copies, inserts, returns, lists, unlists, roots, Events, node-events, told-only, cut-held}
 
 pub cut-plain : (h : History) (marks : List Mark) → Each Plain marks → Cut h → Cut (marked h marks)
 cut-plain h [] all cut = cut
@@ -377,3 +394,112 @@ plain-failure who txid outside = tt
 plain-failure who txid inside = plain-abort who inside txid Canceled
 plain-failure who txid failed = tt
 
+-- marks that pass a test
+each-of : (p : Mark → Bool) → ((mark : Mark) → p mark ≡ true → Plain mark) → (marks : List Mark) → EachMark p marks → Each Plain marks
+each-of p implies [] all = tt
+each-of p implies (mark ∷ marks) all = (implies mark (when-true (EachMark p marks) (p mark) all), each-of p implies marks (each-rest p mark marks all))
+
+consumers-plain : (mark : Mark) → is_for_consumers mark ≡ true → Plain mark
+consumers-plain (tabled mark) e = absurd (cc)
+consumers-plain (queued (put q event)) e = absurd (cc)
+consumers-plain (queued (returned retry moment)) e = absurd (cc)
+consumers-plain (queued (traced table name trigger)) e = absurd (cc)
+consumers-plain (queued (untraced table)) e = absurd (cc)
+consumers-plain (noded (root_made name queue)) e = absurd (cc)
+consumers-plain (noded (listed table)) e = absurd (cc)
+consumers-plain (noded (unlisted table)) e = absurd (cc)
+consumers-plain _ e = tt
+
+-- the marks of a copy, in a leaf's database
+copies-cut : (h : History) (marks : List Mark) → EachMark is_for_copies marks → is_leaf (node h) ≡ true → Cut h → Cut (marked h marks)
+copies-cut h [] all leaf cut = cut
+copies-cut h (began (of_copy table) t ∷ marks) all leaf cut = copies-cut (began (of_copy table) t ∷ h) marks all leaf (plain (began (of_copy table) t) cut tt)
+copies-cut h (ended (of_copy table) t committed ∷ marks) all leaf cut = copies-cut (ended (of_copy table) t committed ∷ h) marks all leaf (plain (ended (of_copy table) t committed) cut tt)
+copies-cut h (tabled (wrote (of_copy n) t table key old new) ∷ marks) all leaf cut =
+    copies-cut (tabled (wrote (of_copy n) t table key old new) ∷ h) marks all leaf (copies n t table key old new cut leaf)
+copies-cut h (noded (copied table snapshot tick) ∷ marks) all leaf cut =
+    copies-cut (noded (copied table snapshot tick) ∷ h) marks all ((same-node (copied table snapshot tick) refl (node h)).leaf ∙ leaf) (plain (noded (copied table snapshot tick)) cut tt)
+copies-cut h (noded (restarted table) ∷ marks) all leaf cut = copies-cut (noded (restarted table) ∷ h) marks all leaf (plain (noded (restarted table)) cut tt)
+copies-cut h (noded (hold_begun hold) ∷ marks) all leaf cut = copies-cut (noded (hold_begun hold) ∷ h) marks all leaf (plain (noded (hold_begun hold)) cut tt)
+copies-cut h (noded (hold_ended hold) ∷ marks) all leaf cut = copies-cut (noded (hold_ended hold) ∷ h) marks all leaf (plain (noded (hold_ended hold)) cut tt)
+copies-cut h (_ ∷ marks) all leaf cut = absurd all
+
+a-leaf : (name : List ℕ) (n : Option Node) → may_copy name n ≡ true → is_leaf n ≡ true
+a-leaf name None e = absurd (cc)
+a-leaf name (Some (of_root r)) e = absurd (cc)
+a-leaf name (Some (of_leaf l)) e = refl
+
+-- what is cut if each table of the set has its trigger after it, and no other table has
+abbrev CutIf : History → Checked Outcome → Type 0
+CutIf h c = Tracing (marked h (marks_of c)) → Cut (marked h (marks_of c))
+
+there-cut : {A : Type 0} (h : History) → Cut h → (o : Option A) (does : A → Checked Outcome) → ((a : A) → CutIf h (does a)) → CutIf h (if_there o does)
+there-cut h cut None does is = λ _. cut
+there-cut h cut (Some a) does is = is a
+
+plain-if : (h : History) → Cut h → (c : Checked Outcome) → PlainLeaves c → CutIf h c
+plain-if h cut (Ok o) all = λ _. cut-plain h o.marks all cut
+plain-if h cut (Err refusal) all = λ _. cut
+
+lists-cut : (h : History) → Cut h → (name : List ℕ) (q table : ℕ) → CutIf h (lists_table (database_of h) q table name)
+lists-cut h cut name q table = of (nat_le 8 (length (triggers_of table (triggers h)))) (least_writer (part_of h) table)
+  where
+    of : (full : Bool) (busy : Option ℕ)
+        → CutIf h (refused_if full (TooMany Triggers) >> (refused_by (option_map TableBusy busy) >> does_marks Done (noded (listed name) ∷ queued (traced table None (set_trigger q)) ∷ [])))
+    of true busy = λ _. cut
+    of false (Some t) = λ _. cut
+    of false None = λ traces. lists name table q cut traces
+
+copy-cut : (h : History) → Cut h → (call : NodeCall) → is_copies call ≡ true → is_leaf (node h) ≡ true → CutIf h (call_form (database_of h) call)
+copy-cut h cut call copy leaf _ =
+    copies-cut h (marks_of (call_form (database_of h) call)) (each-given AnyReply is_for_copies (call_form (database_of h) call) (gives-copies (database_of h) call copy)) leaf cut
+
+consumer-cut : (h : History) → Cut h → (call : NodeCall) → is_consumers call ≡ true → CutIf h (call_form (database_of h) call)
+consumer-cut h cut call own _ =
+    let marks : List Mark = marks_of (call_form (database_of h) call) in
+    cut-plain h marks (each-of is_for_consumers consumers-plain marks (each-given AnyReply is_for_consumers (call_form (database_of h) call) (gives-consumers (database_of h) call own))) cut
+
+call-cut : (h : History) → Cut h → (call : NodeCall) → may_serve call (node h) ≡ true → CutIf h (call_form (database_of h) call)
+call-cut h cut (listing name) may = there-cut h cut (set_queue (database_of h)) _ (λ q. there-cut h cut (place_of name (table_names h)) _ (λ table. lists-cut h cut name q table))
+call-cut h cut (unlisting name) may = there-cut h cut (place_of name (table_names h)) _ (λ table traces. unlists name table cut traces)
+call-cut h cut (making_leaf name provider tick) may = λ _. plain (noded (leaf_made name provider tick)) cut tt
+call-cut h cut (adding name) may = there-cut h cut (place_of name (table_names h)) _ (λ table. of table (least_writer (part_of h) table))
+  where
+    of : (table : ℕ) (busy : Option ℕ) → CutIf h (refused_by (option_map TableBusy busy) >> does_marks Done (noded (leaf_added name) ∷ tabled (read_only table true) ∷ []))
+    of table (Some t) = λ _. cut
+    of table None = λ _. plain (tabled (read_only table true)) (plain (noded (leaf_added name)) cut tt) tt
+call-cut h cut (removing name) may = there-cut h cut (place_of name (table_names h)) _ (λ table. of table (copy_txid table (copies_in h)))
+  where
+    of : (table : ℕ) (o : Option ℕ) → CutIf h (does_marks Done (given_up table name o ++ noded (leaf_removed name) ∷ tabled (read_only table false) ∷ []))
+    of table None = λ _. cut-plain h (noded (leaf_removed name) ∷ tabled (read_only table false) ∷ []) (tt, (tt, tt)) cut
+    of table (Some t) = λ _. cut-plain h (ended (of_copy table) t false ∷ noded (restarted name) ∷ noded (leaf_removed name) ∷ tabled (read_only table false) ∷ []) (tt, (tt, (tt, (tt, tt)))) cut
+call-cut h cut (moving name state) may = λ _. plain (noded (state_set name state)) cut tt
+call-cut h cut (beginning_copy name) may = copy-cut h cut (beginning_copy name) refl (a-leaf name (node h) may)
+call-cut h cut (copying_rows name rows) may = copy-cut h cut (copying_rows name rows) refl (a-leaf name (node h) may)
+call-cut h cut (ending_copy name snapshot tick) may = copy-cut h cut (ending_copy name snapshot tick) refl (a-leaf name (node h) may)
+call-cut h cut (giving_up_copy name) may = copy-cut h cut (giving_up_copy name) refl (a-leaf name (node h) may)
+call-cut h cut holding may = λ _. plain (noded (hold_begun _)) cut tt
+call-cut h cut (letting_go hold) may = of (list_any (λ (x : Hold). x.number == hold) (holds h))
+  where
+    of : (there : Bool) → CutIf h (if there then does_marks Done (noded (hold_ended hold) ∷ []) else answers Null)
+    of true = λ _. plain (noded (hold_ended hold)) cut tt
+    of false = λ _. cut
+call-cut h cut call may = consumer-cut h cut call refl
+
+node-cut : (h : History) → Cut h → (call : NodeCall) → CutIf h (node_does (database_of h) call)
+node-cut h cut call = by_test (λ b. may_serve call (node h) ≡ b → CutIf h (if b then call_form (database_of h) call else answers Null)) (may_serve call (node h)) (λ _ may. call-cut h cut call may) (λ _ _ _. cut) refl
+
+-- ---- all calls
+
+does-cut : (h : History) → Cut h → (call : DatabaseCall) → IsDatabaseCallInForm call → Tracing (marked h (database_does database_by_history h call).marks) → Cut (marked h (database_does database_by_history h call).marks)
+does-cut h cut (stepped who stmt now) is traces = settling-cut now h (turn_of who (statement database_by_history h now who stmt)) (statement-cut h cut now who stmt is)
+does-cut h cut (entered who alone) is traces =
+    enters-cut h cut who (takes_sight (entry_place alone) (session h who).sight) (allowed (is_waiting who (waiting h)) (has_open who h) (block who h) (entry_place alone))
+does-cut h cut (worked work now) is traces = daemon-cut h cut work now
+does-cut h cut (served call) is traces = node-cut h cut call traces
+does-cut h cut (failed_call who now) is traces = settling-cut now h (failing (part_of h) who) (cut-plain h (failure who (own_txid who h) (block who h)) (plain-failure who (own_txid who h) (block who h)) cut)
+
+pub cut_calls : (calls : List DatabaseCall) → All IsDatabaseCallInForm calls → Cut (after_all database_part calls)
+cut_calls [] all = nothing
+cut_calls (call ∷ calls) all =
+    does-cut (after_all database_part calls) (cut_calls calls (All-tail IsDatabaseCallInForm call calls all)) call (All-head IsDatabaseCallInForm call calls all) (stands_calls (call ∷ calls)).tracing
