@@ -7,3 +7,4 @@ pub mod RowMarks
 pub mod PlainForms
 pub mod Cuts
 pub mod CutCalls
+pub mod SetTriggers
