@@ -8,3 +8,4 @@ pub mod PlainForms
 pub mod Cuts
 pub mod CutCalls
 pub mod SetTriggers
+pub mod ListedTables
