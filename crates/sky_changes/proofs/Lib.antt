@@ -9,3 +9,4 @@ pub mod Cuts
 pub mod CutCalls
 pub mod SetTriggers
 pub mod ListedTables
+pub mod ToldEvents
