@@ -1,5 +1,5 @@
 -- The events that record a write: which of them are a table's in a queue, and what they say.
-use Rattle.std.proofs.Common.{◌≡◌, ℕ, ℤ, Bool, true, false, not, ◌&&◌, ◌==◌, nat_lt, List, [], ◌∷◌, ◌++◌, Option, Some, None, Ok, Err, IfSome, is_none, is_some, length, filter, map, bytes_eq, refl, sym, ◌∙◌, ap, subst, if◌then◌else◌, append_assoc, append-nil}
+use Rattle.std.proofs.Common.{◌≡◌, ℕ, ℤ, Bool, true, false, not, ◌&&◌, ◌==◌, nat_lt, List, [], ◌∷◌, ◌++◌, Option, Some, None, Ok, Err, IfSome, is_none, is_some, length, filter, map, bytes_eq, refl, sym, ◌∙◌, ap, subst, if◌then◌else◌, append_assoc, append-nil, arith}
 use Rattle.std.specs.Prelude.{option_map}
 use Rattle.std.specs.List.{list_all, list_any}
 use Rattle.std.specs.Option.{option_or, option_and_then}
@@ -149,3 +149,77 @@ module _ (name : List ℕ) (q : ℕ) (now : ℤ) (t : ℕ) (w : Write) where
               of true true stands = record { more = e ∷ later.more; pairs = one_more f.id trigger later.pairs; stands = stands ∙ append_assoc (table_events name (events q k)) (e ∷ []) later.more }
               of true false stands = record { more = later.more; pairs = later.pairs; stands = stands ∙ ap (λ es. es ++ later.more) (append-nil (table_events name (events q k))) }
               of false b stands = record { more = later.more; pairs = later.pairs; stands = stands ∙ ap (λ es. es ++ later.more) (append-nil (table_events name (events q k))) }
+
+-- ---- what they say
+
+-- an event says what a write did
+pub record Says (columns : List Column) (e : Event) (w : Written) : Type 0 where
+  pub by : e.ev_txid ≡ w.by
+  pub did : Change
+  pub is : change_of columns e ≡ Some did
+  pub key : key_of columns did.row ≡ w.key
+  pub does : (rows : Entries (List Val)) → after_op did.op w.key did.row rows ≡ rows_of.put w.key w.new rows
+  pub may : (rows : Entries (List Val)) → at w.key rows ≡ w.old → may_do did.op w.key rows ≡ true
+
+-- a write by this transaction of a table of this name
+abbrev pub write_in_table : List ℕ → List Column → (old new : Option (List Val)) → Write
+write_in_table name columns old new = record { table = name; columns = columns; old = old; new = new }
+
+-- a row is read back from its text
+reads : (columns : List Column) (key row : List Val) → IsTableOf columns → IsRowOf columns key row → AreHeld row → result_ok (read_row columns (row_text columns row)) ≡ Some row
+reads columns key row is fits held = ap result_ok (read_back columns row is.apart fits.0 (holds-all columns row is.words held) is.named)
+
+change-is : (columns : List Column) (op : Op) (row : List Val) (e : Event) → e.ev_type ≡ Some (event_type op columns) → e.ev_data ≡ Some (row_text columns row)
+    → result_ok (read_row columns (row_text columns row)) ≡ Some row → change_of columns e ≡ Some (record { op = op; row = row })
+change-is columns op row e kind text back =
+    (λ i. option_and_then (λ name. option_and_then (λ o. option_and_then (λ body. option_and_then (λ r. Some (record { op = o; row = r })) (result_ok (read_row columns body))) (text i)) (change.op_of name)) (kind i))
+    ∙ ap (λ o. option_and_then (λ x. option_and_then (λ r. Some (record { op = x; row = r })) (result_ok (read_row columns (row_text columns row)))) o) (op-read op columns)
+    ∙ ap (λ o. option_and_then (λ r. Some (record { op = op; row = r })) o) back
+
+-- the event of a set's trigger says it
+pub says-set : (name : List ℕ) (columns : List Column) (id : ℕ) (now : ℤ) (q t : ℕ) (key : List Val) (old new : Option (List Val)) (listed : Bool) → IsTableOf columns → (old ≡ None → is_some new ≡ true)
+    → IfSome old (IsRowOf columns key) → IfSome new (IsRowOf columns key) → IfSome old AreHeld → IfSome new AreHeld
+    → Says columns (told_event id now t (event_of (write_in_table name columns old new) (set_trigger q))) (record { by = t; key = key; old = old; new = new; listed = listed })
+says-set name columns id now q t key None None listed is some fits_old fits_new held_old held_new = absurd (cc (some refl))
+says-set name columns id now q t key None (Some row) listed is some fits_old fits_new held_old held_new = record {
+  by = refl;
+  did = record { op = Insert; row = row };
+  is = change-is columns Insert row (told_event id now t (event_of (write_in_table name columns None (Some row)) (set_trigger q))) refl refl (reads columns key row is fits_new held_new);
+  key = fits_new.1;
+  does = λ rows. refl;
+  may = λ rows there. ap is_none there;
+}
+says-set name columns id now q t key (Some row) None listed is some fits_old fits_new held_old held_new = record {
+  by = refl;
+  did = record { op = Delete; row = row };
+  is = change-is columns Delete row (told_event id now t (event_of (write_in_table name columns (Some row) None) (set_trigger q))) refl refl (reads columns key row is fits_old held_old);
+  key = fits_old.1;
+  does = λ rows. refl;
+  may = λ rows there. ap is_some there;
+}
+says-set name columns id now q t key (Some row) (Some next) listed is some fits_old fits_new held_old held_new = record {
+  by = refl;
+  did = record { op = Update; row = next };
+  is = change-is columns Update next (told_event id now t (event_of (write_in_table name columns (Some row) (Some next)) (set_trigger q))) refl refl (reads columns key next is fits_new held_new);
+  key = fits_new.1;
+  does = λ rows. refl;
+  may = λ rows there. ap is_some there;
+}
+
+-- ---- events that say what writes did
+
+-- the events, the oldest first, say what the writes did, the newest first, of those that were made while the table was in the set
+pub data Tells (columns : List Column) : List Event → List Written → Type 0 where
+  none_told : Tells columns [] []
+  untold : {es : List Event} {ws : List Written} (w : Written) → w.listed ≡ false → Tells columns es ws → Tells columns es (w ∷ ws)
+  told : {es : List Event} {ws : List Written} (w : Written) (e : Event) → Says columns e w → Tells columns es ws → Tells columns (es ++ e ∷ []) (w ∷ ws)
+
+-- a set's trigger ignores nothing
+pub ignores-none : (q : ℕ) (columns : List Column) (old new : Option (List Val)) → leaves_out (set_trigger q) columns old new ≡ false
+ignores-none q columns None new = refl
+ignores-none q columns (Some old) None = refl
+ignores-none q columns (Some old) (Some new) = of (changed_columns columns old new)
+  where
+    of : (names : List (List ℕ)) → (nat_lt 0 (length names) && list_all (λ name. list_any (bytes_eq name) []) names) ≡ false
+    of [] = refl
+    of (x ∷ xs) = grind arith
