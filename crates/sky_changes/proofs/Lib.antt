@@ -10,3 +10,4 @@ pub mod CutCalls
 pub mod SetTriggers
 pub mod ListedTables
 pub mod ToldEvents
+pub mod CutTells

@@ -167,7 +167,7 @@ made-before _ (next {h = h} l _) = made-before h l
 abbrev pub NamedElsewhere : ℕ → TableTrigger → Type 0
 NamedElsewhere q t = is_some t.name ≡ true → (t.trigger.queue == q) ≡ false
 
-new-number : (name : List ℕ) (xs : List NamedQueue) (number q : ℕ) → queue_number name xs ≡ None → queue_number name (xs ++ record { number = number; name = name } ∷ []) ≡ Some q → q ≡ number
+pub new-number : (name : List ℕ) (xs : List NamedQueue) (number q : ℕ) → queue_number name xs ≡ None → queue_number name (xs ++ record { number = number; name = name } ∷ []) ≡ Some q → q ≡ number
 new-number name [] number q fresh is =
     let same : Some number ≡ Some q = sym (ap (λ b. option_map NamedQueue.number (cond b (Some (record { number = number; name = name })) None)) (bytes_eq_refl name)) ∙ is in cc
 new-number name (x ∷ xs) number q fresh is =
@@ -175,7 +175,7 @@ new-number name (x ∷ xs) number q fresh is =
     → option_map NamedQueue.number (cond b (Some x) (named NamedQueue.name name (xs ++ record { number = number; name = name } ∷ []))) ≡ Some q → q ≡ number) (bytes_eq name x.name)
     (λ _ no _. absurd (cc)) (λ _ no yes_. new-number name xs number q no yes_) fresh is
 
-fresh-name : {h : History} {name : List ℕ} {t : ℕ} {time : ℤ} → Fine h (queued (made name t time)) → queue_number name (queues h) ≡ None
+pub fresh-name : {h : History} {name : List ℕ} {t : ℕ} {time : ℤ} → Fine h (queued (made name t time)) → queue_number name (queues h) ≡ None
 fresh-name (makes name t time new) = new
 
 named-plain : (q : ℕ) (h : History) → Legal h → (mark : Mark) → Fine h mark → Plain mark → queue_at h ≡ Some q → All (NamedElsewhere q) (triggers h) → All (NamedElsewhere q) (triggers (mark ∷ h))

@@ -1,4 +1,4 @@
-use Rattle.sky_changes.proofs.ToldEvents as one
+use Rattle.sky_changes.proofs.CutTells as one
 use Rattle.sky_changes.proofs.laws.events_give_rows.Goals as goal
 
 pub returns : goal.returns
