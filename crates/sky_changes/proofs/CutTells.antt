@@ -37,13 +37,15 @@ use Rattle.sky_model.proofs.WrittenRows.{all-left, read-left}
 use Rattle.sky_model.proofs.RetryCopies.{owned}
 use Rattle.sky_model.proofs.StandingQueues.{beyond}
 use Rattle.sky_model.proofs.RowSights.{here, later}
+use Rattle.sky_model.proofs.Good.{same-session}
 use Rattle.sky_model.proofs.Cases.{by_test, by_same}
 use Rattle.sky_changes.specs.TableEvents.{is_name, is_of_table, table_events}
 use Rattle.sky_changes.proofs.HeldValues.{AreHeld}
 use Rattle.sky_changes.proofs.HeldRows.{AllHeld, standing-held}
 use Rattle.sky_changes.proofs.RowMarks.{IsTableOf, Plain}
 use Rattle.sky_changes.proofs.WriteLists.{Written}
-use Rattle.sky_changes.proofs.TableWrites.{is_listed, written}
+use Rattle.sky_changes.proofs.TableWrites.{is_listed, written, row-met}
+use Rattle.londiste_state.specs.Nodes.{Node, of_root, of_leaf}
 use Rattle.sky_changes.proofs.Cuts.{write_of, Cut, nothing, plain, writes, copies, inserts, returns, lists, unlists, roots, Events, node-events, told-only, cut-held}
 use Rattle.sky_changes.proofs.SetTriggers.{queue_at, keeps-set, root-before, legal-events, queue-events, fresh-name, new-number, is_into, into-set}
 use Rattle.sky_changes.proofs.ListedTables.{place-of-own, none-listed, bare-below}
@@ -157,3 +159,145 @@ set-hits n q columns old new h cut l root set =
     ∙ ap (λ ts. filter (λ x. not (leaves_out x columns old new)) (map TableTrigger.trigger ts)) (into-set n q h cut l root set)
     ∙ by_test (λ b. filter (λ x. not (leaves_out x columns old new)) (map TableTrigger.trigger (if b then triggers_into n (Some q) else [])) ≡ (if b then set_trigger q ∷ [] else [])) (is_listed n h)
     (λ _. ap (λ b. if not b then set_trigger q ∷ [] else []) (ignores-none q columns old new)) (λ _. refl)
+
+a-root : (n : Option Node) → is_root n ≡ true → is_leaf n ≡ false
+a-root None e = absurd (cc)
+a-root (Some (of_root r)) e = refl
+a-root (Some (of_leaf l)) e = absurd (cc)
+
+-- the rows of a session's write are those of its table
+record RowsFit (h : History) (m : ℕ) (key : List Val) (old new : Option (List Val)) : Type 0 where
+  within : m < length (table_names h)
+  before : IfSome old (IsRowOf (columns_of m h) key)
+  after : IfSome new (IsRowOf (columns_of m h) key)
+
+rows-fit : (h : History) → Legal h → {who t m : ℕ} {key : List Val} {old new : Option (List Val)} → Fine h (write_of who t m key old new) → RowsFit h m key old new
+rows-fit h l {old = old} {new = new} (session_writes who t m key _ _ mine free is) = record { within = is.within; before = was; after = is.fits was }
+  where
+    was : IfSome old (IsRowOf (columns_of m h) key)
+    was = subst (λ o. IfSome o (IsRowOf (columns_of m h) key)) is.stands (read-left h (all-left h l) (snapshot_now (part_of h)) (own_txid who h) m key)
+
+-- the name of a table
+record Got (names : List (List ℕ)) (m : ℕ) : Type 0 where
+  name : List ℕ
+  is : slice_get names m ≡ Some name
+
+get-some : (names : List (List ℕ)) (m : ℕ) → m < length names → Got names m
+get-some [] m within = absurd (omega arith)
+get-some (x ∷ names) zero within = record { name = x; is = refl }
+get-some (x ∷ names) (suc m) within = let rest : Got names m = get-some names m (omega (arith, within)) in record { name = rest.name; is = rest.is }
+
+filter-nothing : (f : Trigger → Bool) (ts : List Trigger) → filter (λ x. false && f x) ts ≡ []
+filter-nothing f [] = refl
+filter-nothing f (t ∷ ts) = filter-nothing f ts
+
+-- no event, or one
+adds-none : {now : ℤ} {t : ℕ} {w : Write} (ts : List Trigger) (es : List Event) → ts ≡ [] → Adds now t w ts es → es ≡ []
+adds-none _ _ same no_more = refl
+adds-none _ _ same (one_more id trigger more) = absurd (cc)
+
+record IsOne (now : ℤ) (t : ℕ) (w : Write) (trigger : Trigger) (es : List Event) : Type 0 where
+  id : ℕ
+  is : es ≡ told_event id now t (event_of w trigger) ∷ []
+
+adds-one : {now : ℤ} {t : ℕ} {w : Write} (ts : List Trigger) (es : List Event) (trigger : Trigger) → ts ≡ trigger ∷ [] → Adds now t w ts es → IsOne now t w trigger es
+adds-one _ _ trigger same no_more = absurd (cc)
+adds-one {now = now} {t = t} {w = w} _ _ trigger same (one_more {triggers = rest} {es = es} id own more) =
+    let first_is : own ≡ trigger = cc in
+    let none_left : rest ≡ [] = cc in
+    record { id = id; is = (λ i. told_event id now t (event_of w (first_is i)) ∷ adds-none rest es none_left more i) }
+
+module _ (n : ℕ) (name : List ℕ) (columns : List Column) (q : ℕ) where
+  abbrev pub Told : History → Type 0
+  Told h = Tells columns (table_events name (events q h)) (written n h)
+
+  module _ (h : History) (cut : Cut h) (l : Legal h) (root : is_root (node h) ≡ true) (set : queue_at h ≡ Some q) (a : AtTable n name columns h)
+      (who t m : ℕ) (key : List Val) (old new : Option (List Val)) (time : ℤ) (marks : List Mark)
+      (said : told_of (database_of (write_of who t m key old new ∷ h)) time (write_of who t m key old new) ≡ Ok marks) (some : old ≡ None → is_some new ≡ true)
+      (held : is_leaf (node h) ≡ false → IfSome new AreHeld) (fine : Fine h (write_of who t m key old new)) where
+    abbrev w : Write
+    w = record { table = unwrap_or (slice_get (table_names h) m) []; columns = columns_of m h; old = old; new = new }
+
+    abbrev g : History
+    g = marked (write_of who t m key old new ∷ h) marks
+
+    abbrev this : Written
+    this = record { by = t; key = key; old = old; new = new; listed = is_listed n h }
+
+    abbrev ts : List Trigger
+    ts = map TableTrigger.trigger (triggers_of m (triggers h))
+
+    only : Events marks
+    only = told-only h time (write_of who t m key old new) marks said
+
+    fit : RowsFit h m key old new
+    fit = rows-fit h l fine
+
+    added : AddsTo name q time t w (filter (hits name q time t w) ts) marks (write_of who t m key old new ∷ h)
+    added = told-adds name q time t w ts (database_of (write_of who t m key old new ∷ h)) marks said (write_of who t m key old new ∷ h)
+
+    -- of another table nothing is added
+    told-other : (m == n) ≡ false → Told h → Tells columns (table_events name (events q g)) (written n h)
+    told-other other ih = subst (λ es. Tells columns es (written n h)) (sym (added.stands ∙ ap (λ es. table_events name (events q h) ++ es) nothing_more ∙ append-nil (table_events name (events q h)))) ih
+      where
+        at_m : Got (table_names h) m
+        at_m = get-some (table_names h) m fit.within
+
+        unnamed : bytes_eq name w.table ≡ false
+        unnamed = false_from_ne_true (bytes_eq name w.table) (λ is.
+            let one : name ≡ at_m.name = same_name name w.table is ∙ ap (λ o. unwrap_or o []) at_m.is in
+            absurd (cc (sym other ∙ ap (λ k. m == k) (sym (a.only m (at_m.is ∙ ap (λ x. Some x) (sym one)))) ∙ same-session m)))
+
+        nothing_more : added.more ≡ []
+        nothing_more = adds-none (filter (hits name q time t w) ts) added.more
+            (ap (λ b. filter (λ x. b && (x.queue == q && not (leaves_out x (columns_of m h) old new))) ts) unnamed ∙ filter-nothing (λ x. x.queue == q && not (leaves_out x (columns_of m h) old new)) ts) added.pairs
+
+    told-same : m ≡ n → Told h → Tells columns (table_events name (events q g)) (this ∷ written n h)
+    told-same same ih = by_test (λ b. is_listed n h ≡ b → Tells columns (table_events name (events q g)) (this ∷ written n h)) (is_listed n h) (λ _ is. listed_so is) (λ _ isnt. unlisted_so isnt) refl
+      where
+        within_n : n < length (table_names h)
+        within_n = subst (λ k. k < length (table_names h)) same fit.within
+
+        named : w.table ≡ name
+        named = ap (λ o. unwrap_or o []) (ap (slice_get (table_names h)) same ∙ a.named within_n)
+
+        columns_same : columns_of m h ≡ columns
+        columns_same = ap (λ k. columns_of k h) same ∙ a.columns_are within_n
+
+        own_hits : filter (hits name q time t w) ts ≡ (if is_listed n h then set_trigger q ∷ [] else [])
+        own_hits =
+            ap (λ b. filter (λ x. b && (x.queue == q && not (leaves_out x (columns_of m h) old new))) ts) (ap (bytes_eq name) named ∙ bytes_eq_refl name)
+            ∙ ap (λ k. filter (λ x. x.queue == q && not (leaves_out x (columns_of m h) old new)) (map TableTrigger.trigger (triggers_of k (triggers h)))) same
+            ∙ set-hits n q (columns_of m h) old new h cut l root set
+
+        unlisted_so : is_listed n h ≡ false → Tells columns (table_events name (events q g)) (this ∷ written n h)
+        unlisted_so isnt =
+            subst (λ es. Tells columns es (this ∷ written n h))
+            (sym (added.stands ∙ ap (λ es. table_events name (events q h) ++ es) (adds-none (filter (hits name q time t w) ts) added.more (own_hits ∙ ap (λ b. if b then set_trigger q ∷ [] else []) isnt) added.pairs)
+            ∙ append-nil (table_events name (events q h))))
+            (untold this isnt ih)
+
+        listed_so : is_listed n h ≡ true → Tells columns (table_events name (events q g)) (this ∷ written n h)
+        listed_so is =
+            subst (λ es. Tells columns es (this ∷ written n h)) (sym (added.stands ∙ ap (λ es. table_events name (events q h) ++ es) one.is))
+            (told this (told_event one.id time t (event_of w (set_trigger q))) says ih)
+          where
+            one : IsOne time t w (set_trigger q) added.more
+            one = adds-one (filter (hits name q time t w) ts) added.more (set_trigger q) (own_hits ∙ ap (λ b. if b then set_trigger q ∷ [] else []) is) added.pairs
+
+            free : is_leaf (node h) ≡ false
+            free = a-root (node h) root
+
+            old_held : IfSome old AreHeld
+            old_held = subst (λ o. IfSome o AreHeld) (row-met (of_session who) t m key old new h l fine) (standing-held h (cut-held h cut free) t m key)
+
+            says : Says columns (told_event one.id time t (event_of w (set_trigger q))) this
+            says =
+                subst (λ x. Says columns (told_event one.id time t (event_of x (set_trigger q))) this) (λ i. record { table = sym named i; columns = sym columns_same i; old = old; new = new })
+                (says-set name columns one.id time q t key old new (is_listed n h) (subst IsTableOf columns_same (cut-columns m h cut fit.within)) some
+                (subst (λ cs. IfSome old (IsRowOf cs key)) columns_same fit.before) (subst (λ cs. IfSome new (IsRowOf cs key)) columns_same fit.after) old_held (held free))
+
+    told-write : Told h → Told g
+    told-write ih =
+        subst (Tells columns (table_events name (events q g))) (sym (written-events n (write_of who t m key old new ∷ h) marks only))
+        (by_same (λ b. Tells columns (table_events name (events q g)) (if b then this ∷ written n h else written n h)) m n (λ same. told-same same ih) (λ other. told-other other ih))

@@ -140,6 +140,13 @@ left-none n s key h none = left-same n s (λ _. false) key h (λ u is. false_fro
     nothing [] = refl
     nothing (w ∷ ws) = nothing ws
 
+-- the row that a write meets
+pub row-met : (whose : Whose) (t m : ℕ) (k : List Val) (old new : Option (List Val)) (y : History) → Legal y → Fine y (tabled (wrote whose t m k old new))
+    → at k (put_all (writes_of m t y) (rows m y)) ≡ old
+row-met _ _ _ _ _ _ y ly (writes who t m k old new mine free stands) =
+    ap (λ o. at k (put_all (own_writes m o y) (rows m y))) (sym mine) ∙ ap (λ (x : RowsShown). (x.key who m k).standing) (same-rows y ly) ∙ stands.stands
+row-met _ _ _ _ _ _ y ly (copies_row m t k old new is) = read-at y y here ly (Some t) (runs-unended y (sound y ly) t (copy-runs y (sound y ly) m t is.runs)) m k ∙ is.stands
+
 module _ (n : ℕ) (p r top : History) (low : Since p r) (high : Since r top) (l : Legal top) where
   abbrev first_ones : Set
   first_ones = has_committed p
@@ -177,13 +184,6 @@ module _ (n : ℕ) (p r top : History) (low : Since p r) (high : Since r top) (l
           ]
   first-in (_ ∷ y) s = first-in y (since-below s)
 
-  -- the row that a write meets
-  names : (whose : Whose) (t m : ℕ) (k : List Val) (old new : Option (List Val)) (y : History) → Legal y → Fine y (tabled (wrote whose t m k old new))
-      → at k (put_all (writes_of m t y) (rows m y)) ≡ old
-  names _ _ _ _ _ _ y ly (writes who t m k old new mine free stands) =
-      ap (λ o. at k (put_all (own_writes m o y) (rows m y))) (sym mine) ∙ ap (λ (x : RowsShown). (x.key who m k).standing) (same-rows y ly) ∙ stands.stands
-  names _ _ _ _ _ _ y ly (copies_row m t k old new is) = read-at y y here ly (Some t) (runs-unended y (sound y ly) t (copy-runs y (sound y ly) m t is.runs)) m k ∙ is.stands
-
   pub old-are : (x : History) → Since x top → OldIs all_ones (written n x)
   old-are [] s = tt
   old-are (tabled (wrote whose t m k old new) ∷ y) s =
@@ -205,7 +205,7 @@ module _ (n : ℕ) (p r top : History) (low : Since p r) (high : Since r top) (l
           ∙ sym (joined-over (left_by (λ u. u == t) k (written n y)) (left_by (has_committed y) k (written n y)))
           ∙ sym (at-put_all k (writes_of n t y) (rows n y) ∙ (λ i. over (own-left n t k y i) (at-rows n k y ly i)))
           ∙ ap (λ x. at k (put_all (writes_of x t y) (rows x y))) (sym same)
-          ∙ names whose t m k old new y ly (fine_mark below)
+          ∙ row-met whose t m k old new y ly (fine_mark below)
         where
           joined-over : (o o' : Option (Option (List Val))) → over o (over o' None) ≡ over (option_or o o') None
           joined-over None o' = refl
