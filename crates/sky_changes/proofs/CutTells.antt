@@ -301,3 +301,63 @@ module _ (n : ℕ) (name : List ℕ) (columns : List Column) (q : ℕ) where
     told-write ih =
         subst (Tells columns (table_events name (events q g))) (sym (written-events n (write_of who t m key old new ∷ h) marks only))
         (by_same (λ b. Tells columns (table_events name (events q g)) (if b then this ∷ written n h else written n h)) m n (λ same. told-same same ih) (λ other. told-other other ih))
+
+  -- ---- the other pieces
+
+  plain-same : (h : History) (mark : Mark) → Plain mark → Told h → Told (mark ∷ h)
+  plain-same h (tabled (wrote whose t m key old new)) is ih = absurd is
+  plain-same h (queued (put p e)) is ih = absurd is
+  plain-same h _ is ih = ih
+
+  -- one event more that isn't the table's
+  one-apart : (h : History) (p : ℕ) (e : Event) → is_event name e ≡ false → table_events name (if p == q then events q h ++ e ∷ [] else events q h) ≡ table_events name (events q h)
+  one-apart h p e isnt =
+      by_test (λ b. table_events name (if b then events q h ++ e ∷ [] else events q h) ≡ table_events name (events q h)) (p == q)
+      (λ _. filter-append (is_event name) (events q h) (e ∷ []) ∙ ap (λ b. table_events name (events q h) ++ (if b then e ∷ [] else [])) isnt ∙ append-nil (table_events name (events q h))) (λ _. refl)
+
+  back-owned : {h : History} {retry : Retry} {moment : ℤ} (t : ℕ) → Legal (queued (put retry.queue (brought_by t retry.event)) ∷ h) → Fine (queued (put retry.queue (brought_by t retry.event)) ∷ h) (queued (returned retry moment))
+      → is_event name (brought_by t retry.event) ≡ false
+  back-owned {h = h} {retry = retry} t l (comes_back below _ u moment same back due) =
+      let lower : h ≡ below = cc in
+      ap (λ o. is_none o && is_of_table name (brought_by t retry.event)) (owned below (subst Legal lower (legal-below_mark l)) retry back.waits)
+
+  pub cut-tells : (h : History) → Cut h → Legal h → is_root (node h) ≡ true → queue_at h ≡ Some q → AtTable n name columns h → Told h
+  cut-tells _ nothing l root set a = absurd (cc)
+  cut-tells _ (plain {h = h} mark cut is) l root set a =
+      let below : Legal h = legal-below_mark l in
+      let was : is_root (node h) ≡ true = root-before h mark is root in
+      plain-same h mark is (cut-tells h cut below was (sym (keeps-set (later here) l was).queue ∙ set) (table-below n name columns mark h a))
+  cut-tells _ (writes {h = h} who t m key old new time marks cut said some held) l root set a =
+      let write : Mark = write_of who t m key old new in
+      let only : Events marks = told-only h time write marks said in
+      let lw : Legal (write ∷ h) = legal-events (write ∷ h) marks only l in
+      let below : Legal h = legal-below_mark lw in
+      let was : is_root (node h) ≡ true = ap is_root (sym (node-events (write ∷ h) marks only)) ∙ root in
+      let set_then : queue_at h ≡ Some q = sym (queue-events (write ∷ h) marks only) ∙ set in
+      let b : AtTable n name columns h = table-below n name columns write h (table-events n name columns (write ∷ h) marks only a) in
+      told-write h cut below was set_then b who t m key old new time marks said some held (fine_mark lw) (cut-tells h cut below was set_then b)
+  cut-tells _ (copies {h = h} m t table key old new cut leaf) l root set a = absurd (cc (sym (a-root (node h) root) ∙ leaf))
+  cut-tells _ (inserts {h = h} p value e cut is) l root set a =
+      subst (λ es. Tells columns es (written n h))
+      (sym (by_same (λ b. table_events name (if b then events q h ++ e ∷ [] else events q h) ≡ table_events name (events q h)) p q
+      (λ same. subst (λ b. table_events name (if b then events q h ++ e ∷ [] else events q h) ≡ table_events name (events q h)) (ap (λ k. k == q) same ∙ same-session q)
+      (one-apart h p e (ap (λ b. is_none e.ev_owner && b) (not-of-rows name e (is (set ∙ ap (λ k. Some k) (sym same)))) ∙ never (is_none e.ev_owner))))
+      (λ other. refl)))
+      (cut-tells h cut (legal-below_mark (legal-below_mark l)) root set (table-below n name columns _ h (table-below n name columns _ _ a)))
+    where
+      never : (b : Bool) → (b && false) ≡ false
+      never true = refl
+      never false = refl
+  cut-tells _ (returns {h = h} retry t moment cut) l root set a =
+      subst (λ es. Tells columns es (written n h)) (sym (one-apart h retry.queue (brought_by t retry.event) (back-owned t (legal-below_mark l) (fine_mark l))))
+      (cut-tells h cut (legal-below_mark (legal-below_mark l)) root set (table-below n name columns _ h (table-below n name columns _ _ a)))
+  cut-tells _ (lists {h = h} table_name table p cut after) l root set a =
+      let same : IsSameNode (node h) (after_node (listed table_name) (node h)) = same-node (listed table_name) refl (node h) in
+      cut-tells h cut (legal-below_mark (legal-below_mark l)) (sym same.root ∙ root) (sym (same.set (queues h)) ∙ set) (table-below n name columns _ h (table-below n name columns _ _ a))
+  cut-tells _ (unlists {h = h} table_name table cut after) l root set a =
+      let same : IsSameNode (node h) (after_node (unlisted table_name) (node h)) = same-node (unlisted table_name) refl (node h) in
+      cut-tells h cut (legal-below_mark (legal-below_mark l)) (sym same.root ∙ root) (sym (same.set (queues h)) ∙ set) (table-below n name columns _ h (table-below n name columns _ _ a))
+  cut-tells _ (roots {h = h} root_name queue t time cut bare) l root set a =
+      let below : Legal h = legal-below_mark (legal-below_mark l) in
+      let new : q ≡ queues_made h = new-number queue (queues h) (queues_made h) q (fresh-name (fine_mark (legal-below_mark l))) set in
+      subst (λ es. Tells columns (table_events name es) (written n h)) (sym (beyond h below q (omega (arith, new))).events) (all-untold n columns h bare)
