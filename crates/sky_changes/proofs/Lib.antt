@@ -11,3 +11,4 @@ pub mod SetTriggers
 pub mod ListedTables
 pub mod ToldEvents
 pub mod CutTells
+pub mod Replays

@@ -23,6 +23,11 @@ either-since here s = inr s
 either-since (later s) here = inl (later s)
 either-since (later s) (later t) = either-since s t
 
+-- a place is the topmost one, or is below the last mark
+pub since-or : (p : History) (mark : Mark) (h : History) → Since p (mark ∷ h) → (p ≡ mark ∷ h) ⊎ Since p h
+since-or _ mark h here = inl refl
+since-or p mark h (later s) = inr s
+
 -- marks on top of a place
 pub on-top : (marks : List Mark) (p : History) → Since p (marks ++ p)
 on-top [] p = here

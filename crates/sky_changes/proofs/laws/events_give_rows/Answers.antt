@@ -1,5 +1,5 @@
-use Rattle.sky_changes.proofs.CutTells as one
+use Rattle.sky_changes.proofs.Replays.{events_give_rows}
 use Rattle.sky_changes.proofs.laws.events_give_rows.Goals as goal
 
 pub returns : goal.returns
-returns c = ?
+returns c = events_give_rows
