@@ -12,3 +12,5 @@ pub mod ListedTables
 pub mod ToldEvents
 pub mod CutTells
 pub mod Replays
+pub mod TickPlaces
+pub mod BatchLaws
