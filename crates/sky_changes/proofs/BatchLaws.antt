@@ -1,25 +1,21 @@
 -- A batch gives the rows of a table at its closing tick.
-use Rattle.std.proofs.Common.{◌≡◌, ℕ, ◌≤◌, Bool, true, false, not, ◌&&◌, List, [], ◌∷◌, Option, Some, None, is_none, is_some, filter, refl, sym, ◌∙◌, ap, subst, arith, if◌then◌else◌}
+use Rattle.std.proofs.Common.{◌≡◌, ℕ, Bool, true, false, not, ◌&&◌, List, [], ◌∷◌, Option, Some, None, is_none, filter, refl, sym, ◌∙◌, ap, subst, arith}
 use Rattle.std.proofs.lemmas.Bool.{and_parts}
 use Rattle.sky_val.specs.declared.event.Event.{Event}
 use Rattle.sky_txid.specs.Snapshot.{sees}
 use Rattle.pgq_tables.specs.Listed.{is_for}
-use Rattle.sky_names.specs.Places.{place_of}
 use Rattle.sky_model.specs.History.{Batch, History}
 use Rattle.sky_model.specs.Transactions.{has_ended, has_committed, snapshot}
-use Rattle.sky_model.specs.Queues.{events, ticks, tick, at_tick}
+use Rattle.sky_model.specs.Queues.{events, at_tick}
 use Rattle.sky_model.specs.Rows.{columns_of, rows}
 use Rattle.sky_model.specs.Batches.{batch_events}
-use Rattle.sky_model.specs.HistoryPlaces.{IsPlace}
 use Rattle.sky_model.proofs.Legal.{Legal}
 use Rattle.sky_model.proofs.Snapshots.{sees-snapshot}
 use Rattle.sky_model.proofs.SnapshotLaws.{legal_place}
-use Rattle.sky_model.proofs.RowSights.{Since, legal-since, ended-since}
-use Rattle.sky_model.proofs.Cases.{by_test}
+use Rattle.sky_model.proofs.RowSights.{Since, legal-since}
 use Rattle.sky_changes.specs.TableEvents.{is_of_table, table_events, unseen_events}
-use Rattle.sky_changes.specs.Listing.{IsBelow, StaysListed}
 use Rattle.sky_changes.specs.LawsOfChanges.{Give, between, BatchesGiveRows, UnseenEventsGiveRows}
-use Rattle.sky_changes.proofs.Places.{since-joined, from-below, to-below, committed-since, committed-ended, committed-then}
+use Rattle.sky_changes.proofs.Places.{from-below, to-below, committed-since, committed-ended, committed-then}
 use Rattle.sky_changes.proofs.ToldEvents.{is_event}
 use Rattle.sky_changes.proofs.Replays.{events_give_rows}
 use Rattle.sky_changes.proofs.TickPlaces.{tick-since, ticks_are_in_order, by-id-of}

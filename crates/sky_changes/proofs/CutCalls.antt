@@ -1,36 +1,35 @@
 -- Calls in form cut their history.
-use Rattle.std.proofs.Common.{◌≡◌, ℕ, zero, suc, ℤ, pos, ◌+◌, ◌^◌, nat_le, List, [], ◌∷◌, ◌++◌, Bool, true, false, not, ◌&&◌, ◌==◌, Option, Some, None, Ok, Err, IfOk, IfSome, All, is_some, length, refl, sym, ◌∙◌, ap, subst, if◌then◌else◌, filter}
-use Rattle.std.proofs.lemmas.Bool.{cond_both, not-true, and_parts}
+use Rattle.std.proofs.Common.{◌≡◌, ℕ, zero, suc, ℤ, nat_le, List, [], ◌∷◌, ◌++◌, Bool, true, false, not, ◌&&◌, ◌==◌, Option, Some, None, Ok, Err, IfOk, IfSome, All, is_some, length, refl, sym, ◌∙◌, ap, subst, if◌then◌else◌, option_map}
+use Rattle.std.proofs.lemmas.Bool.{cond_both, not-true}
 use Rattle.std.proofs.lemmas.List.Elements.{All-head, All-tail}
 use Rattle.std.proofs.lemmas.Result.{IfOk-at_ok}
+use Rattle.std.specs.List.{list_any}
 use Rattle.sky_val.specs.declared.val.Val.{Val}
-use Rattle.sky_val.specs.declared.event.Event.{Event}
 use Rattle.sky_keys.specs.Waits.{Waiting, is_waiting}
+use Rattle.sky_names.specs.Places.{place_of}
 use Rattle.pgq_retry.specs.declared.retry.Retry as retry
 use Rattle.pgq_retry.specs.Retries.{due_now}
-use Rattle.sky_names.specs.Places.{place_of}
-use Rattle.sky_model.specs.declared.stmt.Attempt.{Attempt}
+use Rattle.londiste_state.specs.Nodes.{Node, of_root, of_leaf}
 use Rattle.sky_model.specs.declared.stmt.Attempt.TheVariants.{Deletion}
 use Rattle.sky_model.specs.declared.stmt.Stmt.{Stmt}
 use Rattle.sky_model.specs.declared.stmt.Stmt.TheVariants.{Row, InsertEvent, MaintRetryEvents, CreateRoot}
 use Rattle.sky_model.specs.declared.stmt.RowStmt.{RowStmt}
-use Rattle.sky_model.specs.declared.stmt.RowStmt.TheVariants.{Commit}
 use Rattle.sky_model.specs.declared.stmt.Extra.{Extra}
 use Rattle.sky_model.specs.declared.daemon.DaemonPart.{DaemonPart}
 use Rattle.sky_model.specs.declared.daemon.DaemonPart.TheVariants as part
 use Rattle.sky_model.specs.declared.reply.Refusal.{Refusal}
-use Rattle.sky_model.specs.declared.reply.Reply.TheVariants.{Done, Number}
-use Rattle.sky_model.specs.declared.reply.Refusal.TheVariants.{NoQueue, ReservedType, NodeExists, QueueExists, TooMany}
-use Rattle.sky_model.specs.declared.reply.Limit.TheVariants.{Queues}
+use Rattle.sky_model.specs.declared.reply.Reply.TheVariants.{Done, Number, Null}
+use Rattle.sky_model.specs.declared.reply.Refusal.TheVariants.{NoQueue, ReservedType, NodeExists, QueueExists, TooMany, TableBusy, Canceled}
+use Rattle.sky_model.specs.declared.reply.Limit.TheVariants.{Queues, Triggers}
 use Rattle.sky_model.specs.InForm.{IsInForm, IsRowInForm}
-use Rattle.sky_model.specs.History.{Mark, Whose, of_session, of_worker, of_copy, began, ended, block_failed, block_ended, looked, tabled, wrote, waits, waited, queued, made, raised, put, returned, switched, traced, untraced, noded, root_made, listed, unlisted, leaf_made, leaf_added, leaf_removed, state_set, copied, restarted, hold_begun, hold_ended, read_only, History}
-use Rattle.sky_model.specs.Sessions.{Block, outside, inside, failed, Session, session, has_open, block, own_txid}
+use Rattle.sky_model.specs.History.{Mark, of_session, of_worker, of_copy, began, ended, block_failed, block_ended, looked, tabled, wrote, waits, waited, queued, made, raised, put, returned, switched, traced, untraced, noded, root_made, listed, unlisted, leaf_made, leaf_added, leaf_removed, state_set, copied, restarted, hold_begun, hold_ended, read_only, History}
+use Rattle.sky_model.specs.Sessions.{Block, outside, inside, failed, session, has_open, block, own_txid}
 use Rattle.sky_model.specs.Locks.{waiting, attempt}
 use Rattle.sky_model.specs.Nodes.{node, is_leaf, is_set_queue}
 use Rattle.sky_model.specs.Queues.{NamedQueue, queues, queue_number, is_pending}
 use Rattle.sky_model.specs.Retries.{retries, brought_by}
 use Rattle.sky_model.specs.State.{Database, part_of, queue_of, database_of, after_mark, after_marks}
-use Rattle.sky_model.specs.ShownRows.{rows_in}
+use Rattle.sky_model.specs.ShownRows.{rows_in, least_writer}
 use Rattle.sky_model.specs.Outcome.{Outcome, Checked, ◌>>=◌, ◌>>◌, refused_if, refused_by, answers, found_or, does_marks, reply_of, marks_of, after_marks_of, end_of, aborts, abort, or_refused}
 use Rattle.sky_model.specs.OwnTransaction.{begin_of, commit_of, next_id, txid_for, in_own}
 use Rattle.sky_model.specs.Allowed.{where_of, allowed}
@@ -38,34 +37,26 @@ use Rattle.sky_model.specs.Made.{takes_sight, looking, runs_if}
 use Rattle.sky_model.specs.StepRows.{attempts}
 use Rattle.sky_model.specs.StepQueue.{next_tick, next_event_id, tells_of_rows, made_event, insert_event}
 use Rattle.sky_model.specs.StepRetry.{back, brings, most_back, maint_retry_events}
-use Rattle.londiste_state.specs.Nodes.{Node, of_root, of_leaf}
-use Rattle.sky_model.specs.declared.reply.Reply.TheVariants.{Null}
-use Rattle.sky_model.specs.declared.reply.Refusal.TheVariants.{TableBusy}
-use Rattle.sky_model.specs.declared.reply.Limit.TheVariants.{Triggers}
-use Rattle.std.specs.List.{list_any}
-use Rattle.std.proofs.Common.{option_map}
 use Rattle.sky_model.specs.Rows.{table_names}
 use Rattle.sky_model.specs.Triggers.{triggers, triggers_of}
-use Rattle.sky_model.specs.ShownRows.{least_writer}
 use Rattle.sky_model.specs.Copies.{copies as copies_in, copy_txid, Hold, holds}
 use Rattle.sky_model.specs.StepCopy.{given_up}
-use Rattle.sky_model.specs.StepNode.{create_root, set_queue, set_trigger, lists as lists_table, NodeCall, joining, parting, fetching, finishing, making_leaf, adding, removing, moving, listing, unlisting, beginning_copy, copying_rows, ending_copy, giving_up_copy, holding, letting_go, if_there, may_copy, may_serve, call_form, node_does}
+use Rattle.sky_model.specs.StepNode.{create_root, set_queue, set_trigger, lists as lists_table, NodeCall, making_leaf, adding, removing, moving, listing, unlisting, beginning_copy, copying_rows, ending_copy, giving_up_copy, holding, letting_go, if_there, may_copy, may_serve, call_form, node_does}
 use Rattle.sky_model.specs.Promises.{after_all}
 use Rattle.sky_model.specs.DatabaseCalls.{DatabaseCall, stepped, entered, failed as failed_call, worked, served, IsDatabaseCallInForm, database_does, database_part}
-use Rattle.sky_model.proofs.NodeReadings.{same-node}
-use Rattle.sky_model.proofs.NodeCalls.{is_for_consumers, is_consumers, gives-consumers}
-use Rattle.sky_model.proofs.CopyCalls.{is_for_copies, is_copies, gives-copies}
-use Rattle.sky_model.proofs.Histories.{stands_calls}
 use Rattle.sky_model.specs.StepRotation.{held_back, rotates_by_itself, lack_second_step, maint_rotate_step2, committed_by, switches_by, switches_of}
 use Rattle.sky_model.specs.SessionMarks.{look_of, failure, entry_place, enters, failing}
-use Rattle.sky_model.specs.declared.reply.Refusal.TheVariants.{Canceled}
 use Rattle.sky_model.specs.Daemon.{quietly, ticks_of, daemon_does, retries_of, moved_by, again_if, first_steps_of, second_step_of_all}
 use Rattle.sky_model.specs.StepSession.{commit}
 use Rattle.sky_model.specs.Telling.{events_in, told_of, with_told, tells}
 use Rattle.sky_model.specs.Reader.{shown_in, part_by_history, database_by_history, within_part}
 use Rattle.sky_model.specs.Settling.{Turn, turn_of, behind_marks, marked, and_then, ready, resumed, goes_on, settles, settling, with_settling}
 use Rattle.sky_model.specs.Calls.{row_form, form, making, statement}
-use Rattle.sky_model.proofs.Legal.{queue_of_set, IsNotSets}
+use Rattle.sky_model.proofs.NodeReadings.{same-node}
+use Rattle.sky_model.proofs.NodeCalls.{is_for_consumers, is_consumers, gives-consumers}
+use Rattle.sky_model.proofs.CopyCalls.{is_for_copies, is_copies, gives-copies}
+use Rattle.sky_model.proofs.Histories.{stands_calls}
+use Rattle.sky_model.proofs.Legal.{queue_of_set}
 use Rattle.sky_model.proofs.Marks.{database_of-mark, database_of-marks}
 use Rattle.sky_model.proofs.Lawful.{database-reads, past-behind}
 use Rattle.sky_model.proofs.Resting.{behind-append}
@@ -76,9 +67,9 @@ use Rattle.sky_model.proofs.Inserted.{none, with_raised, with_put}
 use Rattle.sky_model.proofs.Telling.{EventMarks, told_by-events}
 use Rattle.sky_model.proofs.Cases.{by_test, by_block, ok-then}
 use Rattle.sky_changes.proofs.HeldValues.{AreHeld, HeldAttempt}
-use Rattle.sky_changes.proofs.HeldRows.{AllHeld, shown-held}
-use Rattle.sky_changes.proofs.RowMarks.{Each, each-append, Plain, Writes, RowMark, Leaves, row-attempts, row-leaves}
-use Rattle.sky_changes.proofs.PlainForms.{is_other, PlainLeaves, plain-tick, plain-alone, plain-ends_switches, plain-form}
+use Rattle.sky_changes.proofs.HeldRows.{shown-held}
+use Rattle.sky_changes.proofs.RowMarks.{Each, Plain, RowMark, Leaves, row-attempts, row-leaves}
+use Rattle.sky_changes.proofs.PlainForms.{PlainLeaves, plain-tick, plain-alone, plain-ends_switches, plain-form}
 use Rattle.sky_changes.proofs.Cuts.{write_of, Tracing, Cut, nothing, plain, writes, copies, inserts, returns, lists, unlists, roots, Events, node-events, told-only, cut-held}
 
 pub cut-plain : (h : History) (marks : List Mark) → Each Plain marks → Cut h → Cut (marked h marks)

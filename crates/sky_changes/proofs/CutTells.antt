@@ -1,36 +1,33 @@
 -- In the queue of a set the events of a table say what its writes did while it was in the set.
-use Rattle.std.proofs.Common.{◌≡◌, ◌≢◌, ℕ, zero, suc, ◌+◌, ◌<◌, ℤ, Bool, true, false, not, ◌&&◌, ◌==◌, List, [], ◌∷◌, ◌++◌, Option, Some, None, Ok, Err, IfSome, is_none, is_some, length, filter, map, bytes_eq, slice_get, unwrap_or, refl, sym, ◌∙◌, ap, subst, arith, if◌then◌else◌, append-nil, length-append}
+use Rattle.std.proofs.Common.{◌≡◌, ℕ, zero, suc, ◌+◌, ◌<◌, ℤ, Bool, true, false, not, ◌&&◌, ◌==◌, List, [], ◌∷◌, ◌++◌, Option, Some, None, Ok, IfSome, is_none, is_some, length, filter, map, bytes_eq, slice_get, unwrap_or, refl, sym, ◌∙◌, ap, subst, arith, if◌then◌else◌, append-nil, length-append}
 use Rattle.std.specs.Option.{option_and_then}
-use Rattle.std.specs.Prelude.{nat_eq, codes}
-use Rattle.std.specs.List.{starts_with}
-use Rattle.std.proofs.lemmas.Bool.{and_parts, false_from_ne_true, eqb-true}
+use Rattle.std.proofs.lemmas.Bool.{false_from_ne_true}
 use Rattle.std.proofs.lemmas.Bool.Decides.{nat_tests}
 use Rattle.std.proofs.lemmas.List.Elements.{filter-append}
 use Rattle.sky_val.specs.declared.val.Val.{Val}
 use Rattle.sky_val.specs.declared.column.Column.{Column}
 use Rattle.sky_val.specs.declared.event.Event.{Event}
-use Rattle.sky_val.specs.Entries.{at}
-use Rattle.sky_names.specs.Places.{place_of}
 use Rattle.sky_names.proofs.PlaceLemmas.{bytes_eq_refl, same_name}
 use Rattle.pgq_retry.specs.declared.retry.Retry.{Retry}
-use Rattle.sky_urlenc.specs.RowEvents.{Trigger, Write, leaves_out, event_of, events_of}
+use Rattle.londiste_state.specs.Nodes.{Node, of_root, of_leaf}
+use Rattle.sky_urlenc.specs.RowEvents.{Trigger, Write, leaves_out, event_of}
 use Rattle.sky_urlenc.specs.Changes as change
-use Rattle.sky_model.specs.History.{Mark, of_session, of_copy, tabled, table_made, wrote, queued, made, raised, put, returned, traced, untraced, noded, root_made, listed, unlisted, History}
+use Rattle.sky_model.specs.History.{Mark, of_session, tabled, table_made, wrote, queued, raised, put, returned, listed, unlisted, History}
 use Rattle.sky_model.specs.Nodes.{after_node, node, is_root, is_leaf}
 use Rattle.sky_model.specs.Queues.{queues_made, queues, events}
 use Rattle.sky_model.specs.Retries.{brought_by}
-use Rattle.sky_model.specs.Rows.{table_names, columns_of, rows, writes as writes_of, put_all}
+use Rattle.sky_model.specs.Rows.{table_names, columns_of}
 use Rattle.sky_model.specs.Triggers.{TableTrigger, triggers, triggers_of}
 use Rattle.sky_model.specs.State.{part_of, database_of}
-use Rattle.sky_model.specs.ShownRows.{rows_by, snapshot_now}
+use Rattle.sky_model.specs.ShownRows.{snapshot_now}
 use Rattle.sky_model.specs.Sessions.{own_txid}
-use Rattle.sky_model.specs.StepQueue.{begins_with, tells_of_rows}
+use Rattle.sky_model.specs.StepQueue.{tells_of_rows}
 use Rattle.sky_model.specs.StepNode.{set_trigger}
 use Rattle.sky_model.specs.Telling.{told_event, told_of}
 use Rattle.sky_model.specs.Settling.{marked}
 use Rattle.sky_model.specs.LawsOfNodes.{triggers_into}
 use Rattle.sky_model.specs.LawsOfWrites.{IsRowOf}
-use Rattle.sky_model.proofs.Legal.{queue_of_set, Fine, writes as session_writes, returns as comes_back, Returns, Legal, legal-below_mark, fine_mark}
+use Rattle.sky_model.proofs.Legal.{Fine, writes as session_writes, returns as comes_back, Legal, legal-below_mark, fine_mark}
 use Rattle.sky_model.proofs.Inserted.{none, with_raised, with_put}
 use Rattle.sky_model.proofs.NodeReadings.{IsSameNode, same-node}
 use Rattle.sky_model.proofs.WrittenRows.{all-left, read-left}
@@ -41,14 +38,13 @@ use Rattle.sky_model.proofs.Good.{same-session}
 use Rattle.sky_model.proofs.Cases.{by_test, by_same}
 use Rattle.sky_changes.specs.TableEvents.{is_name, is_of_table, table_events}
 use Rattle.sky_changes.proofs.HeldValues.{AreHeld}
-use Rattle.sky_changes.proofs.HeldRows.{AllHeld, standing-held}
+use Rattle.sky_changes.proofs.HeldRows.{standing-held}
 use Rattle.sky_changes.proofs.RowMarks.{IsTableOf, Plain}
 use Rattle.sky_changes.proofs.WriteLists.{Written}
 use Rattle.sky_changes.proofs.TableWrites.{is_listed, written, row-met}
-use Rattle.londiste_state.specs.Nodes.{Node, of_root, of_leaf}
 use Rattle.sky_changes.proofs.Cuts.{write_of, Cut, nothing, plain, writes, copies, inserts, returns, lists, unlists, roots, Events, node-events, told-only, cut-held}
 use Rattle.sky_changes.proofs.SetTriggers.{queue_at, keeps-set, root-before, legal-events, queue-events, fresh-name, new-number, is_into, into-set}
-use Rattle.sky_changes.proofs.ListedTables.{place-of-own, none-listed, bare-below}
+use Rattle.sky_changes.proofs.ListedTables.{none-listed, bare-below}
 use Rattle.sky_changes.proofs.ToldEvents.{is_event, Adds, no_more, one_more, hits, AddsTo, told-adds, Says, says-set, Tells, none_told, untold, told, ignores-none}
 
 -- ---- a table

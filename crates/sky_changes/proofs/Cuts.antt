@@ -1,27 +1,13 @@
 -- Each history that calls in form make is cut into pieces: plain marks, writes with the events that record them, and the few others.
-use Rattle.std.proofs.Common.{◌≡◌, ℕ, zero, suc, ℤ, pos, ◌+◌, ◌^◌, nat_le, List, [], ◌∷◌, ◌++◌, Bool, true, false, not, ◌&&◌, ◌==◌, Option, Some, None, Ok, Err, IfOk, IfSome, All, is_some, length, refl, sym, ◌∙◌, ap, subst, if◌then◌else◌, filter}
-use Rattle.std.proofs.lemmas.Bool.{cond_both, not-true}
-use Rattle.std.proofs.lemmas.List.Elements.{All-head, All-tail}
-use Rattle.std.proofs.lemmas.Result.{IfOk-at_ok}
+use Rattle.std.proofs.Common.{◌≡◌, ℕ, ℤ, List, [], ◌∷◌, true, false, Option, Some, None, Ok, IfSome, is_some, refl, sym, ◌∙◌, ap, subst, if◌then◌else◌, filter}
 use Rattle.sky_val.specs.declared.val.Val.{Val}
 use Rattle.sky_val.specs.declared.event.Event.{Event}
-use Rattle.sky_keys.specs.Waits.{Waiting, is_waiting}
 use Rattle.pgq_retry.specs.declared.retry.Retry.{Retry}
-use Rattle.pgq_retry.specs.Retries.{due_now}
-use Rattle.sky_names.specs.Places.{place_of}
-use Rattle.sky_model.specs.declared.stmt.Attempt.{Attempt}
-use Rattle.sky_model.specs.declared.stmt.Stmt.{Stmt}
-use Rattle.sky_model.specs.declared.stmt.Stmt.TheVariants.{Row, InsertEvent, MaintRetryEvents, CreateRoot}
-use Rattle.sky_model.specs.declared.stmt.RowStmt.{RowStmt}
-use Rattle.sky_model.specs.declared.stmt.RowStmt.TheVariants.{Commit}
-use Rattle.sky_model.specs.declared.stmt.Extra.{Extra}
-use Rattle.sky_model.specs.declared.daemon.DaemonPart.{DaemonPart}
-use Rattle.sky_model.specs.declared.daemon.DaemonPart.TheVariants as part
-use Rattle.sky_model.specs.History.{Mark, Whose, of_session, of_worker, of_copy, began, ended, looked, tabled, wrote, waits, waited, queued, made, raised, put, returned, traced, untraced, noded, NodeMark, root_made, listed, unlisted, leaf_made, History}
-use Rattle.sky_model.specs.Nodes.{after_node, node, is_leaf, set_tables, is_set_queue}
-use Rattle.sky_model.specs.Queues.{queues, queue_number}
-use Rattle.sky_model.specs.State.{Database, part_of, database_of}
-use Rattle.sky_model.specs.Triggers.{TableTrigger, is_sets, triggers}
+use Rattle.sky_model.specs.History.{Mark, of_session, of_copy, tabled, wrote, queued, made, raised, put, returned, traced, untraced, noded, root_made, listed, unlisted, leaf_made, History}
+use Rattle.sky_model.specs.Nodes.{node, is_leaf, set_tables}
+use Rattle.sky_model.specs.Queues.{queues}
+use Rattle.sky_model.specs.State.{Database, database_of}
+use Rattle.sky_model.specs.Triggers.{is_sets, triggers}
 use Rattle.sky_model.specs.StepQueue.{tells_of_rows}
 use Rattle.sky_model.specs.StepNode.{set_trigger}
 use Rattle.sky_model.specs.Retries.{brought_by}
@@ -30,12 +16,12 @@ use Rattle.sky_model.specs.LawsOfNodes.{is_one_of, triggers_into}
 use Rattle.sky_model.specs.Telling.{events_in, told_of}
 use Rattle.sky_model.specs.Settling.{marked}
 use Rattle.sky_model.proofs.Legal.{queue_of_set}
-use Rattle.sky_model.proofs.NodeReadings.{IsSameNode, same-node}
+use Rattle.sky_model.proofs.NodeReadings.{same-node}
 use Rattle.sky_model.proofs.Telling.{EventMarks, told_by-events}
-use Rattle.sky_model.proofs.Inserted.{Inserted, none, kept, with_raised, with_put}
+use Rattle.sky_model.proofs.Inserted.{Inserted, none, with_raised, with_put}
 use Rattle.sky_changes.proofs.HeldValues.{AreHeld}
 use Rattle.sky_changes.proofs.HeldRows.{AllHeld}
-use Rattle.sky_changes.proofs.RowMarks.{Each, Plain}
+use Rattle.sky_changes.proofs.RowMarks.{Plain}
 
 -- a session's write, and a copy's
 abbrev pub write_of : (who t table : ℕ) → List Val → (old new : Option (List Val)) → Mark

@@ -1,8 +1,8 @@
 -- What calls in form say of the values in rows: numbers fit 64 bits, and texts are UTF-8, so that a row is read back from its text.
-use Rattle.std.proofs.Common.{◌≡◌, ◌≢◌, ℕ, zero, suc, ◌<◌, ◌+◌, ◌/◌, ◌%◌, nat_lt, ◌^◌, ℤ, pos, negsuc, ◌+ℤ◌, ◌-ℤ◌, ◌≤ℤ◌, ◌<ℤ◌, Bool, true, false, ◌&&◌, List, [], ◌∷◌, ◌++◌, length, get_or, Option, Some, None, Ok, Err, IfOk, IfSome, All, IsUtf8, FitsSigned, w64, refl, sym, ◌∙◌, ap, subst, arith, if◌then◌else◌, inl, inr}
+use Rattle.std.proofs.Common.{◌≡◌, ℕ, zero, suc, ◌<◌, ◌+◌, ◌/◌, nat_lt, ◌^◌, ℤ, pos, negsuc, ◌+ℤ◌, ◌-ℤ◌, true, ◌&&◌, List, [], ◌∷◌, length, Option, Some, None, IfOk, IfSome, All, IsUtf8, FitsSigned, w64, refl, subst, arith, if◌then◌else◌, inl, inr}
 use Rattle.std.specs.Prelude.{int_le, int_lt, slice_index, nat_le, bytes_eq, option_map}
-use Rattle.std.specs.List.{list_all, AllPairs}
-use Rattle.std.proofs.lemmas.Bool.{and_parts, cases_lt}
+use Rattle.std.specs.List.{list_all}
+use Rattle.std.proofs.lemmas.Bool.{and_parts}
 use Rattle.std.proofs.lemmas.Bool.Decides.{nat_tests}
 use Rattle.std.proofs.lemmas.List.Elements.{All-nil, All-cons, All-head, All-tail, All-append}
 use Rattle.std.proofs.lemmas.Int.{ints}
@@ -11,7 +11,7 @@ use lib.Utf8.{scalar, scalars, encode, encodes, next, scalar_cases}
 use Rattle.sky_val.specs.declared.val.Val.{Val}
 use Rattle.sky_val.specs.declared.val.Val.TheVariants as value
 use Rattle.sky_val.specs.declared.column.Column.{Column}
-use Rattle.sky_urlenc.specs.Held.{IsWord, IsHeld, HoldsOne, HoldsAll}
+use Rattle.sky_urlenc.specs.Held.{IsWord, IsHeld, HoldsAll}
 use Rattle.sky_model.specs.declared.stmt.Change.{Change}
 use Rattle.sky_model.specs.declared.stmt.Change.TheVariants.{To, Add}
 use Rattle.sky_model.specs.declared.stmt.Set.{Set}
@@ -20,8 +20,8 @@ use Rattle.sky_model.specs.declared.stmt.Attempt.TheVariants.{Insertion, Changes
 use Rattle.sky_model.specs.declared.reply.Refusal.TheVariants.{OutOfRange}
 use Rattle.sky_model.specs.Kinds as kind
 use Rattle.sky_model.specs.Kinds.{begins_name, continues_name, is_identifier, is_name}
-use Rattle.sky_model.specs.InForm.{IsQuotable, IsValue, IsChange, IsOf}
-use Rattle.sky_model.specs.Outcome.{Checked, ◌>>=◌, found_or}
+use Rattle.sky_model.specs.InForm.{IsValue, IsChange, IsOf}
+use Rattle.sky_model.specs.Outcome.{◌>>=◌, found_or}
 use Rattle.sky_model.specs.StepRows.{in_range, changed, with_set, with_sets}
 use Rattle.sky_model.proofs.Cases.{by_test}
 

@@ -14,3 +14,4 @@ pub mod CutTells
 pub mod Replays
 pub mod TickPlaces
 pub mod BatchLaws
+mod WorkedChanges

@@ -1,32 +1,30 @@
 -- A table keeps its name and its columns; and once it is in a set, those that wrote it before have ended.
-use Rattle.std.proofs.Common.{◌≡◌, ℕ, zero, suc, ◌+◌, ◌<◌, ◌≤◌, Bool, true, false, not, ◌&&◌, ◌||◌, ◌==◌, nat_lt, List, [], ◌∷◌, ◌++◌, Option, Some, None, is_some, slice_get, length, bytes_eq, refl, sym, ◌∙◌, ap, subst, arith, if◌then◌else◌, length-append}
+use Rattle.std.proofs.Common.{◌≡◌, ℕ, zero, suc, ◌+◌, ◌<◌, ◌≤◌, true, false, not, ◌&&◌, ◌||◌, ◌==◌, nat_lt, List, [], ◌∷◌, ◌++◌, Option, Some, None, slice_get, length, bytes_eq, refl, sym, ◌∙◌, ap, arith, if◌then◌else◌, length-append}
 use Rattle.std.specs.Option.{option_or}
-use Rattle.std.proofs.lemmas.Bool.{and_parts, or_parts, or_right, eqb-true, not-true, true_from_ne_false, false_from_ne_true}
+use Rattle.std.proofs.lemmas.Bool.{and_parts, or_right, eqb-true, true_from_ne_false}
 use Rattle.std.proofs.lemmas.Bool.Decides.{nat_tests}
-use Rattle.sky_val.specs.declared.val.Val.{Val}
-use Rattle.sky_val.specs.declared.column.Column.{Column}
 use Rattle.sky_txid.specs.Ids.{contains}
 use Rattle.sky_names.specs.Places.{place_of}
-use Rattle.sky_names.proofs.PlaceLemmas.{bytes_eq_refl, same_name, place_of-append, slice_get-place_of, place_of_within}
-use Rattle.londiste_state.specs.Nodes.{Node, of_root, of_leaf, is_among}
-use Rattle.sky_model.specs.History.{Mark, NodeMark, Whose, ended, tabled, table_made, wrote, noded, root_made, listed, unlisted, leaf_made, History}
+use Rattle.sky_names.proofs.PlaceLemmas.{bytes_eq_refl, same_name, place_of-append}
+use Rattle.londiste_state.specs.Nodes.{Node, is_among}
+use Rattle.sky_model.specs.History.{Mark, NodeMark, tabled, table_made, wrote, noded, root_made, listed, unlisted, leaf_made, History}
 use Rattle.sky_model.specs.Transactions.{next_txid, running, has_ended}
-use Rattle.sky_model.specs.Rows.{Write, table_names, columns_of, writes as writes_of, wrote_in}
-use Rattle.sky_model.specs.Nodes.{after_node, node, is_root, is_leaf, set_tables}
+use Rattle.sky_model.specs.Rows.{Write, table_names, columns_of, writes as writes_of}
+use Rattle.sky_model.specs.Nodes.{after_node, node, is_root, set_tables}
 use Rattle.sky_model.specs.LawsOfNodes.{is_at, is_one_of}
 use Rattle.sky_model.specs.ShownRows.{least_writer}
 use Rattle.sky_model.specs.State.{part_of}
-use Rattle.sky_model.proofs.Legal.{Fine, makes_table, NodeFits, nodes, Joins, Leaves, Legal, start, next, legal-below_mark, fine_mark}
+use Rattle.sky_model.proofs.Legal.{Fine, makes_table, NodeFits, nodes, Legal, start, next, legal-below_mark, fine_mark}
 use Rattle.sky_model.proofs.NodeReadings.{set-listed, set-unlisted}
-use Rattle.sky_model.proofs.NodeTables.{one-push, one-less, one-kept, HaveTables, have-tables}
+use Rattle.sky_model.proofs.NodeTables.{one-push, one-less, one-kept, have-tables}
 use Rattle.sky_model.proofs.Snapshots.{sound}
 use Rattle.sky_model.proofs.WrittenTables.{some, is-written, unwritten-by}
 use Rattle.sky_model.proofs.RowKeys.{begun}
 use Rattle.sky_model.proofs.RowSights.{Since, here, later, ended-behind}
-use Rattle.sky_model.proofs.Cases.{by_test, by_same}
+use Rattle.sky_model.proofs.Cases.{by_test}
 use Rattle.sky_changes.proofs.WriteLists.{Written}
 use Rattle.sky_changes.proofs.TableWrites.{is_listed, written}
-use Rattle.sky_changes.proofs.SetTriggers.{leaves_set, set-same}
+use Rattle.sky_changes.proofs.SetTriggers.{set-same}
 
 -- ---- names and columns
 
@@ -174,8 +172,8 @@ others-ended n (noded mark ∷ h) l is = others-more (noded mark) h (written n h
     of (listed name) fits e ih =
         let root : is_root (node h) ≡ true = (and_parts (is_root (node h)) (not (is_among name (set_tables (node h)))) fits.may).0 in
         let either : (is_one_of (table_names h) (set_tables (node h)) n || is_at n (Some fits.table)) ≡ true
-            = sym (ap (λ names. is_one_of (table_names h) names n) (set-listed (node h) name root) ∙ one-push (table_names h) (set_tables (node h)) name n
-            ∙ ap (λ o. is_one_of (table_names h) (set_tables (node h)) n || is_at n o) fits.there) ∙ e in
+        = sym (ap (λ names. is_one_of (table_names h) names n) (set-listed (node h) name root) ∙ one-push (table_names h) (set_tables (node h)) name n
+        ∙ ap (λ o. is_one_of (table_names h) (set_tables (node h)) n || is_at n o) fits.there) ∙ e in
         by_test (λ b. is_listed n h ≡ b → (b || is_at n (Some fits.table)) ≡ true → OthersEnded h (written n h)) (is_listed n h)
         (λ _ was _. ih was)
         (λ _ _ joins. all-ended n h below (ap (least_writer (part_of h)) (sym (eqb-true fits.table n joins)) ∙ fits.unused.unwritten)) refl either

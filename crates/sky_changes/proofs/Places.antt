@@ -1,12 +1,11 @@
 -- Places of a history, of which one is above another.
-use Rattle.std.proofs.Common.{◌≡◌, ℕ, ◌⊎◌, inl, inr, List, [], ◌∷◌, ◌++◌, true, false, refl, sym, ◌∙◌, ap, subst, arith, ◌||◌, ◌&&◌, ◌==◌, not}
+use Rattle.std.proofs.Common.{◌≡◌, ℕ, ◌⊎◌, inl, inr, List, [], ◌∷◌, ◌++◌, true, false, refl, sym, ◌∙◌, ap, subst, arith, ◌==◌, not}
 use Rattle.std.proofs.lemmas.Bool.{or_right, and_parts, false_from_ne_true}
-use Rattle.std.proofs.lemmas.Bool.Decides.{nat_tests}
 use Rattle.sky_model.specs.History.{Mark, ended, History}
 use Rattle.sky_model.specs.Transactions.{has_ended, has_committed, has_rolled_back}
-use Rattle.sky_model.proofs.Legal.{Legal, legal-below_mark}
+use Rattle.sky_model.proofs.Legal.{Legal}
 use Rattle.sky_model.proofs.Snapshots.{has_committed-ended}
-use Rattle.sky_model.proofs.RowSights.{Since, here, later, legal-since, ended-since}
+use Rattle.sky_model.proofs.RowSights.{Since, here, later, legal-since}
 use Rattle.sky_changes.specs.Listing.{IsBelow}
 
 pub since-below : {mark : Mark} {k h : History} → Since (mark ∷ k) h → Since k h

@@ -1,22 +1,21 @@
 -- The statements that leave plain marks alone: all but those on rows, and those that store events, bring retries back or make a root.
-use Rattle.std.proofs.Common.{◌≡◌, ℕ, ℤ, ◌+◌, ◌^◌, nat_le, List, [], ◌∷◌, ◌++◌, Bool, true, false, Option, Some, None, Ok, Err, IfOk, is_some, length, refl, if◌then◌else◌}
+use Rattle.std.proofs.Common.{◌≡◌, ℕ, ℤ, ◌+◌, List, [], ◌∷◌, ◌++◌, Bool, true, false, Option, Some, None}
 use Rattle.sky_model.specs.declared.stmt.Stmt.{Stmt}
 use Rattle.sky_model.specs.declared.stmt.Stmt.TheVariants.{Row, CreateQueue, DropQueue, SetQueueConfig, QueueInfo, InsertEvent, Ticker, ForceTick, RegisterConsumer, RegisterConsumerAt, UnregisterConsumer, NextBatch, GetBatchEvents, GetBatchInfo, EventRetry, FinishBatch, MaintRetryEvents, MaintRotateStep1, MaintRotateStep2, ConsumerInfo, AddTrigger, CreateRoot, Node, Clock, PgqdOn, PgqdOff}
 use Rattle.sky_model.specs.declared.reply.HeldBack.{HeldBack}
-use Rattle.sky_model.specs.declared.reply.Refusal.TheVariants.{IdsSpent}
-use Rattle.sky_model.specs.History.{Batch, Mark, of_worker, began, ended, queued, ticked, switching, switched, second_step}
+use Rattle.sky_model.specs.History.{Batch, Mark, of_worker, ended}
 use Rattle.sky_model.specs.Queues.{NamedQueue, Tick, tick}
 use Rattle.sky_model.specs.Consumers.{Subscription}
-use Rattle.sky_model.specs.Sessions.{Block, outside, inside, failed, Session}
+use Rattle.sky_model.specs.Sessions.{Block, Session}
 use Rattle.sky_model.specs.State.{Database}
-use Rattle.sky_model.specs.Outcome.{Outcome, Checked, ◌>>=◌, ◌>>◌, refused_if, does_marks}
+use Rattle.sky_model.specs.Outcome.{Outcome, Checked}
 use Rattle.sky_model.specs.OwnTransaction.{begin_of, commit_of, next_id, txid_for, in_own}
-use Rattle.sky_model.specs.StepQueue.{queue_called, next_tick, is_due, newest_id}
+use Rattle.sky_model.specs.StepQueue.{queue_called, next_tick}
 use Rattle.sky_model.specs.StepConsumer.{leaves as leaves_queue, opens_batch, takes_batch, finishes}
 use Rattle.sky_model.specs.StepRotation.{held_back, switch_of, rotates, rotates_alone, second_steps, lack_second_step, ends_switches}
 use Rattle.sky_model.specs.Reader.{Shown}
 use Rattle.sky_model.specs.Calls.{form}
-use Rattle.sky_model.proofs.Cases.{by_test, by_block}
+use Rattle.sky_model.proofs.Cases.{by_block}
 use Rattle.sky_changes.proofs.RowMarks.{Each, each-append, Leaves, after, checked, either, Plain}
 
 abbrev pub is_other : Stmt → Bool

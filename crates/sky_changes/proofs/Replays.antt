@@ -1,7 +1,6 @@
 -- The events of a table between two places apply to its rows at the one, and give those at the other.
-use Rattle.std.proofs.Common.{◌≡◌, ◌⊎◌, inl, inr, ℕ, Bool, true, false, not, ◌&&◌, ◌==◌, List, [], ◌∷◌, ◌++◌, Option, Some, None, is_none, is_some, length, filter, refl, sym, ◌∙◌, ap, subst, arith, if◌then◌else◌, append-nil}
+use Rattle.std.proofs.Common.{◌≡◌, inl, inr, ℕ, Bool, true, false, not, ◌&&◌, ◌==◌, List, [], ◌∷◌, ◌++◌, Option, Some, None, filter, refl, sym, ◌∙◌, ap, subst, if◌then◌else◌, append-nil}
 use Rattle.std.proofs.lemmas.Bool.{and_parts, not-true, true_from_ne_false, false_from_ne_true}
-use Rattle.std.proofs.lemmas.Bool.Decides.{nat_tests}
 use Rattle.std.proofs.lemmas.List.Elements.{filter-append}
 use Rattle.sky_val.specs.declared.val.Val.{Val}
 use Rattle.sky_val.specs.declared.column.Column.{Column}
@@ -9,19 +8,17 @@ use Rattle.sky_val.specs.declared.event.Event.{Event}
 use Rattle.sky_val.specs.Entries.{Entries, at}
 use Rattle.sky_names.specs.Places.{place_of}
 use Rattle.sky_names.proofs.PlaceLemmas.{slice_get-place_of, place_of_within}
+use Rattle.londiste_state.specs.Nodes.{Node, of_root, of_leaf}
 use Rattle.sky_urlenc.specs.Changes.{changed, put, allows, applies, change_of, after_op, may_do}
 use Rattle.sky_model.specs.History.{Mark, Whose, tabled, wrote, queued, put as event_put, History}
 use Rattle.sky_model.specs.Transactions.{has_ended, has_committed}
 use Rattle.sky_model.specs.Nodes.{node, is_root, set_tables}
 use Rattle.sky_model.specs.Queues.{queues, events}
-use Rattle.sky_model.specs.Retries.{brought_by}
 use Rattle.sky_model.specs.Rows.{table_names, columns_of, rows}
 use Rattle.sky_model.specs.Rows as rows_of
 use Rattle.sky_model.specs.State.{database_of}
-use Rattle.sky_model.specs.StepNode.{set_queue}
 use Rattle.sky_model.specs.Promises.{after_all}
 use Rattle.sky_model.specs.DatabaseCalls.{database_part}
-use Rattle.sky_model.specs.HistoryPlaces.{IsPlace}
 use Rattle.sky_model.proofs.Legal.{queue_of_set, Fine, puts, puts_back, Legal, legal-below_mark, fine_mark}
 use Rattle.sky_model.proofs.Histories.{legal_calls}
 use Rattle.sky_model.proofs.Holders.{alone}
@@ -30,14 +27,12 @@ use Rattle.sky_model.proofs.Snapshots.{sound, runs-unended, own-unended}
 use Rattle.sky_model.proofs.RowSights.{Since, here, later, legal-since, ended-since}
 use Rattle.sky_model.proofs.Cases.{by_test, by_same}
 use Rattle.sky_model.proofs.Good.{same-session}
-use Rattle.londiste_state.specs.Nodes.{Node, of_root, of_leaf}
 use Rattle.sky_changes.specs.TableEvents.{table_events}
-use Rattle.sky_changes.specs.Listing.{IsBelow, IsListed, StaysListed}
-use Rattle.sky_changes.specs.LawsOfChanges.{Give, between, EventsGiveRows}
+use Rattle.sky_changes.specs.Listing.{IsListed, StaysListed}
+use Rattle.sky_changes.specs.LawsOfChanges.{Give, EventsGiveRows}
 use Rattle.sky_changes.proofs.WriteLists.{Written, Set, but, Within, after, FirstIn, OldIs, Meets, writes-give, writes-meet}
 use Rattle.sky_changes.proofs.Places.{since-below, since-joined, since-or, either-since, from-below, to-below, committed-ended, uncommitted-since, committed-then}
 use Rattle.sky_changes.proofs.TableWrites.{is_listed, written, rows-left, within, first-in, old-are}
-use Rattle.sky_changes.proofs.Cuts.{Cut}
 use Rattle.sky_changes.proofs.CutCalls.{cut_calls}
 use Rattle.sky_changes.proofs.SetTriggers.{queue_at, KeepsSet, keeps-set}
 use Rattle.sky_changes.proofs.ListedTables.{place-kept, place-of-own, columns-kept, among-one, OthersEnded, others-ended}

@@ -1,5 +1,5 @@
 -- Which marks statements on rows leave if they are in form: what they write, attempt and make is.
-use Rattle.std.proofs.Common.{◌≡◌, ◌≢◌, ℕ, ◌&&◌, Bool, true, false, List, [], ◌∷◌, ◌++◌, Option, Some, None, Ok, Err, IfOk, IfSome, is_some, option_map, All, refl, sym, ◌∙◌, ap, subst, if◌then◌else◌}
+use Rattle.std.proofs.Common.{◌≡◌, ◌≢◌, ℕ, Bool, true, false, List, [], ◌∷◌, ◌++◌, Option, Some, None, Ok, Err, IfOk, IfSome, is_some, option_map, All, refl, sym, ◌∙◌, subst, if◌then◌else◌}
 use Rattle.std.specs.List.{AllPairs}
 use Rattle.std.proofs.lemmas.List.Elements.{All-weaker}
 use Rattle.sky_val.specs.declared.val.Val.{Val}
@@ -14,18 +14,17 @@ use Rattle.sky_model.specs.declared.stmt.Attempt.TheVariants.{Insertion, Changes
 use Rattle.sky_model.specs.declared.stmt.RowStmt.{RowStmt}
 use Rattle.sky_model.specs.declared.stmt.RowStmt.TheVariants.{OpenDb, Close, Cancel, Begin, BeginRepeatableRead, Commit, Rollback, TxidCurrent, TxidCurrentSnapshot, TxidVisibleInSnapshot, CreateTable, Insert, Update, Delete, Get, Scan}
 use Rattle.sky_model.specs.declared.reply.Refusal.{Refusal}
-use Rattle.sky_model.specs.declared.reply.Refusal.TheVariants.{Canceled}
+use Rattle.sky_model.specs.declared.reply.Refusal.TheVariants.{Canceled, Deadlock}
 use Rattle.sky_model.specs.declared.reply.Reply.TheVariants.{Done}
 use Rattle.sky_model.specs.Kinds as kind
 use Rattle.sky_model.specs.Kinds.{is_name}
 use Rattle.sky_model.specs.InForm.{IsOf, IsRowInForm}
-use Rattle.sky_model.specs.History.{Mark, of_session, block_failed, began, ended, tabled, table_made, wrote, waits, queued, put, returned, traced, untraced, noded, root_made, listed, unlisted}
+use Rattle.sky_model.specs.History.{Mark, of_session, block_failed, tabled, table_made, wrote, waits, queued, put, returned, traced, untraced, noded, root_made, listed, unlisted}
 use Rattle.sky_model.specs.Sessions.{Block, outside, inside, failed, Session}
 use Rattle.sky_model.specs.State.{RowPart}
 use Rattle.sky_model.specs.ShownRows.{KeyShown, RowsShown}
-use Rattle.sky_model.specs.Outcome.{Outcome, Checked, ◌>>=◌, ◌>>◌, refused_if, refused_by, does_marks, end_of, aborts, abort}
+use Rattle.sky_model.specs.Outcome.{Outcome, Checked, ◌>>=◌, ◌>>◌, refused_by, does_marks, end_of, aborts, abort}
 use Rattle.sky_model.specs.OwnTransaction.{begin_of, commit_of, txid_for, in_own}
-use Rattle.sky_model.specs.declared.reply.Refusal.TheVariants.{Deadlock}
 use Rattle.sky_model.specs.StepLocks.{ring, once_free}
 use Rattle.sky_model.specs.StepSession.{open_db, begin, begin_repeatable_read, leaves, commit, rollback, close, cancel}
 use Rattle.sky_model.specs.StepRows.{is_seen, schema_refusal, writes_key, changes, attempts, some_row, with_sets, row_or_none}
@@ -214,15 +213,15 @@ module _ (strict : Bool) (who : ℕ) where
       search (after, made)
   row-leaves d shown held (Insert name row) is =
       let tried : (table : ℕ) (key : List Val) → RowLeaves (attempts d (shown.key who table key) who table key (Insertion row))
-          = λ table key. row-attempts d (shown.key who table key) table key (λ s. held s who table key) (Insertion row) (values-held row is.1.1) in
+      = λ table key. row-attempts d (shown.key who table key) table key (λ s. held s who table key) (Insertion row) (values-held row is.1.1) in
       search (checked, after, tried) depth 8
   row-leaves d shown held (Update name key sets) is =
       let tried : (table : ℕ) → RowLeaves (attempts d (shown.key who table key) who table key (Changes sets))
-          = λ table. row-attempts d (shown.key who table key) table key (λ s. held s who table key) (Changes sets) (are-changes sets is.2.1) in
+      = λ table. row-attempts d (shown.key who table key) table key (λ s. held s who table key) (Changes sets) (are-changes sets is.2.1) in
       search (checked, after, tried) depth 8
   row-leaves d shown held (Delete name key) is =
       let tried : (table : ℕ) → RowLeaves (attempts d (shown.key who table key) who table key Deletion)
-          = λ table. row-attempts d (shown.key who table key) table key (λ s. held s who table key) Deletion tt in
+      = λ table. row-attempts d (shown.key who table key) table key (λ s. held s who table key) Deletion tt in
       search (checked, after, tried) depth 8
   row-leaves d shown held (Get name key) is = search (checked, after, row-shown)
   row-leaves d shown held (Scan name) is = search (checked)

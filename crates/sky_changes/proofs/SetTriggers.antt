@@ -1,21 +1,19 @@
 -- The set of a root has one queue, and its trigger on each of its tables is the only trigger of that table into that queue.
-use Rattle.std.proofs.Common.{◌≡◌, ℕ, ℤ, ◌<◌, ◌≤◌, ◌+◌, Bool, true, false, not, ◌&&◌, ◌||◌, ◌==◌, List, [], ◌∷◌, ◌++◌, Option, Some, None, IfSome, All, is_none, is_some, length, filter, option_map, bytes_eq, refl, sym, ◌∙◌, ap, subst, arith, if◌then◌else◌, cond}
-use Rattle.std.proofs.lemmas.Bool.{and_parts, not-true, false_from_ne_true}
+use Rattle.std.proofs.Common.{◌≡◌, ℕ, ℤ, ◌<◌, ◌+◌, Bool, true, false, not, ◌&&◌, ◌==◌, List, [], ◌∷◌, ◌++◌, Option, Some, None, IfSome, All, is_some, filter, option_map, bytes_eq, refl, sym, ◌∙◌, ap, subst, arith, if◌then◌else◌, cond}
 use Rattle.std.proofs.lemmas.Bool.Decides.{nat_tests}
-use Rattle.std.proofs.lemmas.List.Elements.{All-nil, All-cons, All-head, All-tail, All-push, All-weaker, All-filter}
-use Rattle.londiste_state.specs.Nodes.{Node, of_root, of_leaf}
+use Rattle.std.proofs.lemmas.List.Elements.{All-nil, All-head, All-tail, All-push, All-weaker, All-filter}
 use Rattle.sky_names.specs.Places.{named}
 use Rattle.sky_names.proofs.PlaceLemmas.{bytes_eq_refl}
-use Rattle.sky_urlenc.specs.RowEvents.{Trigger}
-use Rattle.sky_model.specs.History.{Mark, NodeMark, ended, tabled, table_made, wrote, of_session, of_copy, queued, made, dropped, put, raised, traced, untraced, noded, root_made, listed, unlisted, leaf_made, leaf_added, leaf_removed, History}
-use Rattle.sky_model.specs.Nodes.{after_node, node, is_root, is_leaf, set_tables}
+use Rattle.londiste_state.specs.Nodes.{Node}
+use Rattle.sky_model.specs.History.{Mark, NodeMark, queued, made, put, raised, noded, root_made, listed, unlisted, leaf_made, leaf_added, leaf_removed, History}
+use Rattle.sky_model.specs.Nodes.{after_node, node, is_root, set_tables}
 use Rattle.sky_model.specs.Queues.{NamedQueue, queues_made, queues, queue_number}
 use Rattle.sky_model.specs.Rows.{table_names}
-use Rattle.sky_model.specs.Triggers.{TableTrigger, is_sets, but_sets, triggers, triggers_of}
+use Rattle.sky_model.specs.Triggers.{TableTrigger, is_sets, triggers}
 use Rattle.sky_model.specs.StepNode.{set_trigger}
 use Rattle.sky_model.specs.Settling.{marked}
 use Rattle.sky_model.specs.LawsOfNodes.{is_one_of, triggers_into}
-use Rattle.sky_model.proofs.Legal.{queue_of_set, IsNotSets, NodeFits, Fine, makes, makes_table, drops, traces, untraces, nodes, Legal, start, next, legal-below_mark, fine_mark}
+use Rattle.sky_model.proofs.Legal.{queue_of_set, Fine, makes, makes_table, drops, traces, untraces, nodes, Legal, start, next, legal-below_mark, fine_mark}
 use Rattle.sky_model.proofs.Inserted.{none, with_raised, with_put}
 use Rattle.sky_model.proofs.NodeReadings.{IsSameNode, same-node, same-tables, set-other}
 use Rattle.sky_model.proofs.SetQueues.{set-made, set-dropped}

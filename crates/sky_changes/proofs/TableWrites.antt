@@ -1,17 +1,16 @@
 -- The writes of a table in a history, and the rows that those of some transactions leave.
-use Rattle.std.proofs.Common.{◌≡◌, ◌⊎◌, inl, inr, ℕ, List, [], ◌∷◌, ◌++◌, Bool, true, false, Option, Some, None, is_some, refl, sym, ◌∙◌, ap, subst, arith, ◌||◌, ◌&&◌, not, ◌==◌, if◌then◌else◌}
+use Rattle.std.proofs.Common.{◌≡◌, inl, inr, ℕ, List, [], ◌∷◌, Bool, true, false, Option, Some, None, is_some, refl, sym, ◌∙◌, ap, arith, ◌||◌, not, ◌==◌, if◌then◌else◌}
 use Rattle.std.specs.Option.{option_or}
 use Rattle.std.specs.Ordering.{eq_by_cmp}
 use Rattle.std.proofs.lemmas.Bool.{and_parts, or_parts, eqb-true, not-true, true_from_ne_false, false_from_ne_true}
 use Rattle.std.proofs.lemmas.Bool.Decides.{nat_tests}
 use Rattle.sky_val.specs.declared.val.Val.{Val}
 use Rattle.sky_val.specs.Order.{key_cmp}
-use Rattle.sky_val.specs.Entries.{Entries, at, is_in_order}
+use Rattle.sky_val.specs.Entries.{at}
 use Rattle.sky_val.proofs.EntryLemmas.{same_entries}
 use Rattle.sky_keys.proofs.EntryLemmas.{key_ties-is}
-use Rattle.sky_model.specs.History.{Mark, Whose, ended, tabled, wrote, History}
+use Rattle.sky_model.specs.History.{Whose, ended, tabled, wrote, History}
 use Rattle.sky_model.specs.Transactions.{has_ended, has_committed}
-use Rattle.sky_model.specs.Sessions.{own_txid}
 use Rattle.sky_model.specs.Rows.{table_names, committed, writes as writes_of, has_written, rows, put_all, own_writes}
 use Rattle.sky_model.specs.Nodes.{node, set_tables}
 use Rattle.sky_model.specs.LawsOfNodes.{is_one_of}
@@ -22,8 +21,8 @@ use Rattle.sky_model.proofs.Holders.{IsAlone, alone, has_written-push}
 use Rattle.sky_model.proofs.KeyVersions.{same-writes}
 use Rattle.sky_model.proofs.RowWrites.{over, last_of, at-put_all, last_of-push, has_written-last_of, in_turn-push, in_turn-same, is_in_order-in_turn}
 use Rattle.sky_model.proofs.RowSights.{Since, here, later, legal-since, ended-since, read-at, same-rows}
-use Rattle.sky_model.proofs.Cases.{by_test, by_same}
-use Rattle.sky_changes.proofs.WriteLists.{Written, Set, but, Within, left_by, after, FirstIn, OldIs, at-after, in_order-after, tied}
+use Rattle.sky_model.proofs.Cases.{by_same}
+use Rattle.sky_changes.proofs.WriteLists.{Written, Set, but, Within, left_by, after, FirstIn, OldIs, at-after, in_order-after}
 use Rattle.sky_changes.proofs.Places.{since-below, since-joined, either-since, committed-since, committed-ended, uncommitted-since, committed-then}
 
 -- whether the table of a number is in the set

@@ -1,14 +1,14 @@
 -- The places of ticks, and the events of a table in the order of their ids.
-use Rattle.std.proofs.Common.{◌≡◌, ℕ, ◌+◌, ◌<◌, ◌≤◌, Bool, true, false, not, ◌&&◌, ◌||◌, ◌==◌, nat_lt, List, [], ◌∷◌, ◌++◌, Option, Some, None, All, is_none, is_some, filter, refl, sym, ◌∙◌, ap, subst, arith, if◌then◌else◌, append-nil, append_assoc}
-use Rattle.std.proofs.lemmas.Bool.{and_parts, cond_both}
+use Rattle.std.proofs.Common.{◌≡◌, ℕ, ◌<◌, ◌≤◌, Bool, true, false, ◌&&◌, ◌==◌, nat_lt, List, [], ◌∷◌, ◌++◌, All, is_none, filter, refl, sym, ◌∙◌, ap, subst, arith, if◌then◌else◌, append-nil, append_assoc}
+use Rattle.std.proofs.lemmas.Bool.{cond_both}
 use Rattle.std.proofs.lemmas.Bool.Decides.{nat_tests}
-use Rattle.std.proofs.lemmas.List.Elements.{All-nil, All-cons, All-head, All-tail, All-weaker, All-push, All-filter, filter-append}
+use Rattle.std.proofs.lemmas.List.Elements.{All-nil, All-head, All-tail, All-weaker, All-push, All-filter, filter-append}
 use Rattle.sky_val.specs.declared.event.Event.{Event}
 use Rattle.pgq_tables.specs.ById.{with_event, by_id_onto, by_id}
-use Rattle.sky_model.specs.History.{Mark, queued, made, ticked, put, History}
-use Rattle.sky_model.specs.Queues.{queues_made, queues, events, ticks, tick, newest_tick, id_of, at_tick}
+use Rattle.sky_model.specs.History.{queued, made, ticked, History}
+use Rattle.sky_model.specs.Queues.{queues_made, events, at_tick}
 use Rattle.sky_model.specs.Retries.{brought_by}
-use Rattle.sky_model.proofs.Legal.{makes, ticks_next, puts, puts_back, Legal, start, next, legal-below_mark}
+use Rattle.sky_model.proofs.Legal.{makes, ticks_next, puts, puts_back, Legal, start, next}
 use Rattle.sky_model.proofs.RetryCopies.{owned}
 use Rattle.sky_model.proofs.TickOrder.{is_made, is_made-tick, unmade_above, unmade_beyond}
 use Rattle.sky_model.proofs.SnapshotLaws.{legal_place}

@@ -1,8 +1,7 @@
 -- The events that record a write: which of them are a table's in a queue, and what they say.
 use Rattle.std.proofs.Common.{◌≡◌, ℕ, ℤ, Bool, true, false, not, ◌&&◌, ◌==◌, nat_lt, List, [], ◌∷◌, ◌++◌, Option, Some, None, Ok, Err, IfSome, is_none, is_some, length, filter, map, bytes_eq, refl, sym, ◌∙◌, ap, subst, if◌then◌else◌, append_assoc, append-nil, arith}
-use Rattle.std.specs.Prelude.{option_map}
 use Rattle.std.specs.List.{list_all, list_any}
-use Rattle.std.specs.Option.{option_or, option_and_then}
+use Rattle.std.specs.Option.{option_and_then}
 use Rattle.std.specs.Result.{result_ok}
 use Rattle.std.proofs.lemmas.List.Elements.{filter-append}
 use Rattle.sky_val.specs.declared.val.Val.{Val}
@@ -11,8 +10,7 @@ use Rattle.sky_val.specs.declared.event.Event.{Event}
 use Rattle.sky_val.specs.declared.op.Op.{Op}
 use Rattle.sky_val.specs.declared.op.Op.TheVariants.{Insert, Update, Delete}
 use Rattle.sky_val.specs.Entries.{Entries, at}
-use Rattle.sky_val.specs.Schemas.{row_fault, key_of}
-use Rattle.sky_urlenc.specs.Held.{HoldsAll}
+use Rattle.sky_val.specs.Schemas.{key_of}
 use Rattle.sky_urlenc.specs.EventType.{event_type}
 use Rattle.sky_urlenc.specs.RowText.{row_text}
 use Rattle.sky_urlenc.specs.RowEvents.{Trigger, Write, op_of, changed_columns, leaves_out, RowEvent, event_of, events_of}

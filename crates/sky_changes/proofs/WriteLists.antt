@@ -1,5 +1,5 @@
 -- Writes of a table, the newest first: what those of some transactions leave.
-use Rattle.std.proofs.Common.{◌≡◌, ℕ, Bool, true, false, not, ◌&&◌, List, [], ◌∷◌, Option, Some, None, is_some, refl, sym, ◌∙◌, ap, subst, arith, if◌then◌else◌, ◌⊎◌, inl, inr}
+use Rattle.std.proofs.Common.{◌≡◌, ℕ, Bool, true, not, ◌&&◌, List, [], ◌∷◌, Option, Some, None, refl, sym, ◌∙◌, ap, arith, if◌then◌else◌, ◌⊎◌, inl, inr}
 use Rattle.std.specs.Ordering.{is_eq, eq_by_cmp}
 use Rattle.std.specs.Cmp.{tied_itself}
 use Rattle.std.proofs.lemmas.Bool.{and_parts, not-true}
@@ -9,7 +9,7 @@ use Rattle.sky_val.specs.Entries.{Entries, at, is_in_order}
 use Rattle.sky_val.proofs.Orders.{key_cmp-IsTotalOrder}
 use Rattle.sky_val.proofs.EntryLemmas.{same_entries}
 use Rattle.sky_keys.proofs.EntryLemmas.{key_ties-is}
-use Rattle.sky_model.specs.Rows.{Write, put, put_all}
+use Rattle.sky_model.specs.Rows.{put}
 use Rattle.sky_model.proofs.RowWrites.{over, at-put_all, is_in_order-put_all}
 use Rattle.sky_model.proofs.Cases.{by_test}
 
