@@ -12,6 +12,7 @@ pub mod ListedTables
 pub mod ToldEvents
 pub mod CutTells
 pub mod Replays
+pub mod StayingListed
 pub mod TickPlaces
 pub mod BatchLaws
 mod WorkedChanges

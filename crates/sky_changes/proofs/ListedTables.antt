@@ -149,7 +149,7 @@ all-ended n h l unused = of (written n h) (have-wrote n h)
     of [] all = tt
     of (w ∷ ws) all = (λ _. true_from_ne_false (has_ended h w.by) (λ runs. unended w.by runs all.0), of ws all.1)
 
-fits-of : {h : History} {m : NodeMark} → Fine h (noded m) → NodeFits h m
+pub fits-of : {h : History} {m : NodeMark} → Fine h (noded m) → NodeFits h m
 fits-of (nodes m fits) = fits
 
 pub others-ended : (n : ℕ) (h : History) → Legal h → is_listed n h ≡ true → OthersEnded h (written n h)

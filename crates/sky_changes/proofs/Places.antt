@@ -1,5 +1,5 @@
 -- Places of a history, of which one is above another.
-use Rattle.std.proofs.Common.{◌≡◌, ℕ, ◌⊎◌, inl, inr, List, [], ◌∷◌, ◌++◌, true, false, refl, sym, ◌∙◌, ap, subst, arith, ◌==◌, not}
+use Rattle.std.proofs.Common.{length, ◌≤◌, ◌≡◌, ℕ, ◌⊎◌, inl, inr, List, [], ◌∷◌, ◌++◌, true, false, refl, sym, ◌∙◌, ap, subst, arith, ◌==◌, not}
 use Rattle.std.proofs.lemmas.Bool.{or_right, and_parts, false_from_ne_true}
 use Rattle.sky_model.specs.History.{Mark, ended, History}
 use Rattle.sky_model.specs.Transactions.{has_ended, has_committed, has_rolled_back}
@@ -26,6 +26,21 @@ either-since (later s) (later t) = either-since s t
 pub since-or : (p : History) (mark : Mark) (h : History) → Since p (mark ∷ h) → (p ≡ mark ∷ h) ⊎ Since p h
 since-or _ mark h here = inl refl
 since-or p mark h (later s) = inr s
+
+-- the higher one is the longer one
+pub length-since : {p q : History} → Since p q → length p ≤ length q
+length-since here = omega arith
+length-since (later s) = omega (arith, length-since s)
+
+-- one that is below another that isn't longer is the same
+pub same-length : {p q : History} → Since p q → length q ≤ length p → p ≡ q
+same-length here le = refl
+same-length (later s) le = absurd (omega (arith, length-since s, le))
+
+-- two that are each below the other are one
+pub one-place : {p q : History} → Since p q → Since q p → p ≡ q
+one-place here back = refl
+one-place (later s) back = absurd (omega (arith, length-since s, length-since back))
 
 -- marks on top of a place
 pub on-top : (marks : List Mark) (p : History) → Since p (marks ++ p)

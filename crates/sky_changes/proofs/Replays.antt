@@ -207,7 +207,7 @@ module _ (n : ℕ) (name : List ℕ) (q : ℕ) (p r top : History) (low : Since 
       before = rows-left n (since-joined low high) l
 
 -- a database whose set has a queue is a root's
-root-of : (h : History) (q : ℕ) → queue_at h ≡ Some q → is_root (node h) ≡ true
+pub root-of : (h : History) (q : ℕ) → queue_at h ≡ Some q → is_root (node h) ≡ true
 root-of h q is = of (node h) is
   where
     of : (m : Option Node) → queue_of_set (queues h) m ≡ Some q → is_root m ≡ true

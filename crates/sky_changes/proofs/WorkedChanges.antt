@@ -2,8 +2,6 @@
 use Rattle.std.proofs.Common.{◌≡◌, ℕ, pos, true, false, List, [], ◌∷◌, Some, None, refl, codes}
 use Rattle.std.specs.Fmt.{digits}
 use Rattle.std.specs.Str.{is_utf8, chars}
-use Rattle.form_urlencoded.specs.Form.{byte_serialize}
-use Rattle.percent_encoding.specs.Percent.{percent_decode}
 use lib.Utf8.{encode}
 use Rattle.sky_val.specs.declared.val.Val.{Val}
 use Rattle.sky_val.specs.declared.val.Val.TheVariants as value
@@ -25,6 +23,8 @@ use Rattle.sky_model.specs.Promises.{after_all}
 use Rattle.sky_model.specs.DatabaseCalls.{DatabaseCall, stepped, served, database_part}
 use Rattle.sky_model.specs.StepNode.{listing}
 use Rattle.sky_changes.specs.TableEvents.{table_events, unseen_events}
+use Rattle.form_urlencoded.specs.Form.{byte_serialize}
+use Rattle.percent_encoding.specs.Percent.{percent_decode}
 
 abbrev does : ℕ → RowStmt → DatabaseCall
 does who stmt = stepped who (Row stmt) (pos 0)

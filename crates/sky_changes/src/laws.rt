@@ -1,6 +1,12 @@
 //! The laws on changes of replicated tables: functions that do nothing, so that their contracts are proved.
 
-ghost use Rattle.sky_changes.specs.LawsOfChanges.{BatchesGiveRows, EventsGiveRows, TicksAreInOrder, UnseenEventsGiveRows};
+ghost use Rattle.sky_changes.specs.LawsOfChanges.{BatchesGiveRows, EventsGiveRows, TablesStayInSets, TicksAreInOrder, UnseenEventsGiveRows, UnseenEventsLeadOn};
+
+/// A table that is in the set of a root is in it at each later place of a history that calls of a database make, until a
+/// mark takes it out.
+pub fn tables_stay_in_sets()
+    ensures { TablesStayInSets }
+{}
 
 /// Of two places of a history that calls of a database make, let a table be in a set at each place from the one to the
 /// other. Then its events between them, those of transactions that had committed at the later place and hadn't at the
@@ -18,7 +24,9 @@ pub fn batches_give_rows()
 {}
 
 /// The same holds from any place between the two ticks, as that of the snapshot under which the table was copied, if the
-/// events of transactions that this snapshot sees are left out.
+/// events of transactions that this snapshot sees are left out. So while a copy catches up, each batch leads from the later
+/// of that place and the opening tick to the later of it and the closing one.
 pub fn unseen_events_give_rows()
-    ensures { UnseenEventsGiveRows }
+    ensures gives { UnseenEventsGiveRows }
+    ensures leads { UnseenEventsLeadOn }
 {}
