@@ -39,7 +39,7 @@ use Rattle.sky_model.specs.StepQueue.{next_tick, next_event_id, tells_of_rows, m
 use Rattle.sky_model.specs.StepRetry.{back, brings, most_back, maint_retry_events}
 use Rattle.sky_model.specs.Rows.{table_names}
 use Rattle.sky_model.specs.Triggers.{triggers, triggers_of}
-use Rattle.sky_model.specs.Copies.{copies as copies_in, copy_txid, Hold, holds}
+use Rattle.sky_model.specs.Copies.{copies, copy_txid, Hold, holds}
 use Rattle.sky_model.specs.StepCopy.{given_up}
 use Rattle.sky_model.specs.StepNode.{create_root, set_queue, set_trigger, lists as lists_table, NodeCall, making_leaf, adding, removing, moving, listing, unlisting, beginning_copy, copying_rows, ending_copy, giving_up_copy, holding, letting_go, if_there, may_copy, may_serve, call_form, node_does}
 use Rattle.sky_model.specs.Promises.{after_all}
@@ -70,7 +70,7 @@ use Rattle.sky_changes.proofs.HeldValues.{AreHeld, HeldAttempt}
 use Rattle.sky_changes.proofs.HeldRows.{shown-held}
 use Rattle.sky_changes.proofs.RowMarks.{Each, Plain, RowMark, Leaves, row-attempts, row-leaves}
 use Rattle.sky_changes.proofs.PlainForms.{PlainLeaves, plain-tick, plain-alone, plain-ends_switches, plain-form}
-use Rattle.sky_changes.proofs.Cuts.{write_of, Tracing, Cut, nothing, plain, writes, copies, inserts, returns, lists, unlists, roots, Events, node-events, told-only, cut-held}
+use Rattle.sky_changes.proofs.Cuts.{write_of, Tracing, Cut, nothing, plain, writes, leaf_writes, inserts, returns, lists, unlists, roots, Events, node-events, told-only, cut-held}
 
 pub cut-plain : (h : History) (marks : List Mark) → Each Plain marks → Cut h → Cut (marked h marks)
 cut-plain h [] all cut = cut
@@ -305,7 +305,7 @@ attempt-held _ (writes {h = h} w t table key old new time events cut told some h
     attempt-events g _ none who = refl
     attempt-events g _ (with_raised {ys = ys} queue value more) who = attempt-events (queued (raised queue value) ∷ g) ys more who
     attempt-events g _ (with_put {ys = ys} queue event more) who = attempt-events (queued (put queue event) ∷ g) ys more who
-attempt-held _ (copies {h = h} n t table key old new cut leaf) who = attempt-held h cut who
+attempt-held _ (leaf_writes {h = h} whose t table key old new cut leaf) who = attempt-held h cut who
 attempt-held _ (inserts {h = h} q value e cut is) who = attempt-held h cut who
 attempt-held _ (returns {h = h} retry t moment cut) who = attempt-held h cut who
 attempt-held _ (lists {h = h} name table q cut traces) who = attempt-held h cut who
@@ -407,7 +407,7 @@ copies-cut h [] all leaf cut = cut
 copies-cut h (began (of_copy table) t ∷ marks) all leaf cut = copies-cut (began (of_copy table) t ∷ h) marks all leaf (plain (began (of_copy table) t) cut tt)
 copies-cut h (ended (of_copy table) t committed ∷ marks) all leaf cut = copies-cut (ended (of_copy table) t committed ∷ h) marks all leaf (plain (ended (of_copy table) t committed) cut tt)
 copies-cut h (tabled (wrote (of_copy n) t table key old new) ∷ marks) all leaf cut =
-    copies-cut (tabled (wrote (of_copy n) t table key old new) ∷ h) marks all leaf (copies n t table key old new cut leaf)
+    copies-cut (tabled (wrote (of_copy n) t table key old new) ∷ h) marks all leaf (leaf_writes (of_copy n) t table key old new cut leaf)
 copies-cut h (noded (copied table snapshot tick) ∷ marks) all leaf cut =
     copies-cut (noded (copied table snapshot tick) ∷ h) marks all ((same-node (copied table snapshot tick) refl (node h)).leaf ∙ leaf) (plain (noded (copied table snapshot tick)) cut tt)
 copies-cut h (noded (restarted table) ∷ marks) all leaf cut = copies-cut (noded (restarted table) ∷ h) marks all leaf (plain (noded (restarted table)) cut tt)
@@ -459,7 +459,7 @@ call-cut h cut (adding name) may = there-cut h cut (place_of name (table_names h
     of : (table : ℕ) (busy : Option ℕ) → CutIf h (refused_by (option_map TableBusy busy) >> does_marks Done (noded (leaf_added name) ∷ tabled (read_only table true) ∷ []))
     of table (Some t) = λ _. cut
     of table None = λ _. plain (tabled (read_only table true)) (plain (noded (leaf_added name)) cut tt) tt
-call-cut h cut (removing name) may = there-cut h cut (place_of name (table_names h)) _ (λ table. of table (copy_txid table (copies_in h)))
+call-cut h cut (removing name) may = there-cut h cut (place_of name (table_names h)) _ (λ table. of table (copy_txid table (copies h)))
   where
     of : (table : ℕ) (o : Option ℕ) → CutIf h (does_marks Done (given_up table name o ++ noded (leaf_removed name) ∷ tabled (read_only table false) ∷ []))
     of table None = λ _. cut-plain h (noded (leaf_removed name) ∷ tabled (read_only table false) ∷ []) (tt, (tt, tt)) cut

@@ -42,7 +42,7 @@ use Rattle.sky_changes.proofs.HeldRows.{standing-held}
 use Rattle.sky_changes.proofs.RowMarks.{IsTableOf, Plain}
 use Rattle.sky_changes.proofs.WriteLists.{Written}
 use Rattle.sky_changes.proofs.TableWrites.{is_listed, written, row-met}
-use Rattle.sky_changes.proofs.Cuts.{write_of, Cut, nothing, plain, writes, copies, inserts, returns, lists, unlists, roots, Events, node-events, told-only, cut-held}
+use Rattle.sky_changes.proofs.Cuts.{write_of, Cut, nothing, plain, writes, leaf_writes, inserts, returns, lists, unlists, roots, Events, node-events, told-only, cut-held}
 use Rattle.sky_changes.proofs.SetTriggers.{queue_at, keeps-set, root-before, legal-events, queue-events, fresh-name, new-number, is_into, into-set}
 use Rattle.sky_changes.proofs.ListedTables.{none-listed, bare-below}
 use Rattle.sky_changes.proofs.ToldEvents.{is_event, Adds, no_more, one_more, hits, AddsTo, told-adds, Says, says-set, Tells, none_told, untold, told, ignores-none}
@@ -105,7 +105,7 @@ cut-columns n _ (writes {h = h} who t table key old new time marks cut said some
     let only : Events marks = told-only h time (write_of who t table key old new) marks said in
     subst IsTableOf (sym (columns-events n (write_of who t table key old new ∷ h) marks only))
     (cut-columns n h cut (subst (λ names. n < length names) (names-events (write_of who t table key old new ∷ h) marks only) within))
-cut-columns n _ (copies {h = h} m t table key old new cut leaf) within = cut-columns n h cut within
+cut-columns n _ (leaf_writes {h = h} whose t table key old new cut leaf) within = cut-columns n h cut within
 cut-columns n _ (inserts {h = h} q value e cut is) within = cut-columns n h cut within
 cut-columns n _ (returns {h = h} retry t moment cut) within = cut-columns n h cut within
 cut-columns n _ (lists {h = h} name table q cut after) within = cut-columns n h cut within
@@ -332,7 +332,7 @@ module _ (n : ℕ) (name : List ℕ) (columns : List Column) (q : ℕ) where
       let set_then : queue_at h ≡ Some q = sym (queue-events (write ∷ h) marks only) ∙ set in
       let b : AtTable n name columns h = table-below n name columns write h (table-events n name columns (write ∷ h) marks only a) in
       told-write h cut below was set_then b who t m key old new time marks said some held (fine_mark lw) (cut-tells h cut below was set_then b)
-  cut-tells _ (copies {h = h} m t table key old new cut leaf) l root set a = absurd (cc (sym (a-root (node h) root) ∙ leaf))
+  cut-tells _ (leaf_writes {h = h} whose t table key old new cut leaf) l root set a = absurd (cc (sym (a-root (node h) root) ∙ leaf))
   cut-tells _ (inserts {h = h} p value e cut is) l root set a =
       subst (λ es. Tells columns es (written n h))
       (sym (by_same (λ b. table_events name (if b then events q h ++ e ∷ [] else events q h) ≡ table_events name (events q h)) p q

@@ -3,7 +3,7 @@ use Rattle.std.proofs.Common.{◌≡◌, ℕ, ℤ, List, [], ◌∷◌, true, fa
 use Rattle.sky_val.specs.declared.val.Val.{Val}
 use Rattle.sky_val.specs.declared.event.Event.{Event}
 use Rattle.pgq_retry.specs.declared.retry.Retry.{Retry}
-use Rattle.sky_model.specs.History.{Mark, of_session, of_copy, tabled, wrote, queued, made, raised, put, returned, traced, untraced, noded, root_made, listed, unlisted, leaf_made, History}
+use Rattle.sky_model.specs.History.{Whose, Mark, of_session, tabled, wrote, queued, made, raised, put, returned, traced, untraced, noded, root_made, listed, unlisted, leaf_made, History}
 use Rattle.sky_model.specs.Nodes.{node, is_leaf, set_tables}
 use Rattle.sky_model.specs.Queues.{queues}
 use Rattle.sky_model.specs.State.{Database, database_of}
@@ -31,18 +31,26 @@ write_of who t table key old new = tabled (wrote (of_session who) t table key ol
 abbrev pub Tracing : History → Type 0
 Tracing h = (n : ℕ) → filter (is_sets n) (triggers h) ≡ (if is_one_of (table_names h) (set_tables (node h)) n then triggers_into n (queue_of_set (queues h) (node h)) else [])
 
+-- a history is cut into pieces
 pub data Cut : History → Type 0 where
   nothing : Cut []
+  -- a plain mark
   plain : {h : History} (mark : Mark) → Cut h → Plain mark → Cut (mark ∷ h)
+  -- a session's write, with the events that record it
   writes : {h : History} (who t table : ℕ) (key : List Val) (old new : Option (List Val)) (time : ℤ) (events : List Mark) → Cut h
       → told_of (database_of (write_of who t table key old new ∷ h)) time (write_of who t table key old new) ≡ Ok events
       → (old ≡ None → is_some new ≡ true) → (is_leaf (node h) ≡ false → IfSome new AreHeld) → Cut (marked (write_of who t table key old new ∷ h) events)
-  copies : {h : History} (n t table : ℕ) (key : List Val) (old new : Option (List Val)) → Cut h → is_leaf (node h) ≡ true → Cut (tabled (wrote (of_copy n) t table key old new) ∷ h)
+  -- a write that nothing records, in a leaf's database
+  leaf_writes : {h : History} (whose : Whose) (t table : ℕ) (key : List Val) (old new : Option (List Val)) → Cut h → is_leaf (node h) ≡ true → Cut (tabled (wrote whose t table key old new) ∷ h)
+  -- an event that a session stores, whose type isn't reserved if the queue is the set's
   inserts : {h : History} (q value : ℕ) (e : Event) → Cut h → (queue_of_set (queues h) (node h) ≡ Some q → tells_of_rows e.ev_type ≡ false) → Cut (queued (put q e) ∷ queued (raised q value) ∷ h)
+  -- a retry that comes back
   returns : {h : History} (retry : Retry) (t : ℕ) (moment : ℤ) → Cut h → Cut (queued (returned retry moment) ∷ queued (put retry.queue (brought_by t retry.event)) ∷ h)
+  -- a table that joins a set; one that leaves it
   lists : {h : History} (name : List ℕ) (table q : ℕ) → Cut h → Tracing (queued (traced table None (set_trigger q)) ∷ noded (listed name) ∷ h)
       → Cut (queued (traced table None (set_trigger q)) ∷ noded (listed name) ∷ h)
   unlists : {h : History} (name : List ℕ) (table : ℕ) → Cut h → Tracing (queued (untraced table) ∷ noded (unlisted name) ∷ h) → Cut (queued (untraced table) ∷ noded (unlisted name) ∷ h)
+  -- a root, with the queue of its set
   roots : {h : History} (name queue : List ℕ) (t : ℕ) (time : ℤ) → Cut h → node h ≡ None → Cut (noded (root_made name queue) ∷ queued (made queue t time) ∷ h)
 
 -- ---- events that record a write leave all but the queues
@@ -89,7 +97,7 @@ cut-held _ (writes {h = h} who t table key old new time events cut told some hel
     let only : Events events = told-only h time (write_of who t table key old new) events told in
     let was : is_leaf (node h) ≡ false = ap is_leaf (sym (node-events (write_of who t table key old new ∷ h) events only)) ∙ free in
     held-events (write_of who t table key old new ∷ h) events only (held was, cut-held h cut was)
-cut-held _ (copies n t table key old new cut leaf) free = absurd (cc (sym leaf ∙ free))
+cut-held _ (leaf_writes whose t table key old new cut leaf) free = absurd (cc (sym leaf ∙ free))
 cut-held _ (inserts {h = h} q value e cut is) free = cut-held h cut free
 cut-held _ (returns {h = h} retry t moment cut) free = cut-held h cut free
 cut-held _ (lists {h = h} name table q cut traces) free = cut-held h cut (sym (same-node (listed name) refl (node h)).leaf ∙ free)

@@ -24,7 +24,7 @@ use Rattle.sky_model.proofs.Cases.{by_test}
 use Rattle.sky_model.proofs.Good.{same-session}
 use Rattle.sky_changes.proofs.RowMarks.{Plain}
 use Rattle.sky_changes.proofs.TableWrites.{is_listed}
-use Rattle.sky_changes.proofs.Cuts.{write_of, Tracing, Cut, nothing, plain, writes, copies, inserts, returns, lists, unlists, roots, Events, node-events, told-only}
+use Rattle.sky_changes.proofs.Cuts.{write_of, Tracing, Cut, nothing, plain, writes, leaf_writes, inserts, returns, lists, unlists, roots, Events, node-events, told-only}
 
 -- ---- the queue of the set
 
@@ -141,7 +141,7 @@ cut-tracing _ (plain {h = h} mark cut is) l = tracing-plain h (legal-below_mark 
 cut-tracing _ (writes {h = h} who t table key old new time events cut told some held) l =
     let only : Events events = told-only h time (write_of who t table key old new) events told in
     tracing-events (write_of who t table key old new ∷ h) events only (cut-tracing h cut (legal-below_mark (legal-events (write_of who t table key old new ∷ h) events only l)))
-cut-tracing _ (copies {h = h} n t table key old new cut leaf) l = cut-tracing h cut (legal-below_mark l)
+cut-tracing _ (leaf_writes {h = h} whose t table key old new cut leaf) l = cut-tracing h cut (legal-below_mark l)
 cut-tracing _ (inserts {h = h} q value e cut is) l = cut-tracing h cut (legal-below_mark (legal-below_mark l))
 cut-tracing _ (returns {h = h} retry t moment cut) l = cut-tracing h cut (legal-below_mark (legal-below_mark l))
 cut-tracing _ (lists name table q cut after) l = after
@@ -196,7 +196,7 @@ named-elsewhere q _ (writes {h = h} who t table key old new time events cut told
     let write : Mark = write_of who t table key old new in
     subst (All (NamedElsewhere q)) (sym (triggers-events (write ∷ h) events only))
     (named-elsewhere q h cut (legal-below_mark (legal-events (write ∷ h) events only l)) (ap is_root (sym (node-events (write ∷ h) events only)) ∙ root) (sym (queue-events (write ∷ h) events only) ∙ set))
-named-elsewhere q _ (copies {h = h} n t table key old new cut leaf) l root set = named-elsewhere q h cut (legal-below_mark l) root set
+named-elsewhere q _ (leaf_writes {h = h} whose t table key old new cut leaf) l root set = named-elsewhere q h cut (legal-below_mark l) root set
 named-elsewhere q _ (inserts {h = h} p value e cut is) l root set = named-elsewhere q h cut (legal-below_mark (legal-below_mark l)) root set
 named-elsewhere q _ (returns {h = h} retry t moment cut) l root set = named-elsewhere q h cut (legal-below_mark (legal-below_mark l)) root set
 named-elsewhere q _ (lists {h = h} name table p cut after) l root set =
