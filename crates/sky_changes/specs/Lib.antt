@@ -1,0 +1,3 @@
+pub mod TableEvents
+pub mod Listing
+pub mod LawsOfChanges

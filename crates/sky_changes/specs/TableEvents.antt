@@ -1,0 +1,23 @@
+-- Which of the events of a set's queue are a table's, and which of those aren't in a copy of it yet.
+use Rattle.std.specs.Prelude.{ℕ, Bool, false, not, ◌&&◌, List, Option, Some, None, is_none, is_some, bytes_eq, filter}
+use Rattle.std.specs.Option.{option_and_then}
+use Rattle.sky_val.specs.declared.event.Event.{Event}
+use Rattle.sky_txid.specs.Snapshot.{SnapshotView, sees}
+use Rattle.sky_urlenc.specs.Changes.{op_of}
+
+-- whether a text is a name
+abbrev pub is_name : List ℕ → Option (List ℕ) → Bool
+is_name name None = false
+is_name name (Some text) = bytes_eq name text
+
+-- whether an event says what was done to a row of the table of a name
+abbrev pub is_of_table : List ℕ → Event → Bool
+is_of_table name e = is_some (option_and_then op_of e.ev_type) && is_name name e.ev_extra1
+
+-- the events of a table: those that aren't for one subscription alone
+abbrev pub table_events : List ℕ → List Event → List Event
+table_events name events = filter (λ e. is_none e.ev_owner && is_of_table name e) events
+
+-- events without those of transactions that a snapshot sees
+abbrev pub unseen_events : SnapshotView → List Event → List Event
+unseen_events snapshot events = filter (λ e. not (sees snapshot e.ev_txid)) events
