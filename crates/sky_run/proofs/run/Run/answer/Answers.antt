@@ -9,7 +9,8 @@ pub returns-in-Ok-clause-answers : goal.returns-in-Ok-clause-answers
 returns-in-Ok-clause-answers c =
     let says = said_in-utf8 c.in-Some.line.now c.in-Ok.ensures.utf8 in
     let line_says = rw c.in-Some.ensures at says in
-    rw line_says c.in-Ok.ensures.answers
+    let answers = rw c.in-Some.ensures at c.in-Ok.ensures.answers in
+    rw line_says answers
 
 pub returns-in-Err-clause-bad : goal.returns-in-Err-clause-bad
 returns-in-Err-clause-bad c =
