@@ -27,6 +27,11 @@ const TURNS: u32 = 12;
 
 fn main(rt: HostRuntime) -> anyhow::Result<()> {
     let mut post = Post::new(rt.alloc());
+    deliver(&rt, &mut post)
+}
+
+// Puts the letters into the queue, and sends those of each batch.
+fn deliver(rt: &(impl Print + AllocGlobal), post: &mut Post) -> anyhow::Result<()> {
     for line in LINES {
         post.run(line)?;
     }
@@ -34,7 +39,7 @@ fn main(rt: HostRuntime) -> anyhow::Result<()> {
         post.run("w: clock +10s")?;
         if let Some(batch) = post.next_batch()? {
             println!(rt; "batch {batch}")?;
-            post.send(&rt, batch)?;
+            post.send(rt, batch)?;
         }
     }
     Ok(())
