@@ -7,6 +7,7 @@
 mod post;
 
 use post::Post;
+use std::mem;
 
 /// What is done before the worker begins.
 const LINES: [&str; 10] = [
@@ -27,7 +28,10 @@ const TURNS: u32 = 12;
 
 fn main(rt: HostRuntime) -> anyhow::Result<()> {
     let mut post = Post::new(rt.alloc());
-    deliver(&rt, &mut post)
+    let delivered = deliver(&rt, &mut post);
+    // The program ends after this, and then all memory is freed at once.
+    mem::forget(post);
+    delivered
 }
 
 // Puts the letters into the queue, and sends those of each batch.
