@@ -1,5 +1,6 @@
 pub mod Words
 pub mod Kinds
+pub mod KeptSets
 pub mod Grammar
 pub mod InForm
 pub mod LawsOfLines

@@ -1,9 +1,10 @@
-ghost use Rattle.std.specs.Prelude.{◌≡◌, IfOk};
+ghost use Rattle.std.specs.Prelude.{◌≡◌, [], ◌∷◌, IfOk};
 
 use crate::items::Items;
 use sky_val::{Column, Key, NoMemory, Row, Text, Val};
 use std::alloc::Global;
 use std::marker::Model;
+use std::slice;
 
 /// The four further texts of an event.
 #[derive(Debug, Drop)]
@@ -108,19 +109,77 @@ impl Set {
     }
 }
 
-/// The changes of an update, in order.
-pub type Sets = Items<Set>;
+/// Equal changes.
+fn copy_sets(alloc: Global, sets: &[Set]) -> Result<Vec<Set>, NoMemory>
+    ensures { IfOk result (λ copies. copies.items ≡ sets.now) }
+{
+    let mut copies = Vec::with_capacity(alloc, sets.len())?;
+    for set in sets {
+        copies.push(set.copy(alloc)?)?;
+    }
+    Ok(copies)
+}
 
-impl Items<Set> {
+/// The changes of an update: most updates have one, which is kept in place and takes no memory of its own.
+#[derive(Debug, Drop)]
+enum SetValues {
+    One(Set),
+    Listed(Vec<Set>),
+}
+
+/// The changes of an update, in order.
+#[derive(Debug, Drop)]
+pub struct Sets {
+    sets: SetValues,
+}
+
+impl Model for Sets {
+    ghost use Rattle.std.specs.Prelude.{List};
+    ghost use Rattle.sky_model.specs.declared.stmt.Set.{Set};
+    ghost use Rattle.sky_model.specs.KeptSets.{set_values};
+
+    ghost Value = { List Set };
+
+    ghost view = { λ s. set_values s.sets };
+}
+
+impl Sets {
+    /// One change. It takes no memory.
+    pub fn one(set: Set) -> Sets
+        ensures { result ≡ set ∷ [] }
+    {
+        Sets {
+            sets: SetValues::One(set),
+        }
+    }
+
+    /// The changes of a list. It takes no memory.
+    pub fn new(sets: Vec<Set>) -> Sets
+        ensures { result ≡ sets.items }
+    {
+        Sets {
+            sets: SetValues::Listed(sets),
+        }
+    }
+
+    /// All of them, in their order.
+    pub fn as_slice(&self) -> &[Set]
+        ensures { result.now ≡ self.now }
+    {
+        match &self.sets {
+            SetValues::One(set) => slice::from_ref(set),
+            SetValues::Listed(sets) => sets.as_slice(),
+        }
+    }
+
     /// Equal changes.
     pub fn copy(&self, alloc: Global) -> Result<Sets, NoMemory>
         ensures { IfOk result (λ sets. sets ≡ self.now) }
     {
-        let mut items = Vec::with_capacity(alloc, self.as_slice().len())?;
-        for set in self.as_slice() {
-            items.push(set.copy(alloc)?)?;
+        match &self.sets {
+            SetValues::One(set) => Ok(Sets::one(set.copy(alloc)?)),
+            SetValues::Listed(sets) => Ok(Sets::new(copy_sets(alloc, sets)?)),
         }
-        Ok(Sets::new(items))
     }
 }
 

@@ -88,7 +88,13 @@ pub(crate) fn columns(alloc: Global, words: &mut Words) -> Result<Columns, LineC
 pub(crate) fn sets(alloc: Global, words: &mut Words) -> Result<Sets, LineCause>
     ensures { MatchResult result (λ sets. GoesLast kind.Set sets words.old) (λ cause. StopsLast kind.Set cause words.old) }
 {
+    // Most updates have one change, for which no list is made.
+    let first = words.set(alloc)?;
+    if words.at_end() {
+        return Ok(Sets::one(first));
+    }
     let mut sets = Vec::new(alloc);
+    sets.push(first)?;
     loop {
         sets.push(words.set(alloc)?)?;
         if words.at_end() {

@@ -5,7 +5,7 @@ use Rattle.sky_script.proofs.ListLemmas.{SoFar}
 use Rattle.sky_script.proofs.lists.sets.Given as goal
 
 abbrev pub invariant-loop-sets : goal.invariant-loop-sets
-invariant-loop-sets l = SoFar stop Set l.sets.items l.initial.words l.words
+invariant-loop-sets l = SoFar stop Set l.sets.items l.fn.words l.words
 
 abbrev pub decreases-loop-sets : goal.decreases-loop-sets
 decreases-loop-sets l = length l.words.left
