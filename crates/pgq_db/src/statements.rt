@@ -5,8 +5,8 @@ ghost use Rattle.std.specs.Prelude.{◌≡◌, ◌&&◌, ◌+◌, ◌<◌, find,
 ghost use Rattle.sky_model.specs.declared.stmt.Where.TheVariants.{WhenReading, WhenOutside};
 ghost use Rattle.sky_model.specs.Nodes.{is_set_queue};
 ghost use Rattle.sky_model.specs.Queues.{queue_number};
-ghost use Rattle.sky_model.specs.History.{queued, made};
-ghost use Rattle.sky_model.specs.State.{after_marks};
+ghost use Rattle.sky_model.specs.History.{queued, made, put};
+ghost use Rattle.sky_model.specs.State.{after_mark, after_marks};
 ghost use Rattle.sky_model.specs.Outcome.{reply_of, or_refused};
 ghost use Rattle.sky_model.specs.Printed.{HaveMoments};
 ghost use Rattle.sky_model.specs.OwnTransaction.{txid_for, in_own};
@@ -19,7 +19,7 @@ ghost use Rattle.sky_model.specs.Settling.{ready};
 ghost use Rattle.sky_model.specs.Calls.{form, statement, database_turn};
 ghost use Rattle.sky_model.specs.DatabaseCalls.{stepped};
 ghost use Rattle.sky_model.specs.DatabaseSteps.{DatabaseSteps};
-ghost use Rattle.sky_model.specs.Moment.{IsTime};
+ghost use Rattle.sky_model.specs.Moment.{HasMoment, IsTime};
 ghost use Rattle.pgq_queues.specs.Seen.{Beside, seen_with, Stands};
 ghost use Rattle.pgq_db.specs.Seen.{seen_database};
 ghost use Rattle.pgq_db.specs.Waiters.{StaysWithin};
@@ -30,6 +30,7 @@ ghost use Rattle.sky_model.specs.Stops.{StopsAs};
 use crate::db::Db;
 use crate::node::is_set_queue;
 use pgq_queues::{EVENT_ID_END, Queues, TableTrigger};
+use pgq_tables::PlainEvent;
 use sky_model::{BoxedExtra, ColumnNames, Limit, Refusal, Replies, Reply, Stmt, Stop};
 use sky_urlenc::Trigger;
 use sky_val::{Event, NoMemory, Schema, SessionId, Text, copy_option};
@@ -379,11 +380,38 @@ impl Db {
         }
         let id = seq + 1;
         self.take_txid(who, txid)?;
-        let event = made_event(self.alloc, id, now, txid, ev_type, ev_data, extra)?;
+        let event = plain_event(self.alloc, id, now, txid, ev_type, ev_data)?;
         self.queues.raise(queue, id);
-        self.queues.put(queue, event)?;
+        self.put(queue, event, extra)?;
         replies.push(who, Reply::Number(id))?;
         Ok(())
+    }
+
+    /// Stores an event, with further texts if it has any.
+    // Always inlined, as what makes it is: even a plain event is large, and else moved from call to call.
+    #[inline(always)]
+    fn put(
+        &mut self,
+        queue: usize,
+        event: PlainEvent,
+        extra: &Option<BoxedExtra>,
+    ) -> Result<(), NoMemory>
+        requires queue { Stands self.old.queues.queues queue }
+        requires time { HasMoment event.ev_time }
+        ensures mark { OnOk result (seen_database self.new ≡ after_mark (seen_database self.old)
+            (queued (put queue (made_event event.ev_id event.ev_time event.ev_txid event.ev_type event.ev_data extra.now)))) }
+    {
+        match extra {
+            None => {
+                self.queues.put_plain(queue, event)?;
+                Ok(())
+            }
+            Some(extra) => {
+                let event = with_extra(self.alloc, event, extra)?;
+                self.queues.put(queue, event)?;
+                Ok(())
+            }
+        }
     }
 
     /// Whether events of a type are a set's in a queue of this name.
@@ -586,52 +614,47 @@ fn begins_with(byte: u8, text: &[u8]) -> bool
     text.starts_with(&[byte, b':'])
 }
 
-/// An event without an owner.
-// Always inlined, as what stores it is: an event is large, and else moved from call to call.
+/// An event with these texts and no others.
 #[inline(always)]
-fn made_event(
+fn plain_event(
     alloc: Global,
     id: u64,
     now: i64,
     txid: u64,
     ev_type: &Option<Text>,
     ev_data: &Option<Text>,
-    extra: &Option<BoxedExtra>,
-) -> Result<Event, NoMemory>
-    ensures { IfOk result (λ event. event ≡ made_event id now txid ev_type.now ev_data.now extra.now) }
+) -> Result<PlainEvent, NoMemory>
+    ensures { IfOk result (λ event. event ≡ record { ev_id = id; ev_time = now; ev_txid = txid; ev_type = ev_type.now; ev_data = ev_data.now }) }
 {
-    let event = Event {
+    Ok(PlainEvent {
         ev_id: id,
         ev_time: now,
         ev_txid: txid,
-        ev_owner: None,
-        ev_retry: None,
         ev_type: copy_option(alloc, ev_type)?,
         ev_data: copy_option(alloc, ev_data)?,
-        ev_extra1: None,
-        ev_extra2: None,
-        ev_extra3: None,
-        ev_extra4: None,
-    };
-    match extra {
-        Some(extra) => with_extra(alloc, event, extra),
-        None => Ok(event),
-    }
+    })
 }
 
 /// The event with these further texts.
-// Never inlined, so that an event without them is made where it is needed.
+// Never inlined, so that an event without them isn't made as one that has room for them.
 #[inline(never)]
-fn with_extra(alloc: Global, event: Event, extra: &BoxedExtra) -> Result<Event, NoMemory>
-    ensures { IfOk result (λ made. made ≡ record event { ev_extra1 = extra.now.ev_extra1; ev_extra2 = extra.now.ev_extra2; ev_extra3 = extra.now.ev_extra3; ev_extra4 = extra.now.ev_extra4 }) }
+fn with_extra(alloc: Global, event: PlainEvent, extra: &BoxedExtra) -> Result<Event, NoMemory>
+    ensures { IfOk result (λ made. made ≡ made_event event.ev_id event.ev_time event.ev_txid event.ev_type event.ev_data (Some extra.now)) }
 {
-    let mut event = event;
     let extra = extra.as_extra();
-    event.ev_extra1 = copy_option(alloc, &extra.ev_extra1)?;
-    event.ev_extra2 = copy_option(alloc, &extra.ev_extra2)?;
-    event.ev_extra3 = copy_option(alloc, &extra.ev_extra3)?;
-    event.ev_extra4 = copy_option(alloc, &extra.ev_extra4)?;
-    Ok(event)
+    Ok(Event {
+        ev_id: event.ev_id,
+        ev_time: event.ev_time,
+        ev_txid: event.ev_txid,
+        ev_owner: None,
+        ev_retry: None,
+        ev_type: event.ev_type,
+        ev_data: event.ev_data,
+        ev_extra1: copy_option(alloc, &extra.ev_extra1)?,
+        ev_extra2: copy_option(alloc, &extra.ev_extra2)?,
+        ev_extra3: copy_option(alloc, &extra.ev_extra3)?,
+        ev_extra4: copy_option(alloc, &extra.ev_extra4)?,
+    })
 }
 
 /// Whether a statement on queues may be made only outside blocks.

@@ -1,5 +1,5 @@
 -- What holds of retries and retried events still holds when queues change.
-use Rattle.std.proofs.Common.{◌≡◌, ℕ, zero, suc, ℤ, OnOk, ◌+◌, ◌<◌, List, [], ◌∷◌, ◌++◌, Bool, true, false, not, ◌==◌, Option, Some, None, Result, Ok, Err, IfOk, OnErr, filter, length, get_or, slice_set, option_map, refl, sym, ◌∙◌, ap, subst, arith, if◌then◌else◌}
+use Rattle.std.proofs.Common.{◌≡◌, ℕ, zero, suc, ℤ, OnOk, ◌+◌, ◌<◌, List, [], ◌∷◌, ◌++◌, Bool, true, false, not, ◌==◌, Option, Some, None, Result, Ok, Err, IfOk, OnErr, filter, length, get_or, slice_set, option_map, refl, sym, ◌∙◌, ap, subst, arith, if◌then◌else◌, ◌⊎◌, inl, inr}
 use Rattle.std.specs.List.{All}
 use Rattle.std.proofs.lemmas.Bool.Decides.{nat_tests}
 use Rattle.std.proofs.lemmas.List.{get_or_read}
@@ -17,17 +17,19 @@ use Rattle.pgq_sub.specs.declared.sub.OpenBatch.{OpenBatch}
 use Rattle.pgq_sub.specs.Seen.{no_subs}
 use Rattle.pgq_queues.specs.Views.{QueueView, QueuesView}
 use Rattle.pgq_queues.specs.Seen.{no_queue, seen_queue, sub_at, Stands}
-use Rattle.pgq_queues.specs.Batches.{StillStand}
+use Rattle.pgq_queues.specs.Batches.{StillStand, BatchesWithin}
+use Rattle.pgq_queues.specs.Numbers.{AreNumbers}
+use Rattle.pgq_queues.specs.Traced.{TracedWithin}
 use Rattle.pgq_queues.specs.Retried.{RetriedAtMost, sub_id, HasConsumer, IsWaiting, RetriedWithin}
 use Rattle.sky_model.specs.Telling.{told_event}
 use Rattle.pgq_queues.specs.EventRule.{telling, telling_all}
 use Rattle.pgq_tables.specs.Tables.{Stored, Tables, with_stored}
 use Rattle.pgq_tables.specs.Views.{TablesView}
 use Rattle.pgq_queues.specs.Stored.{AllStored}
-use Rattle.pgq_queues.specs.Rotated.{switched_in}
+use Rattle.pgq_queues.specs.Rotated.{retabled, switched_in}
 use Rattle.pgq_queues.proofs.AllStored.{stored-one, stored-switched}
 use Rattle.pgq_queues.proofs.Marked.{no-subs, sub_at-gone, sub_at-more}
-use Rattle.pgq_queues.proofs.TracedLists.{stands-set, ticks-kept, Stays, stand-set, stands-more, there, gone-apart}
+use Rattle.pgq_queues.proofs.TracedLists.{stands-set, ticks-kept, Stays, stays-alike, stand-set, stand-shown, stands-kept, within-still, stands-more, there, gone-apart}
 use Rattle.pgq_queues.proofs.Indexed.{is_one, same_parts}
 use Rattle.pgq_queues.proofs.Consumed.{Change, Becomes, subs-set, sub-here}
 
@@ -246,6 +248,37 @@ retried-dropped {rounds} queues new n rs empty lt none within = subst (λ qs. Re
       moment = waits.moment;
       most = waits.most;
     }
+
+-- ---- an event is put in a queue
+
+-- the queue has one event more, or is as it was because memory has run out
+abbrev pub HasMore : Event → QueueView → QueueView → Type 0
+HasMore e old new = (new ≡ retabled (with_stored e) old) ⊎ (new ≡ old)
+
+more-stays : (e : Event) (old new : QueueView) → HasMore e old new → Stays old new
+more-stays e old new (inl is) = stays-alike old new (ap QueueView.ticks is) (ap QueueView.subs is)
+more-stays e old new (inr is) = stays-alike old new (ap QueueView.ticks is) (ap QueueView.subs is)
+
+more-events : {rounds : ℕ} → (e : Event) (old new : QueueView) → RetriedAtMost rounds e → HasMore e old new → AllStored (RetriedAtMost rounds) old.tables.tables → AllStored (RetriedAtMost rounds) new.tables.tables
+more-events e old new most (inl is) = one-event old.tables.tables new.tables.tables e (ap (λ (q : QueueView). q.tables.tables) is) most
+more-events e old new most (inr is) = same-events old.tables new.tables (ap QueueView.tables is)
+
+put-stands : (v now : QueuesView) (i : ℕ) (e : Event) (old new : QueueView) → v ≡ now → Stands now.queues i → i < length v.queues → old ≡ get_or v.queues i old → HasMore e old new → StillStand v.queues (slice_set v.queues i new)
+put-stands v now i e old new same stands lt at more = stand-set v.queues i old new (stands-kept v now i same stands) lt at (more-stays e old new more)
+
+-- the queues that stood stand, and what holds of all still holds
+pub put-still : (v now : QueuesView) (i : ℕ) (e : Event) (old new : QueueView) → v ≡ now → Stands now.queues i → i < length v.queues → old ≡ get_or v.queues i old → HasMore e old new → StillStand now.queues (slice_set v.queues i new)
+put-still v now i e old new same stands lt at more = stand-shown v now (slice_set v.queues i new) same (put-stands v now i e old new same stands lt at more)
+
+abbrev pub AllWithin : QueuesView → Type 0
+AllWithin v = (HasMoment v.time × RetriedWithin v.rounds v.queues v.retries) × (AreNumbers v.names v.queues × (BatchesWithin v.last_batch_id v.queues v.batches × TracedWithin v.queues v.triggers v.traced))
+
+pub put-within : (v now : QueuesView) (i : ℕ) (e : Event) (old new : QueueView) → v ≡ now → Stands now.queues i → i < length v.queues → old ≡ get_or v.queues i old → HasMore e old new → RetriedAtMost now.rounds e
+    → AllWithin v → AllWithin (record v { queues = slice_set v.queues i new })
+put-within v now i e old new same stands lt at more most within =
+    let still = put-stands v now i e old new same stands lt at more in
+    let bound = bound-set v.queues i old new lt at (more-events e old new (most-kept v now e same most) more) in
+    ((within.0.0, retried-still v.queues (slice_set v.queues i new) v.retries still bound within.0.1), within-still v.names v.queues (slice_set v.queues i new) v.batches v.triggers v.traced still within.1)
 
 -- ---- triggers record a write
 

@@ -1,5 +1,5 @@
 ghost use Rattle.std.specs.Prelude.{◌≡◌, ℕ, ℤ, ◌+◌, ◌-◌, [], ◌<◌, ◌^◌, ◌∷◌, ◌++◌, Some, None, IfOk, IfErr, OnOk, OnErr, IfNone, IfSome, length, is_none, is_some, ◌↔◌, ◌≤◌, Ok, Err, find, ◌==◌, true, option_map, option_copied};
-ghost use Rattle.pgq_tables.specs.Tables.{new_tables, with_stored, with_pending};
+ghost use Rattle.pgq_tables.specs.Tables.{full_event, new_tables, with_stored, with_pending};
 ghost use Rattle.sky_model.specs.Config.{default_config, param_of};
 ghost use Rattle.pgq_tick.specs.Config.{set_to};
 ghost use Rattle.sky_model.specs.Queues.{newest_tick};
@@ -22,7 +22,7 @@ ghost use Rattle.sky_urlenc.specs.RowEvents.{RowEvent};
 
 use crate::batch::Span;
 use pgq_sub::{OpenBatch, Sub, Subs};
-use pgq_tables::EventTables;
+use pgq_tables::{EventTables, PlainEvent};
 use pgq_tick::{ConfigFault, QueueConfig, Tick, TickFault, Ticks};
 use sky_model::{Counts, QueueInfo};
 use sky_txid::Snapshot;
@@ -195,6 +195,16 @@ impl Queue {
         ensures err { OnErr result (self.new ≡ self.old) }
     {
         self.tables.insert(event)
+    }
+
+    /// Stores a plain event.
+    #[inline(always)]
+    pub(crate) fn put_plain(&mut self, event: PlainEvent) -> Result<(), NoMemory>
+        requires { HasMoment event.ev_time }
+        ensures ok { OnOk result (self.new ≡ retabled (with_stored (full_event event)) self.old) }
+        ensures err { OnErr result (self.new ≡ self.old) }
+    {
+        self.tables.insert_plain(event)
     }
 
     /// Stores one more event of a trigger, which takes the next id.

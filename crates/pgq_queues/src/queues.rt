@@ -3,6 +3,7 @@ ghost use Rattle.std.specs.List.{All, position, remove};
 ghost use Rattle.sky_model.specs.Config.{Config, param_of};
 ghost use Rattle.sky_model.specs.Consumers.{Subscription};
 ghost use Rattle.sky_model.specs.History.{queued, made, raised, put, ticked, registered, moved, unregistered, opened, closed, configured, dropped, traced, untraced};
+ghost use Rattle.pgq_tables.specs.Tables.{full_event};
 ghost use Rattle.pgq_tick.specs.Config.{set_to};
 ghost use Rattle.sky_model.specs.Moment.{HasMoment, IsTime};
 ghost use Rattle.sky_model.specs.Printed.{EventsHaveMoments};
@@ -28,6 +29,7 @@ use crate::slots::Slots;
 use crate::traced::{TableTrigger, Traced, TracedTable};
 use pgq_retry::RetryQueue;
 use pgq_sub::{OpenBatch, Sub};
+use pgq_tables::PlainEvent;
 use pgq_tick::{ConfigFault, TickFault};
 use sky_model::BatchInfo;
 use sky_names::Named;
@@ -371,6 +373,20 @@ impl Queues {
         ensures rest { KeepsRest self.old self.new }
     {
         self.slots.get_mut(queue).put(event)?;
+        Ok(())
+    }
+
+    /// Stores a plain event in a queue, whether its transaction commits or not.
+    #[inline(always)]
+    pub fn put_plain(&mut self, queue: usize, event: PlainEvent) -> Result<(), NoMemory>
+        requires queue { Stands self.old.queues queue }
+        requires time { HasMoment event.ev_time }
+        ensures mark { OnOk result ((beside : Beside) → seen_with beside self.new ≡ after_mark (seen_with beside self.old) (queued (put queue (full_event event)))) }
+        ensures stand { StillStand self.old.queues self.new.queues }
+        ensures err { OnErr result ((beside : Beside) → seen_with beside self.new ≡ seen_with beside self.old) }
+        ensures rest { KeepsRest self.old self.new }
+    {
+        self.slots.get_mut(queue).put_plain(event)?;
         Ok(())
     }
 

@@ -1,6 +1,23 @@
 -- The event tables of a queue: which events are stored, in which table, and how far their rotation is.
 use Rattle.std.specs.Prelude.{ℕ, ◌+◌, ◌%◌, ◌==◌, ◌||◌, ℤ, pos, Bool, false, List, [], ◌∷◌, ◌++◌, map, flat_map, length, drop, take, slice_index_or, slice_set, Option, Some, None, unwrap_or}
 use Rattle.sky_val.specs.declared.event.Event.{Event}
+use Rattle.pgq_tables.specs.declared.stored.PlainEvent.{PlainEvent}
+
+-- a plain event as an event of all parts: it has no owner and no further texts
+abbrev pub full_event : PlainEvent → Event
+full_event e = record {
+  ev_id = e.ev_id;
+  ev_time = e.ev_time;
+  ev_txid = e.ev_txid;
+  ev_owner = None;
+  ev_retry = None;
+  ev_type = e.ev_type;
+  ev_data = e.ev_data;
+  ev_extra1 = None;
+  ev_extra2 = None;
+  ev_extra3 = None;
+  ev_extra4 = None;
+}
 
 -- an event as it is stored: it is dead once its transaction was rolled back
 pub record Stored : Type 0 where

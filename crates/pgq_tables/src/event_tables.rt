@@ -3,11 +3,11 @@ ghost use Rattle.std.specs.Borrow.{sem};
 ghost use Rattle.std.specs.Io.BufRead.{Rests};
 ghost use Rattle.std.specs.List.{list_any};
 ghost use Rattle.sky_val.specs.declared.event.Event.{Event};
-ghost use Rattle.pgq_tables.specs.Tables.{Tables, new_tables, with_stored, with_dead, with_pending, without_pending, with_switch, with_second_step, next_table, by_age};
+ghost use Rattle.pgq_tables.specs.Tables.{Tables, full_event, new_tables, with_stored, with_dead, with_pending, without_pending, with_switch, with_second_step, next_table, by_age};
 ghost use Rattle.pgq_tables.specs.Order.{by_txid};
 ghost use Rattle.pgq_tables.specs.Views.{TablesView, one_more};
 
-use crate::stored::Stored;
+use crate::stored::{PlainEvent, Stored};
 use crate::table::Table;
 use sky_val::{Event, NoMemory};
 use std::alloc::Global;
@@ -78,6 +78,15 @@ impl EventTables {
         ensures err { OnErr result (self.new ≡ self.old) }
     {
         self.tables[self.current].push(self.alloc, event)
+    }
+
+    /// Stores a plain event in the current table. Nothing has changed after an error.
+    #[inline(always)]
+    pub fn insert_plain(&mut self, event: PlainEvent) -> Result<(), NoMemory>
+        ensures ok { OnOk result (self.new ≡ record self.old { tables = with_stored (full_event event) self.old.tables }) }
+        ensures err { OnErr result (self.new ≡ self.old) }
+    {
+        self.tables[self.current].push_plain(self.alloc, event)
     }
 
     /// Takes the event back that was stored last, before any switch. No memory is taken.

@@ -14,4 +14,4 @@ mod stored;
 mod table;
 
 pub use event_tables::EventTables;
-pub use stored::Stored;
+pub use stored::{PlainEvent, Stored};

@@ -1,4 +1,5 @@
-ghost use Rattle.std.specs.Prelude.{◌≡◌, true, false, None, IfOk, if◌then◌else◌, Some};
+ghost use Rattle.std.specs.Prelude.{◌≡◌, true, false, None, IfOk, if◌then◌else◌, Some, option_and_then};
+ghost use Rattle.pgq_tables.specs.Tables.{full_event};
 
 use sky_val::{Event, NoMemory, Text, copy_option};
 use std::alloc::Global;
@@ -19,6 +20,16 @@ pub struct Stored {
     has_data: bool,
     dead: bool,
     rest: Option<Arc<Rest>>,
+}
+
+/// An event that has no owner, was never brought back and has no further texts, as most are.
+#[derive(Debug, Drop)]
+pub struct PlainEvent {
+    pub ev_id: u64,
+    pub ev_time: i64,
+    pub ev_txid: u64,
+    pub ev_type: Option<Text>,
+    pub ev_data: Option<Text>,
 }
 
 /// What few events have.
@@ -140,6 +151,43 @@ impl Stored {
         } else {
             Some(kept_after(alloc, last, rest)?)
         };
+        let plain = PlainEvent {
+            ev_id: event.ev_id,
+            ev_time: event.ev_time,
+            ev_txid: event.ev_txid,
+            ev_type: event.ev_type,
+            ev_data: event.ev_data,
+        };
+        Stored::with_rest(alloc, plain, rest)
+    }
+
+    /// Takes over the texts of an event that has no more than these.
+    #[inline(always)]
+    pub(crate) fn plain(alloc: Global, event: PlainEvent) -> Result<Stored, NoMemory>
+        ensures { IfOk result (λ stored. stored ≡ record { event = full_event event; dead = false }) }
+    {
+        Stored::with_rest(alloc, event, None)
+    }
+
+    /// Takes over the texts of an event, and what few events have.
+    #[inline(always)]
+    fn with_rest(
+        alloc: Global,
+        event: PlainEvent,
+        rest: Option<Arc<Rest>>,
+    ) -> Result<Stored, NoMemory>
+        ensures { IfOk result (λ stored. stored ≡ record {
+          event = record (full_event event) {
+            ev_owner = option_and_then (λ kept. kept.value.ev_owner) rest;
+            ev_retry = option_and_then (λ kept. kept.value.ev_retry) rest;
+            ev_extra1 = option_and_then (λ kept. kept.value.ev_extra1) rest;
+            ev_extra2 = option_and_then (λ kept. kept.value.ev_extra2) rest;
+            ev_extra3 = option_and_then (λ kept. kept.value.ev_extra3) rest;
+            ev_extra4 = option_and_then (λ kept. kept.value.ev_extra4) rest;
+          };
+          dead = false;
+        }) }
+    {
         let (ev_type, has_type) = text_or_empty(alloc, event.ev_type)?;
         let (ev_data, has_data) = text_or_empty(alloc, event.ev_data)?;
         Ok(Stored {

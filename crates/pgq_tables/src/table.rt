@@ -1,11 +1,11 @@
 ghost use Rattle.std.specs.Prelude.{◌≡◌, ◌==◌, ◌<◌, [], ◌∷◌, ◌++◌, List, false, Some, OnOk, OnErr, length, map, slice_get};
 ghost use Rattle.std.specs.List.{list_any};
 ghost use Rattle.sky_val.specs.declared.event.Event.{Event};
-ghost use Rattle.pgq_tables.specs.Tables.{Stored, marked_dead};
+ghost use Rattle.pgq_tables.specs.Tables.{Stored, full_event, marked_dead};
 ghost use Rattle.pgq_tables.specs.Order.{by_txid};
 
 use crate::index::{Placed, count_below, count_up_to, insert_reserved};
-use crate::stored::Stored;
+use crate::stored::{PlainEvent, Stored};
 use sky_val::{Event, NoMemory};
 use std::alloc::Global;
 use std::marker::Model;
@@ -54,10 +54,29 @@ impl Table {
         ensures ok { OnOk result (self.new ≡ self.old ++ record { event = event; dead = false } ∷ []) }
         ensures err { OnErr result (self.new ≡ self.old) }
     {
+        let stored = Stored::new(alloc, event, self.events.last())?;
+        self.push_stored(stored)
+    }
+
+    /// Stores a plain event. Nothing has changed after an error.
+    #[inline(always)]
+    pub(crate) fn push_plain(&mut self, alloc: Global, event: PlainEvent) -> Result<(), NoMemory>
+        ensures ok { OnOk result (self.new ≡ self.old ++ record { event = full_event event; dead = false } ∷ []) }
+        ensures err { OnErr result (self.new ≡ self.old) }
+    {
+        let stored = Stored::plain(alloc, event)?;
+        self.push_stored(stored)
+    }
+
+    /// One more stored event. Nothing has changed after an error.
+    #[inline(always)]
+    fn push_stored(&mut self, stored: Stored) -> Result<(), NoMemory>
+        ensures ok { OnOk result (self.new ≡ self.old ++ stored ∷ []) }
+        ensures err { OnErr result (self.new ≡ self.old) }
+    {
         self.events.reserve(1)?;
         self.places.reserve(1)?;
-        let txid = event.ev_txid;
-        let stored = Stored::new(alloc, event, self.events.last())?;
+        let txid = stored.txid();
         let place = self.events.len();
         let at = count_up_to(&self.places, txid);
         let placed = Placed { txid, place };

@@ -1,0 +1,26 @@
+use Rattle.std.proofs.Common.{Option, sym, ap, ◌∙◌}
+use Rattle.sky_model.specs.declared.stmt.Extra.{Extra}
+use Rattle.sky_model.specs.History.{queued, put}
+use Rattle.sky_model.specs.State.{after_mark}
+use Rattle.sky_model.specs.StepQueue.{made_event}
+use Rattle.pgq_tables.specs.Tables.{full_event}
+use Rattle.pgq_db.specs.Seen.{seen_database}
+use Rattle.pgq_db.proofs.Databases.{marked-as}
+use Rattle.pgq_db.proofs.db.Db.put.Goals as goal
+
+pub returns-in_ok-put_plain-in-None : goal.returns-in_ok-put_plain-in-None
+returns-in_ok-put_plain-in-None c =
+    let e = c.args.event in
+    record {
+      mark = marked-as _ _ c.put_plain.new.self (λ _. put c.args.queue (full_event e)) c.self.view_is c.in_ok-put_plain-in-None.ensures.mark
+          ∙ ap (λ (x : Option Extra). after_mark (seen_database c.args.self.now) (queued (put c.args.queue (made_event e.ev_id e.ev_time e.ev_txid e.ev_type e.ev_data x)))) (sym c.in-None.is);
+    }
+
+pub returns-in_ok-put-in-Some : goal.returns-in_ok-put-in-Some
+returns-in_ok-put-in-Some c =
+    let e = c.args.event in
+    record {
+      mark = marked-as _ _ c.put.new.self (λ _. put c.args.queue c.in_ok-event-in-Some.event) c.self.view_is c.in_ok-put-in-Some.ensures.mark
+          ∙ ap (λ x. after_mark (seen_database c.args.self.now) (queued (put c.args.queue x)))
+          (c.in_ok-event-in-Some.ensures ∙ ap (λ (x : Option Extra). made_event e.ev_id e.ev_time e.ev_txid e.ev_type e.ev_data x) (sym c.in-Some.is));
+    }
