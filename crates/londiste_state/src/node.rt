@@ -80,6 +80,13 @@ impl LeafTable {
         self.snapshot = Some(snapshot);
         self.tick = tick;
     }
+
+    /// Its copy has applied the batches up to a tick.
+    fn set_tick(&mut self, tick: u64)
+        ensures { self.new ≡ nodes.with_tick tick self.old }
+    {
+        self.tick = tick;
+    }
 }
 
 /// The root of a set, where the tables of the set are written.
@@ -275,6 +282,24 @@ impl Leaf {
         for table in self.tables.iter_mut() {
             if *name == *table.name() {
                 table.move_to(to);
+            }
+        }
+    }
+
+    /// It has applied the batches up to a tick.
+    pub fn set_tick(&mut self, tick: u64)
+        ensures { self.new ≡ record self.old { tick = tick } }
+    {
+        self.tick = tick;
+    }
+
+    /// The copy of a table has applied the batches up to a tick, if the table has joined.
+    pub fn set_table_tick(&mut self, name: &Text, tick: u64)
+        ensures { self.new ≡ record self.old { tables = nodes.changed_in name.now (nodes.with_tick tick) self.old.tables } }
+    {
+        for table in self.tables.iter_mut() {
+            if *name == *table.name() {
+                table.set_tick(tick);
             }
         }
     }

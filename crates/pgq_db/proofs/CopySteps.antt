@@ -64,7 +64,7 @@ use Rattle.pgq_db.proofs.NodeSteps.{serves-by, served-nothing, table-missing}
 -- ---- a copy may go on writing
 
 -- a transaction's write leaves it so that only the last version may be the transaction's
-own-with : (t : ℕ) (row : Option (List Val)) (vs : List Version) → is_own_last t vs ≡ true → is_own_last t (with_version t row vs) ≡ true
+pub own-with : (t : ℕ) (row : Option (List Val)) (vs : List Version) → is_own_last t vs ≡ true → is_own_last t (with_version t row vs) ≡ true
 own-with t row [] own = grind (arith, nat_tests)
 own-with t row (v ∷ vs) own = grind (arith, nat_tests, own, own-with t row vs)
 
@@ -82,7 +82,7 @@ own-newest t (v ∷ w ∷ vs) newest own is = by (own-newest t (w ∷ vs) (Some 
     by rest true same own is = absurd (cc)
     by rest false same own is = rest own is ∙ ap (λ b. if b then Some v else version_of t (w ∷ vs)) (sym same)
 
-own-fresh : (t : ℕ) (vs : List Version) → version_of t vs ≡ None → is_own_last t vs ≡ true
+pub own-fresh : (t : ℕ) (vs : List Version) → version_of t vs ≡ None → is_own_last t vs ≡ true
 own-fresh t [] none = refl
 own-fresh t (v ∷ vs) none = grind (arith, nat_tests, none, own-fresh t vs)
 
@@ -183,7 +183,7 @@ next-is p t left = by (nat_le (2 ^ 62) p.next) left
     by true e = absurd (cc)
     by false e = cc
 
-contains-last : (t : ℕ) (ts : List ℕ) → contains t (ts ++ t ∷ []) ≡ true
+pub contains-last : (t : ℕ) (ts : List ℕ) → contains t (ts ++ t ∷ []) ≡ true
 contains-last t [] = grind (arith, nat_tests)
 contains-last t (u ∷ ts) = grind (arith, nat_tests, contains-last t ts)
 

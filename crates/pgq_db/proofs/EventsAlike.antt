@@ -185,6 +185,7 @@ copies-kept (inserted.kept (noded mark) more) d rows = absurd rows
 copies-kept (inserted.kept (tabled (read_only table on)) more) d rows = absurd rows
 copies-kept (inserted.kept (began (of_copy table) t) more) d rows = absurd rows
 copies-kept (inserted.kept (ended (of_copy table) t committed) more) d rows = absurd rows
+copies-kept (inserted.kept (tabled (wrote of_worker t table key old new)) more) d rows = absurd rows
 copies-kept (inserted.kept (ended whose t true) more) d rows = copies-kept more (after_mark d (ended whose t true)) rows
 copies-kept (inserted.kept (ended whose t false) more) d rows = copies-kept more (after_mark d (ended whose t false)) rows
 copies-kept (inserted.kept mark more) d rows = copies-kept more (after_mark d mark) rows

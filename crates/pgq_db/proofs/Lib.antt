@@ -15,3 +15,4 @@ pub mod Looking
 pub mod NodeSteps
 pub mod ProviderSteps
 pub mod CopySteps
+pub mod ApplySteps

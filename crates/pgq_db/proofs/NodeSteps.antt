@@ -18,7 +18,7 @@ use Rattle.sky_model.specs.ShownRows.{least_writer}
 use Rattle.sky_model.specs.Outcome.{Outcome, Checked, ◌>>=◌, ◌>>◌, refused_if, refused_by, answers, does_marks, marks_of}
 use Rattle.sky_model.specs.StepQueue.{newest_id}
 use Rattle.sky_model.specs.StepConsumer.{registers}
-use Rattle.sky_model.specs.StepNode.{set_queue, set_trigger, joins, lists, unlists, adds, removes, NodeCall, joining, making_leaf, adding, removing, moving, listing, unlisting, if_there, table_number, may_serve, call_form, node_does}
+use Rattle.sky_model.specs.StepNode.{set_queue, set_trigger, joins, lists, unlists, adds, removes, moves_table, NodeCall, joining, making_leaf, adding, removing, moving, listing, unlisting, if_there, table_number, may_serve, call_form, node_does}
 use Rattle.sky_model.specs.Daemon.{quietly}
 use Rattle.sky_model.specs.DatabaseCalls.{served}
 use Rattle.sky_model.specs.DatabaseSteps.{DatabaseSteps}
@@ -73,6 +73,10 @@ table-not v now table same missing there = let none : is_some (table_number (see
 module _ (v now : DbView) (name : List ℕ) (same : v ≡ now) (missing : place_of name (seen v.rows).tables ≡ None) where
   pub removing-nothing : may_serve (removing name) (seen_database now).node ≡ true → Serves (seen_database now) (seen_database now) (removing name)
   removing-nothing may = served-nothing (seen_database now) (removing name) may (ap (λ o. if_there o (λ t. removes (seen_database now) t name)) (table-missing v now name same missing))
+
+  pub moving-nothing : (state : TableState) → may_serve (moving name state) (seen_database now).node ≡ true → Serves (seen_database now) (seen_database now) (moving name state)
+  moving-nothing state may =
+      served-nothing (seen_database now) (moving name state) may (ap (λ o. if_there o (λ t. moves_table (seen_database now) t name state)) (table-missing v now name same missing))
 
   pub unlisting-nothing : may_serve (unlisting name) (seen_database now).node ≡ true → Serves (seen_database now) (seen_database now) (unlisting name)
   unlisting-nothing may = served-nothing (seen_database now) (unlisting name) may (ap (λ o. if_there o (λ t. unlists t name)) (table-missing v now name same missing))
@@ -157,7 +161,7 @@ joined-as v now queues node q tick newest consumer same mark noding at =
     ∙ (λ i. after_mark (seen_with (with_node (record v.node { own = noding i }) (seen v.rows)) v.queues) (queued (registered q consumer (v.queues.last_sub_id + 1) (at i))))
     ∙ ap (λ (w : DbView). after_marks (seen_database w) (queued (registered q consumer ((seen_database w).last_sub_id + 1) newest) ∷ noded (joined consumer) ∷ [])) same
 
--- ---- the database gets a leaf, or a table of it a state
+-- ---- the database gets a leaf
 
 noded-as : (v now : DbView) (node : Option Node) (mark : NodeMark) → ((d : Database) → after_mark d (noded mark) ≡ record d { node = after_node mark d.node }) → v ≡ now → node ≡ after_node mark v.node.own → seen_database (record v { node = record v.node { own = node } }) ≡ after_marks (seen_database now) (noded mark ∷ [])
 noded-as v now node mark plain same noding = (λ i. seen_with (with_node (record v.node { own = noding i }) (seen v.rows)) v.queues) ∙ sym (plain (seen_database v)) ∙ ap (λ (w : DbView). after_marks (seen_database w) (noded mark ∷ [])) same
@@ -170,11 +174,6 @@ leaf-as v now leaf n p name provider tick same bare is named from =
     let made : Some (of_leaf leaf) ≡ after_node (leaf_made name provider tick) v.node.own = ap (λ (l : Leaf). Some (of_leaf l)) whole in
     serves-by (seen_database now) _ (making_leaf name provider tick) _ (is-served (seen_database now) (making_leaf name provider tick) may) (noded-as v now (Some (of_leaf leaf)) (leaf_made name provider tick) (λ d. refl) same made)
 
-pub moved-as : (v now : DbView) (node : Option Node) (table : List ℕ) (state : TableState) → v ≡ now → may_serve (moving table state) (seen_database now).node ≡ true → node ≡ after_node (state_set table state) v.node.own
-    → Serves (seen_database now) (seen_database (record v { node = record v.node { own = node } })) (moving table state)
-moved-as v now node table state same may noding =
-    serves-by (seen_database now) _ (moving table state) _ (is-served (seen_database now) (moving table state) may) (noded-as v now node (state_set table state) (λ d. refl) same noding)
-
 -- ---- a table joins a leaf, or leaves it
 
 pub adding-there : (d : Database) (name : List ℕ) (table : ℕ) (o : Option ℕ) → may_serve (adding name) d.node ≡ true → place_of name d.part.tables ≡ Some table → least_writer d.part table ≡ o
@@ -185,6 +184,10 @@ adding-there d name table o may there busy =
 pub removing-there : (d : Database) (name : List ℕ) (table : ℕ) → may_serve (removing name) d.node ≡ true → place_of name d.part.tables ≡ Some table
     → node_does d (removing name) ≡ does_marks Done (given_up table name (copy_txid table d.copies) ++ noded (leaf_removed name) ∷ tabled (read_only table false) ∷ [])
 removing-there d name table may there = is-served d (removing name) may ∙ ap (λ x. if_there x (λ t. removes d t name)) there
+
+moving-there : (d : Database) (name : List ℕ) (state : TableState) (table : ℕ) → may_serve (moving name state) d.node ≡ true → place_of name d.part.tables ≡ Some table
+    → node_does d (moving name state) ≡ does_marks Done (given_up table name (copy_txid table d.copies) ++ noded (state_set name state) ∷ [])
+moving-there d name state table may there = is-served d (moving name state) may ∙ ap (λ x. if_there x (λ t. moves_table d t name state)) there
 
 -- ---- a table joins a set, or leaves it
 
@@ -251,6 +254,18 @@ module _ (v now : DbView) (name : List ℕ) (table : ℕ) (same : v ≡ now) (ma
       → Serves (seen_database now) (seen_database (record v { rows = rows; node = record v.node { own = node } })) (adding name)
   adding-does rows node free guarding noding =
       serves-by (seen_database now) _ (adding name) _ (adding-with None free) (guarded-as v now rows node table true (noded (leaf_added name)) same guarding (after_node (leaf_added name)) (λ d. refl) noding)
+
+-- goes into a state, after a copy of it was given up
+module _ (v now : DbView) (name : List ℕ) (table : ℕ) (same : v ≡ now) (there : place_of name (seen v.rows).tables ≡ Some table) where
+  pub moving-does : (state : TableState) → may_serve (moving name state) (seen_database now).node ≡ true
+      → (w left : DbView) → w ≡ left → seen_database left ≡ after_marks (seen_database now) (given_up table name (copy_txid table now.node.copies))
+      → (node : Option Node) → node ≡ after_node (state_set name state) w.node.own
+      → Serves (seen_database now) (seen_database (record w { node = record w.node { own = node } })) (moving name state)
+  moving-does state may w left is given node noding =
+      serves-by (seen_database now) _ (moving name state) _ (moving-there (seen_database now) name state table may (table-there v now name table same there))
+      (noded-as w left node (state_set name state) (λ d. refl) is noding
+      ∙ ap (λ d. after_marks d (noded (state_set name state) ∷ [])) given
+      ∙ sym (after_marks-append (seen_database now) (given_up table name (copy_txid table now.node.copies)) (noded (state_set name state) ∷ [])))
 
 -- and leaves it, after a copy of it was given up
 module _ (v now : DbView) (name : List ℕ) (table : ℕ) (same : v ≡ now) (may : may_serve (removing name) (seen_database now).node ≡ true) (there : place_of name (seen v.rows).tables ≡ Some table) where

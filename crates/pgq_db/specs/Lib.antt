@@ -8,3 +8,4 @@ pub mod Configured
 pub mod Waiters
 pub mod Served
 pub mod Copying
+pub mod Applying

@@ -40,8 +40,8 @@ use std::marker::Model;
 use std::mem;
 
 /// One database: its transactions, sessions, tables and rows; its queues; and its node, if it has one, with the copies
-/// that run here and the snapshots that are held. Once memory has run out in `step`, `fail`, `daemon`, `copy_begin`,
-/// `copy_rows` or `copy_end` nothing is said of it.
+/// that run here and the snapshots that are held. Once memory has run out in `step`, `fail`, `daemon`, `apply`,
+/// `copy_begin`, `copy_rows` or `copy_end` nothing is said of it.
 #[derive(Drop)]
 pub struct Db {
     pub(crate) alloc: Global,

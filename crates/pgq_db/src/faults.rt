@@ -102,6 +102,43 @@ impl From<TransFault> for CopyFault {
     }
 }
 
+/// Why a batch isn't applied.
+#[derive(Clone, Copy, Debug, PartialEq, Eq, Error)]
+pub enum ApplyFault {
+    #[error("the last transaction id was given")]
+    TxidsSpent,
+    /// The first of the picked events that can't be applied, by its id.
+    #[error("event {0} can't be applied")]
+    BadEvent(u64),
+    #[error("out of memory")]
+    NoMemory,
+}
+
+impl From<AllocError> for ApplyFault {
+    ghost use Rattle.std.specs.Prelude.{◌≡◌};
+    ghost use Rattle.pgq_db.specs.declared.faults.ApplyFault.TheVariants.{NoMemory};
+
+    ghost from_gives = { λ _ fault. fault ≡ NoMemory };
+
+    fn from(_: AllocError) -> ApplyFault {
+        ApplyFault::NoMemory
+    }
+}
+
+impl From<TransFault> for ApplyFault {
+    ghost use Rattle.std.specs.Prelude.{◌≡◌};
+    ghost use Rattle.pgq_db.specs.Applying.{apply_fault_of};
+
+    ghost from_gives = { λ from fault. fault ≡ apply_fault_of from };
+
+    fn from(fault: TransFault) -> ApplyFault {
+        match fault {
+            TransFault::TxidsSpent => ApplyFault::TxidsSpent,
+            TransFault::NoMemory => ApplyFault::NoMemory,
+        }
+    }
+}
+
 /// Why a worker of a leaf makes no move. Nothing has changed then, unless memory ran out.
 #[derive(Clone, Copy, Debug, PartialEq, Eq, Error)]
 pub enum WorkerFault {

@@ -8,10 +8,12 @@
 //! pending. A statement that is run elsewhere comes in by `enter`, and if it is refused there, `fail` aborts the block
 //! that its session is in.
 //! What a node needs of its own database, or of another, is a call each, in `node` and `provider`; a copy's are in
-//! `copies` and `holds`.
+//! `copies` and `holds`, and the one by which a leaf applies a batch is in `apply`.
 //! Nothing here knows a session's name, another database, or a byte of a script.
 #![tactic(auto)]
 
+mod apply;
+mod change;
 mod consumers;
 mod copies;
 mod daemon;
@@ -20,11 +22,13 @@ mod faults;
 mod holds;
 mod node;
 mod node_part;
+mod pick;
 mod provider;
 mod retries;
 mod rotation;
 mod statements;
 
 pub use db::Db;
-pub use faults::{CopyFault, FetchFault, JoinFault, RootFault, WorkerFault};
+pub use faults::{ApplyFault, CopyFault, FetchFault, JoinFault, RootFault, WorkerFault};
+pub use pick::Pick;
 pub use provider::NodeBatch;

@@ -135,12 +135,17 @@ impl Db {
         self.rows.set_read_only(number, false);
     }
 
-    /// Sets the state of a table of the leaf, which may go to it.
+    /// Sets the state of a table of the leaf, which may go to it. A copy of it that runs is given up.
     pub fn set_state(&mut self, table: &Text, to: TableState)
+        requires made { IsMade (seen_database self.old) }
         requires allowed { may_serve (moving table.now to) (seen_database self.old).node ≡ true }
         ensures serves { Serves (seen_database self.old) (seen_database self.new) (moving table.now to) }
         ensures steps { DatabaseSteps (seen_database self.old) (seen_database self.new) (served (moving table.now to)) (quietly (node_does (seen_database self.old) (moving table.now to))) }
     {
+        let Some((number, _)) = self.rows.table(table) else {
+            return;
+        };
+        self.give_up_copy(number);
         set_leaf_state(&mut self.node.own, table, to);
     }
 

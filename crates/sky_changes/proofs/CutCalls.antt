@@ -22,7 +22,7 @@ use Rattle.sky_model.specs.declared.reply.Reply.TheVariants.{Done, Number, Null}
 use Rattle.sky_model.specs.declared.reply.Refusal.TheVariants.{NoQueue, ReservedType, NodeExists, QueueExists, TooMany, TableBusy, Canceled}
 use Rattle.sky_model.specs.declared.reply.Limit.TheVariants.{Queues, Triggers}
 use Rattle.sky_model.specs.InForm.{IsInForm, IsRowInForm}
-use Rattle.sky_model.specs.History.{Mark, of_session, of_worker, of_copy, began, ended, block_failed, block_ended, looked, tabled, wrote, waits, waited, queued, made, raised, put, returned, switched, traced, untraced, noded, root_made, listed, unlisted, leaf_made, leaf_added, leaf_removed, state_set, copied, restarted, hold_begun, hold_ended, read_only, History}
+use Rattle.sky_model.specs.History.{Mark, of_session, of_worker, of_copy, began, ended, block_failed, block_ended, looked, tabled, wrote, waits, waited, queued, made, raised, put, returned, switched, traced, untraced, noded, root_made, listed, unlisted, leaf_made, leaf_added, copied, restarted, applied, hold_begun, hold_ended, read_only, History}
 use Rattle.sky_model.specs.Sessions.{Block, outside, inside, failed, session, has_open, block, own_txid}
 use Rattle.sky_model.specs.Locks.{waiting, attempt}
 use Rattle.sky_model.specs.Nodes.{node, is_leaf, is_set_queue}
@@ -41,7 +41,8 @@ use Rattle.sky_model.specs.Rows.{table_names}
 use Rattle.sky_model.specs.Triggers.{triggers, triggers_of}
 use Rattle.sky_model.specs.Copies.{copies, copy_txid, Hold, holds}
 use Rattle.sky_model.specs.StepCopy.{given_up}
-use Rattle.sky_model.specs.StepNode.{create_root, set_queue, set_trigger, lists as lists_table, NodeCall, making_leaf, adding, removing, moving, listing, unlisting, beginning_copy, copying_rows, ending_copy, giving_up_copy, holding, letting_go, if_there, may_copy, may_serve, call_form, node_does}
+use Rattle.sky_model.specs.StepApply.{applies_batch}
+use Rattle.sky_model.specs.StepNode.{create_root, set_queue, set_trigger, lists as lists_table, NodeCall, making_leaf, adding, removing, moving, listing, unlisting, beginning_copy, copying_rows, ending_copy, giving_up_copy, applying, holding, letting_go, if_there, may_copy, may_serve, call_form, node_does}
 use Rattle.sky_model.specs.Promises.{after_all}
 use Rattle.sky_model.specs.DatabaseCalls.{DatabaseCall, stepped, entered, failed as failed_call, worked, served, IsDatabaseCallInForm, database_does, database_part}
 use Rattle.sky_model.specs.StepRotation.{held_back, rotates_by_itself, lack_second_step, maint_rotate_step2, committed_by, switches_by, switches_of}
@@ -55,6 +56,7 @@ use Rattle.sky_model.specs.Calls.{row_form, form, making, statement}
 use Rattle.sky_model.proofs.NodeReadings.{same-node}
 use Rattle.sky_model.proofs.NodeCalls.{is_for_consumers, is_consumers, gives-consumers}
 use Rattle.sky_model.proofs.CopyCalls.{is_for_copies, is_copies, gives-copies}
+use Rattle.sky_model.proofs.ApplyCalls.{is_for_applying, gives-applies, applies-leaf}
 use Rattle.sky_model.proofs.Histories.{stands_calls}
 use Rattle.sky_model.proofs.Legal.{queue_of_set}
 use Rattle.sky_model.proofs.Marks.{database_of-mark, database_of-marks}
@@ -415,6 +417,22 @@ copies-cut h (noded (hold_begun hold) ∷ marks) all leaf cut = copies-cut (node
 copies-cut h (noded (hold_ended hold) ∷ marks) all leaf cut = copies-cut (noded (hold_ended hold) ∷ h) marks all leaf (plain (noded (hold_ended hold)) cut tt)
 copies-cut h (_ ∷ marks) all leaf cut = absurd all
 
+-- those of a batch that is applied, in such a database
+applying-cut : (h : History) (marks : List Mark) → EachMark is_for_applying marks → is_leaf (node h) ≡ true → Cut h → Cut (marked h marks)
+applying-cut h [] all leaf cut = cut
+applying-cut h (began of_worker t ∷ marks) all leaf cut = applying-cut (began of_worker t ∷ h) marks all leaf (plain (began of_worker t) cut tt)
+applying-cut h (ended of_worker t committed ∷ marks) all leaf cut = applying-cut (ended of_worker t committed ∷ h) marks all leaf (plain (ended of_worker t committed) cut tt)
+applying-cut h (tabled (wrote of_worker t table key old new) ∷ marks) all leaf cut =
+    applying-cut (tabled (wrote of_worker t table key old new) ∷ h) marks all leaf (leaf_writes of_worker t table key old new cut leaf)
+applying-cut h (noded (applied pick tick) ∷ marks) all leaf cut =
+    applying-cut (noded (applied pick tick) ∷ h) marks all ((same-node (applied pick tick) refl (node h)).leaf ∙ leaf) (plain (noded (applied pick tick)) cut tt)
+applying-cut h (_ ∷ marks) all leaf cut = absurd all
+
+-- plain marks after those by which a copy is given up
+given_up-cut : (h : History) → Cut h → (table : ℕ) (name : List ℕ) (o : Option ℕ) (marks : List Mark) → Each Plain marks → Cut (marked h (given_up table name o ++ marks))
+given_up-cut h cut table name None marks all = cut-plain h marks all cut
+given_up-cut h cut table name (Some t) marks all = cut-plain h (ended (of_copy table) t false ∷ noded (restarted name) ∷ marks) (tt, (tt, all)) cut
+
 a-leaf : (name : List ℕ) (n : Option Node) → may_copy name n ≡ true → is_leaf n ≡ true
 a-leaf name None e = absurd (cc)
 a-leaf name (Some (of_root r)) e = absurd (cc)
@@ -459,16 +477,15 @@ call-cut h cut (adding name) may = there-cut h cut (place_of name (table_names h
     of : (table : ℕ) (busy : Option ℕ) → CutIf h (refused_by (option_map TableBusy busy) >> does_marks Done (noded (leaf_added name) ∷ tabled (read_only table true) ∷ []))
     of table (Some t) = λ _. cut
     of table None = λ _. plain (tabled (read_only table true)) (plain (noded (leaf_added name)) cut tt) tt
-call-cut h cut (removing name) may = there-cut h cut (place_of name (table_names h)) _ (λ table. of table (copy_txid table (copies h)))
-  where
-    of : (table : ℕ) (o : Option ℕ) → CutIf h (does_marks Done (given_up table name o ++ noded (leaf_removed name) ∷ tabled (read_only table false) ∷ []))
-    of table None = λ _. cut-plain h (noded (leaf_removed name) ∷ tabled (read_only table false) ∷ []) (tt, (tt, tt)) cut
-    of table (Some t) = λ _. cut-plain h (ended (of_copy table) t false ∷ noded (restarted name) ∷ noded (leaf_removed name) ∷ tabled (read_only table false) ∷ []) (tt, (tt, (tt, (tt, tt)))) cut
-call-cut h cut (moving name state) may = λ _. plain (noded (state_set name state)) cut tt
+call-cut h cut (removing name) may = there-cut h cut (place_of name (table_names h)) _ (λ table _. given_up-cut h cut table name (copy_txid table (copies h)) _ (tt, (tt, tt)))
+call-cut h cut (moving name state) may = there-cut h cut (place_of name (table_names h)) _ (λ table _. given_up-cut h cut table name (copy_txid table (copies h)) _ (tt, tt))
 call-cut h cut (beginning_copy name) may = copy-cut h cut (beginning_copy name) refl (a-leaf name (node h) may)
 call-cut h cut (copying_rows name rows) may = copy-cut h cut (copying_rows name rows) refl (a-leaf name (node h) may)
 call-cut h cut (ending_copy name snapshot tick) may = copy-cut h cut (ending_copy name snapshot tick) refl (a-leaf name (node h) may)
 call-cut h cut (giving_up_copy name) may = copy-cut h cut (giving_up_copy name) refl (a-leaf name (node h) may)
+call-cut h cut (applying events pick tick) may = λ _.
+    applying-cut h (marks_of (applies_batch (database_of h) pick tick events))
+    (each-given AnyReply is_for_applying (applies_batch (database_of h) pick tick events) (gives-applies (database_of h) pick tick events)) (applies-leaf pick (node h) may) cut
 call-cut h cut holding may = λ _. plain (noded (hold_begun _)) cut tt
 call-cut h cut (letting_go hold) may = of (list_any (λ (x : Hold). x.number == hold) (holds h))
   where

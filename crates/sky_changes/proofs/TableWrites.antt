@@ -15,7 +15,7 @@ use Rattle.sky_model.specs.Rows.{table_names, committed, writes as writes_of, ha
 use Rattle.sky_model.specs.Nodes.{node, set_tables}
 use Rattle.sky_model.specs.LawsOfNodes.{is_one_of}
 use Rattle.sky_model.specs.ShownRows.{RowsShown}
-use Rattle.sky_model.proofs.Legal.{Fine, writes, copies_row, Legal, legal-below_mark, fine_mark}
+use Rattle.sky_model.proofs.Legal.{Fine, writes, copies_row, applies_row, Legal, legal-below_mark, fine_mark}
 use Rattle.sky_model.proofs.Snapshots.{ender-unended, sound, runs-unended, copy-runs}
 use Rattle.sky_model.proofs.Holders.{IsAlone, alone, has_written-push}
 use Rattle.sky_model.proofs.KeyVersions.{same-writes}
@@ -145,6 +145,7 @@ pub row-met : (whose : Whose) (t m : ℕ) (k : List Val) (old new : Option (List
 row-met _ _ _ _ _ _ y ly (writes who t m k old new mine free stands) =
     ap (λ o. at k (put_all (own_writes m o y) (rows m y))) (sym mine) ∙ ap (λ (x : RowsShown). (x.key who m k).standing) (same-rows y ly) ∙ stands.stands
 row-met _ _ _ _ _ _ y ly (copies_row m t k old new is) = read-at y y here ly (Some t) (runs-unended y (sound y ly) t (copy-runs y (sound y ly) m t is.runs)) m k ∙ is.stands
+row-met _ _ _ _ _ _ y ly (applies_row m t k old new is) = read-at y y here ly (Some t) (runs-unended y (sound y ly) t ((sound y ly).works t is.brief.work.works)) m k ∙ is.stands
 
 module _ (n : ℕ) (p r top : History) (low : Since p r) (high : Since r top) (l : Legal top) where
   abbrev first_ones : Set

@@ -34,7 +34,7 @@ is_no_begin (began (of_copy table) t) = false
 is_no_begin _ = true
 
 -- a write changes no committed row
-rows-wrote : (h : History) → Legal h → (whose : Whose) (t n : ℕ) (key : List Val) (old new : Option (List Val)) → Fine h (tabled (wrote whose t n key old new)) → (table : ℕ)
+pub rows-wrote : (h : History) → Legal h → (whose : Whose) (t n : ℕ) (key : List Val) (old new : Option (List Val)) → Fine h (tabled (wrote whose t n key old new)) → (table : ℕ)
     → rows table (tabled (wrote whose t n key old new) ∷ h) ≡ rows table h
 rows-wrote h l whose t n key old new fine table =
     in_turn-same (λ u. writes_of table u (tabled (wrote whose t n key old new) ∷ h)) (λ u. writes_of table u h) (committed h) [] (same-writes h l whose t n key old new (alone h l fine) table)

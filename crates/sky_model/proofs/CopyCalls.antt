@@ -14,7 +14,7 @@ use Rattle.sky_model.specs.declared.reply.Reply.TheVariants.{Done, Null}
 use Rattle.sky_model.specs.declared.reply.Refusal.TheVariants.{TxidsSpent}
 use Rattle.sky_model.specs.History.{Mark, of_copy, began, ended, tabled, wrote, noded, copied, restarted, hold_begun, hold_ended, History}
 use Rattle.sky_model.specs.Transactions.{next_txid}
-use Rattle.sky_model.specs.Copies.{copies, is_copied_by, copy_txid, Hold, holds}
+use Rattle.sky_model.specs.Copies.{copies, is_copied, is_copied_by, copy_txid, Hold, holds}
 use Rattle.sky_model.specs.Rows.{Write, table_names, columns_of, is_read_only}
 use Rattle.sky_model.specs.Nodes.{node, is_leaf, leaf_tables}
 use Rattle.sky_model.specs.State.{RowPart, part_of, after_part, Database, database_of}
@@ -24,9 +24,10 @@ use Rattle.sky_model.specs.StepCopy.{copy_write, copy_writes, deletions, inserti
 use Rattle.sky_model.specs.StepNode.{NodeCall, beginning_copy, copying_rows, ending_copy, giving_up_copy, holding, letting_go, if_there, table_number, is_in_copy, may_copy, may_serve, call_form}
 use Rattle.sky_model.specs.LawsOfNodes.{is_at, is_one_of}
 use Rattle.sky_model.specs.LawsOfWrites.{IsRowOf}
-use Rattle.sky_model.proofs.Legal.{ends_copy, begins_copy as begins_fine, copies_row, nodes, Chain, done, more, Legal}
+use Rattle.sky_model.proofs.Legal.{brief, ends_copy, begins_copy as begins_fine, copies_row, nodes, Chain, done, more, Legal}
 use Rattle.sky_model.proofs.Marks.{part_of-mark}
-use Rattle.sky_model.proofs.Guarded.{copied_by-push, copy_txid-some, copy_txid-none}
+use Rattle.sky_model.proofs.Guarded.{copied_by-push, copy_txid-some, copy_txid-none, IsGuarded}
+use Rattle.sky_model.proofs.Holders.{guarded-unwritten}
 use Rattle.sky_model.proofs.Cases.{by_test}
 use Rattle.sky_model.proofs.Good.{Good, good_refused}
 use Rattle.sky_model.proofs.StatementMarks.{EachMark, Gives, AnyReply}
@@ -162,13 +163,19 @@ leafs None name may = absurd (cc)
 leafs (Some (of_root r)) name may = absurd (cc)
 leafs (Some (of_leaf l)) name may = record { leaf = refl; among = found-among name l.tables may }
 
-good-begins : (h : History) → Legal h → LeafGuarded h → (name : List ℕ) (table : ℕ) → may_copy name (node h) ≡ true → place_of name (table_names h) ≡ Some table
+good-begins : (h : History) → Legal h → brief h ≡ [] → LeafGuarded h → (name : List ℕ) (table : ℕ) → may_copy name (node h) ≡ true → place_of name (table_names h) ≡ Some table
     → (o : Option ℕ) → copy_txid table (copies h) ≡ o → Good h 0 (begins_copy (database_of h) table o)
-good-begins h l guarding name table may there (Some t) is = done
-good-begins h l guarding name table may there None is = of (nat_le (2 ^ 62) (next_txid h))
+good-begins h l idle guarding name table may there (Some t) is = done
+good-begins h l idle guarding name table may there None is = of (nat_le (2 ^ 62) (next_txid h))
   where
     in_leaf : IsLeafs (node h) name
     in_leaf = leafs (node h) name may
+
+    guarded : IsGuarded h table
+    guarded = record { leaf = in_leaf.leaf; guarded = guarding table ∙ among-one (table_names h) (leaf_tables (node h)) name table there in_leaf.among }
+
+    alone : is_copied table (copies h) ≡ false
+    alone = copy_txid-none table (copies h) is
 
     t : ℕ
     t = next_txid h
@@ -182,7 +189,15 @@ good-begins h l guarding name table may there None is = of (nat_le (2 ^ 62) (nex
     of : (spent : Bool) → Good h 0 ((refused_if spent TxidsSpent >> Ok t) >>= (λ u. does_marks Done (began (of_copy table) u ∷ copy_writes (after_part (part_of h) (began (of_copy table) u)) table u (deletions (rows_now (part_of h) table)))))
     of true = good_refused h 0 TxidsSpent
     of false =
-        more (begins_fine table (record { leaf = in_leaf.leaf; guarded = guarding table ∙ among-one (table_names h) (leaf_tables (node h)) name table there in_leaf.among; alone = copy_txid-none table (copies h) is }))
+        more (begins_fine table (record {
+          name = name;
+          there = there;
+          may = may;
+          leaf = guarded.leaf;
+          guarded = guarded.guarded;
+          alone = alone;
+          unwritten = guarded-unwritten h l idle table (record { guard = guarded; uncopied = alone });
+        }))
         (subst (λ d. Chain g (copy_writes d table t (deletions (rows_now (part_of h) table)))) (part_of-mark h (began (of_copy table) t))
         (good-writes g table t (deletions (rows_now (part_of h) table)) (place_of_within name (table_names h) table there) runs (deletions-fit (columns_of table h) (rows_now (part_of h) table))))
 
@@ -195,20 +210,20 @@ good-gives_up : (h : History) (name : List ℕ) (table : ℕ) (o : Option ℕ) �
 good-gives_up h name table None is = done
 good-gives_up h name table (Some t) is = more (ends_copy table t false (record { runs = copy_txid-some table t (copies h) is; whole = λ never. absurd (cc) })) (more (nodes (restarted name) tt) done)
 
-pub good_copies : (h : History) → Legal h → LeafGuarded h → AllCovered h → (call : NodeCall) → is_copies call ≡ true → may_serve call (node h) ≡ true → Good h 0 (call_form (database_of h) call)
-good_copies h l guarding covered (beginning_copy name) e may =
-    good-there h (place_of name (table_names h)) _ (λ table there. good-begins h l guarding name table may there (copy_txid table (copies h)) refl)
-good_copies h l guarding covered (copying_rows name rows) e may =
+pub good_copies : (h : History) → Legal h → brief h ≡ [] → LeafGuarded h → AllCovered h → (call : NodeCall) → is_copies call ≡ true → may_serve call (node h) ≡ true → Good h 0 (call_form (database_of h) call)
+good_copies h l idle guarding covered (beginning_copy name) e may =
+    good-there h (place_of name (table_names h)) _ (λ table there. good-begins h l idle guarding name table may there (copy_txid table (copies h)) refl)
+good_copies h l idle guarding covered (copying_rows name rows) e may =
     good-there h (place_of name (table_names h)) _ (λ table there.
     good-there h (copy_txid table (copies h)) _ (λ t is. good-rows h table t rows (place_of_within name (table_names h) table there) (copy_txid-some table t (copies h) is)))
-good_copies h l guarding covered (ending_copy name snapshot tick) e may =
+good_copies h l idle guarding covered (ending_copy name snapshot tick) e may =
     good-there h (place_of name (table_names h)) _ (λ table there.
     good-there h (copy_txid table (copies h)) _ (λ t is.
     let runs : is_copied_by table t (copies h) ≡ true = copy_txid-some table t (copies h) is in
     more (ends_copy table t true (record { runs = runs; whole = λ _. covered table t runs }))
     (more (nodes (copied name snapshot tick) (record { below = h; table = table; t = t; last = refl; there = there })) done)))
-good_copies h l guarding covered (giving_up_copy name) e may = good-there h (place_of name (table_names h)) _ (λ table there. good-gives_up h name table (copy_txid table (copies h)) refl)
-good_copies h l guarding covered holding e may = more (nodes (hold_begun _) (least-free (map Hold.number (holds h)))) done
-good_copies h l guarding covered (letting_go hold) e may =
+good_copies h l idle guarding covered (giving_up_copy name) e may = good-there h (place_of name (table_names h)) _ (λ table there. good-gives_up h name table (copy_txid table (copies h)) refl)
+good_copies h l idle guarding covered holding e may = more (nodes (hold_begun _) (least-free (map Hold.number (holds h)))) done
+good_copies h l idle guarding covered (letting_go hold) e may =
     by_test (λ b. Good h 0 (if b then does_marks Done (noded (hold_ended hold) ∷ []) else answers Null)) (list_any (λ (x : Hold). x.number == hold) (holds h)) (λ _. more (nodes (hold_ended hold) tt) done) (λ _. done)
-good_copies h l guarding covered _ e may = absurd (cc)
+good_copies h l idle guarding covered _ e may = absurd (cc)

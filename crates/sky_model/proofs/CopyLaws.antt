@@ -1,5 +1,5 @@
 -- The laws on copies of tables and on held snapshots.
-use Rattle.std.proofs.Common.{◌≡◌, ℕ, true, not, ◌&&◌, List, [], ◌∷◌, ◌++◌, Option, Some, None, is_some, sym, ◌∙◌, subst, refl, map}
+use Rattle.std.proofs.Common.{◌≡◌, ℕ, Bool, true, not, ◌&&◌, ◌||◌, List, [], ◌∷◌, ◌++◌, Option, Some, None, is_some, is_none, bytes_eq, filter, find, sym, ◌∙◌, ap, subst, refl, map, if◌then◌else◌}
 use Rattle.sky_val.specs.declared.val.Val.{Val}
 use Rattle.sky_val.specs.Entries.{at}
 use Rattle.sky_val.proofs.EntryLemmas.{same_entries}
@@ -7,19 +7,25 @@ use Rattle.sky_model.specs.History.{Mark, of_copy, ended, tabled, wrote, noded, 
 use Rattle.sky_model.specs.Copies.{copies, Hold, holds}
 use Rattle.sky_model.specs.Rows.{committed, writes as writes_of, wrote_in, put_all, rows, has_written, table_names}
 use Rattle.sky_model.specs.Locks.{holder}
+use Rattle.sky_model.specs.Nodes.{node}
+use Rattle.sky_model.specs.StepNode.{is_in_copy}
+use Rattle.londiste_state.specs.Nodes.{LeafTable, Node, of_root, of_leaf, is_among}
 use Rattle.sky_model.specs.Promises.{after_all}
 use Rattle.sky_model.specs.DatabaseCalls.{database_part}
 use Rattle.sky_model.specs.LawsOfLocks.{HasWritten}
-use Rattle.sky_model.specs.LawsOfCopies.{CopiesRunAlone, CopiesAreOfLeafTables, CopiesDeleteWhatStands, CopiesNameWhatStands, HasCopied, CopiesLeaveTheirRows, HoldsHaveLeastNumbers, HeldRowsStay, IsLeastFree}
+use Rattle.sky_model.specs.LawsOfCopies.{CopiesRunAlone, in_copy_tables, CopiesAreOfTablesInCopy, CopiesDeleteWhatStands, CopiesNameWhatStands, HasCopied, CopiesLeaveTheirRows, HoldsHaveLeastNumbers, HeldRowsStay, IsLeastFree}
 use Rattle.sky_model.proofs.Legal.{Covers, JustCopied, ends_copy, copies_row, nodes, Fine, Legal, legal-below_mark, fine_mark}
 use Rattle.sky_model.proofs.Snapshots.{sound, runs-unended, copy-runs, own-unended}
 use Rattle.sky_model.proofs.SnapshotLaws.{legal_place}
 use Rattle.sky_model.proofs.WrittenTables.{is-written, has-some}
 use Rattle.sky_model.proofs.Guarded.{IsGuarded, copied-by, copies-guarded, one-copy, unguarded}
+use Rattle.sky_model.proofs.InCopyTables.{leaf_table, IsInCopy, copies-in-copy, in-copy-fresh}
+use Rattle.sky_model.proofs.CopyCalls.{among-one}
+use Rattle.sky_model.proofs.Cases.{by_test}
 use Rattle.sky_model.proofs.Holders.{holder-written}
 use Rattle.sky_model.proofs.RowWrites.{over, last_of, at-put_all, is_in_order-put_all, is_in_order-in_turn, has_written-last_of, in_turn-push}
 use Rattle.sky_model.proofs.RowSights.{Since, here, later, read-at, rows-under}
-use Rattle.sky_model.proofs.Histories.{legal_calls, stands_calls}
+use Rattle.sky_model.proofs.Histories.{legal_calls}
 use Rattle.sky_names.specs.Places.{place_of}
 
 -- no session holds a key of a table that is copied
@@ -42,10 +48,32 @@ copies_run_alone p is table t runs =
       alone = λ u also. one-copy p l table t u runs also;
     }
 
-pub copies_are_of_leaf_tables : CopiesAreOfLeafTables
-copies_are_of_leaf_tables calls table t runs =
+-- a table that is found, and is such, is among those that are
+found-such : (such : LeafTable → Bool) (name : List ℕ) (ts : List LeafTable) (t : LeafTable) → find (λ (x : LeafTable). bytes_eq name x.name) ts ≡ Some t → such t ≡ true
+    → is_among name (map LeafTable.name (filter such ts)) ≡ true
+found-such such name [] t found is = absurd (cc)
+found-such such name (x ∷ ts) t found is = by_test (λ b. bytes_eq name x.name ≡ b → (if b then Some x else find (λ (y : LeafTable). bytes_eq name y.name) ts) ≡ Some t → is_among name (map LeafTable.name (filter such (x ∷ ts))) ≡ true)
+    (bytes_eq name x.name)
+    (λ _ its found.
+    let same : x ≡ t = cc in
+    let here : such x ≡ true = ap such same ∙ is in
+    ap (λ b. is_among name (map LeafTable.name (if b then x ∷ filter such ts else filter such ts))) here ∙ ap (λ b. b || is_among name (map LeafTable.name (filter such ts))) its)
+    (λ _ differ found.
+    by_test (λ b. is_among name (map LeafTable.name (if b then x ∷ filter such ts else filter such ts)) ≡ true) (such x)
+    (λ _. ap (λ b. b || is_among name (map LeafTable.name (filter such ts))) differ ∙ found-such such name ts t found is)
+    (λ _. found-such such name ts t found is)) refl found
+
+in-copy-among : (name : List ℕ) (n : Option Node) (t : LeafTable) → leaf_table name n ≡ Some t → is_in_copy t.state ≡ true → is_none t.snapshot ≡ true → is_among name (in_copy_tables n) ≡ true
+in-copy-among name None t found state fresh = absurd (cc)
+in-copy-among name (Some (of_root r)) t found state fresh = absurd (cc)
+in-copy-among name (Some (of_leaf l)) t found state fresh = found-such (λ t. is_in_copy t.state && is_none t.snapshot) name l.tables t found (λ i. state i && fresh i)
+
+pub copies_are_of_tables_in_copy : CopiesAreOfTablesInCopy
+copies_are_of_tables_in_copy calls table t runs =
     let h : History = after_all database_part calls in
-    sym ((stands_calls calls).guarding table) ∙ (copies-guarded h (legal_calls calls) table (copied-by table t (copies h) runs)).guarded
+    let l : Legal h = legal_calls calls in
+    let c : IsInCopy h table = copies-in-copy h l table (copied-by table t (copies h) runs) in
+    among-one (table_names h) (in_copy_tables (node h)) c.name table c.there (in-copy-among c.name (node h) c.t c.found c.state (in-copy-fresh h l table c))
 
 pub copies_delete_what_stands : CopiesDeleteWhatStands
 copies_delete_what_stands p is table = rows-under p p here (legal_place p is) table

@@ -5,7 +5,7 @@ use Rattle.sky_keys.specs.Waits.{is_waiting}
 use Rattle.sky_model.specs.declared.stmt.Stmt.{Stmt}
 use Rattle.sky_model.specs.declared.reply.Reply.TheVariants.{Done, Null}
 use Rattle.sky_model.specs.declared.reply.Refusal.TheVariants.{TxidsSpent}
-use Rattle.sky_model.specs.History.{Mark, of_copy, began, tabled, read_only, noded, leaf_removed, looked, History, hold_ended}
+use Rattle.sky_model.specs.History.{Mark, of_copy, began, noded, looked, History, hold_ended}
 use Rattle.sky_model.specs.Transactions.{next_txid}
 use Rattle.sky_model.specs.Copies.{copies, copy_txid, Hold}
 use Rattle.sky_model.specs.Sessions.{session, has_open, block, own_txid}
@@ -20,7 +20,7 @@ use Rattle.sky_model.specs.Settling.{Turn, turn_of, behind_marks, marked, settli
 use Rattle.sky_model.specs.Calls.{form, making, statement}
 use Rattle.sky_model.specs.SessionMarks.{look_of, entry_place, enters, failing}
 use Rattle.sky_model.specs.StepCopy.{copy_write, copy_writes, deletions, insertions, rows_now, begins_copy, all_fit, copies_rows, given_up}
-use Rattle.sky_model.specs.StepNode.{NodeCall, joining, parting, fetching, finishing, making_leaf, adding, removing, moving, listing, unlisting, beginning_copy, copying_rows, ending_copy, giving_up_copy, holding, letting_go, if_there, set_queue, table_number, may_serve, call_form, node_does}
+use Rattle.sky_model.specs.StepNode.{NodeCall, joining, parting, fetching, finishing, making_leaf, adding, removing, moving, listing, unlisting, beginning_copy, copying_rows, ending_copy, giving_up_copy, applying, holding, letting_go, if_there, set_queue, table_number, may_serve, call_form, node_does}
 use Rattle.sky_model.specs.Rows.{Write, table_names}
 use Rattle.sky_names.specs.Places.{place_of}
 use Rattle.sky_model.specs.DatabaseCalls.{DatabaseCall, stepped, entered, failed, worked, served, database_does}
@@ -28,7 +28,9 @@ use Rattle.sky_model.proofs.Legal.{Chain, Legal}
 use Rattle.sky_model.proofs.Cases.{by_test}
 use Rattle.sky_model.proofs.DaemonTurns.{each-daemon_does}
 use Rattle.sky_model.proofs.CopiesCovered.{AllCovered, is_no_begin, covered-marks, covered-begins}
+use Rattle.sky_model.specs.StepApply.{applies_batch}
 use Rattle.sky_model.proofs.CopyCalls.{gives-there}
+use Rattle.sky_model.proofs.ApplyCalls.{is_for_applying, gives-applies}
 use Rattle.sky_model.proofs.NodeCalls.{is_for_consumers, is_consumers, gives-consumers}
 use Rattle.sky_model.proofs.StatementMarks.{EachMark, each-append, each-given, Gives, gives-map, AnyReply, after, either, gives-tells, Kinds, no_more, may_leave, attempt_kinds, kinds, gives-form, each-failure, given-runs, settling-gives}
 use Rattle.std.specs.List.{list_any}
@@ -84,9 +86,14 @@ unbegun-given_up : (table : ℕ) (name : List ℕ) (o : Option ℕ) → EachMark
 unbegun-given_up table name None = tt
 unbegun-given_up table name (Some t) = tt
 
-unbegun-removed : (table : ℕ) (name : List ℕ) (o : Option ℕ) → EachMark is_no_begin (given_up table name o ++ noded (leaf_removed name) ∷ tabled (read_only table false) ∷ [])
-unbegun-removed table name None = tt
-unbegun-removed table name (Some t) = tt
+-- once a copy is given up
+unbegun-then : (table : ℕ) (name : List ℕ) (o : Option ℕ) (marks : List Mark) → EachMark is_no_begin marks → EachMark is_no_begin (given_up table name o ++ marks)
+unbegun-then table name None marks each = each
+unbegun-then table name (Some t) marks each = each
+
+unbegun-applying : (mark : Mark) → is_for_applying mark ≡ true → is_no_begin mark ≡ true
+unbegun-applying (began (of_copy table) t) e = absurd (cc)
+unbegun-applying _ e = refl
 
 -- whether a call is one by which a copy begins
 abbrev is_beginning : NodeCall → Bool
@@ -103,13 +110,14 @@ unbegun-call d (fetching consumer) e = unbegun-consumer d (fetching consumer) re
 unbegun-call d (finishing batch) e = unbegun-consumer d (finishing batch) refl
 unbegun-call d (making_leaf name provider tick) e = (tt, tt)
 unbegun-call d (adding name) e = gives-there is_no_begin (table_number d name) _ (λ table. search (after))
-unbegun-call d (removing name) e = gives-there is_no_begin (table_number d name) _ (λ table. (tt, unbegun-removed table name (copy_txid table d.copies)))
-unbegun-call d (moving name state) e = (tt, tt)
+unbegun-call d (removing name) e = gives-there is_no_begin (table_number d name) _ (λ table. (tt, unbegun-then table name (copy_txid table d.copies) _ tt))
+unbegun-call d (moving name state) e = gives-there is_no_begin (table_number d name) _ (λ table. (tt, unbegun-then table name (copy_txid table d.copies) _ tt))
 unbegun-call d (listing name) e = gives-there is_no_begin (set_queue d) _ (λ queue. gives-there is_no_begin (table_number d name) _ (λ table. search (after)))
 unbegun-call d (unlisting name) e = gives-there is_no_begin (table_number d name) _ (λ table. (tt, tt))
 unbegun-call d (copying_rows name rows) e = gives-there is_no_begin (table_number d name) _ (λ table. gives-there is_no_begin (copy_txid table d.copies) _ (λ t. unbegun-rows d table t rows))
 unbegun-call d (ending_copy name snapshot tick) e = gives-there is_no_begin (table_number d name) _ (λ table. gives-there is_no_begin (copy_txid table d.copies) _ (λ t. (tt, tt)))
 unbegun-call d (giving_up_copy name) e = gives-there is_no_begin (table_number d name) _ (λ table. (tt, unbegun-given_up table name (copy_txid table d.copies)))
+unbegun-call d (applying events pick tick) e = gives-map AnyReply AnyReply is_for_applying is_no_begin (λ reply any. any) unbegun-applying (applies_batch d pick tick events) (gives-applies d pick tick events)
 unbegun-call d holding e = (tt, tt)
 unbegun-call d (letting_go hold) e =
     either AnyReply is_no_begin (list_any (λ (x : Hold). x.number == hold) d.holds) (does_marks Done (noded (hold_ended hold) ∷ [])) (answers Null) (tt, tt) (tt, tt)

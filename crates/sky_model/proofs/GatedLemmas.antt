@@ -5,7 +5,7 @@ use Rattle.sky_model.specs.declared.stmt.RowStmt.{RowStmt}
 use Rattle.sky_model.specs.declared.stmt.RowStmt.TheVariants.{Get}
 use Rattle.sky_model.specs.declared.reply.Refusal.{Refusal}
 use Rattle.sky_model.specs.declared.reply.Refusal.TheVariants.{EventIdsSpent}
-use Rattle.sky_model.specs.History.{Mark, of_session, ended, tabled, wrote}
+use Rattle.sky_model.specs.History.{Mark, of_session, ended, tabled, of_worker, wrote}
 use Rattle.sky_model.specs.Sessions.{Block}
 use Rattle.sky_model.specs.State.{RowPart, after_part, after_part_marks}
 use Rattle.sky_model.specs.ShownRows.{RowsShown, rows_by}
@@ -73,6 +73,7 @@ gated-none gate g (Ok o) plain = ap (λ b. refused_if (not b) EventIdsSpent >> O
 -- ---- what writes nothing
 
 pub plain-if : (k : Kinds) → k.writes ≡ false → (who : ℕ) (mark : Mark) → may_leave k who mark ≡ true → is_no_write mark ≡ true
+plain-if k none who (tabled (wrote of_worker t table key old new)) e = absurd (cc)
 plain-if k none who (tabled (wrote whose t table key old new)) e = absurd (cc)
 plain-if k none who _ e = refl
 

@@ -136,6 +136,7 @@ fine-alike : (h g : History) → part_of h ≡ part_of g → besides h ≡ besid
 fine-alike h g same still (queued mark) marks rows fine = absurd rows
 fine-alike h g same still (noded mark) marks rows fine = absurd rows
 fine-alike h g same still (tabled (read_only table on)) marks rows fine = absurd rows
+fine-alike h g same still (tabled (wrote of_worker t table key old new)) marks rows fine = absurd rows
 fine-alike h g same still (began (of_copy table) t) marks rows fine = absurd rows
 fine-alike h g same still (ended (of_copy table) t committed) marks rows fine = absurd rows
 fine-alike h g same still _ marks rows (begins who none) = subst (λ n. Fine g (began (of_session who) n)) (sym (ap RowPart.next same)) (begins who (own-alike h g same who _ none))

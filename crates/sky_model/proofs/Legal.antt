@@ -20,7 +20,7 @@ use Rattle.sky_model.specs.Config.{Config}
 use Rattle.sky_model.specs.Transactions.{next_txid, running, workers}
 use Rattle.sky_model.specs.Copies.{Copy, copies, is_copied, is_copied_by, is_copys, Hold, holds}
 use Rattle.sky_model.specs.Sessions.{has_open, outside, inside, block, own_txid}
-use Rattle.sky_model.specs.Rows.{table_names, is_read_only, rows, writes as writes_of, has_written}
+use Rattle.sky_model.specs.Rows.{table_names, columns_of, wrote_in, is_read_only, rows, writes as writes_of, has_written}
 use Rattle.sky_model.specs.Locks.{holder, waiting}
 use Rattle.sky_model.specs.Triggers.{triggers, triggers_of}
 use Rattle.sky_model.specs.Nodes.{node, is_leaf}
@@ -35,7 +35,7 @@ use Rattle.sky_model.specs.StepConsumer.{floor}
 use Rattle.sky_model.specs.StepRotation.{held_by_second_step}
 use Rattle.sky_model.specs.ShownRows.{rows_by, least_writer}
 use Rattle.sky_model.specs.StepCopy.{row_for}
-use Rattle.sky_model.specs.StepNode.{set_trigger, NodeCall, adding, removing, moving, listing, unlisting, may_serve}
+use Rattle.sky_model.specs.StepNode.{set_trigger, NodeCall, adding, removing, moving, listing, unlisting, may_copy, may_serve}
 use Rattle.sky_model.specs.StepRows.{column_called, bad_set, is_key_change}
 use Rattle.sky_model.specs.StepTrigger.{has_trigger}
 use Rattle.sky_model.specs.LawsOfWrites.{IsRowOf}
@@ -119,11 +119,15 @@ pub record IsBrief (h : History) (t : ℕ) : Type 0 where
   pub work : IsWork h t
   pub brief : contains t (brief h) ≡ true
 
--- the copy of a table may begin: the table is one of a leaf, and no copy of it runs
+-- the copy of a table may begin: the table is one of a leaf, in the state for it, no copy of it runs, and no running transaction has written it
 pub record MayCopy (h : History) (table : ℕ) : Type 0 where
+  pub name : List ℕ
+  pub there : place_of name (table_names h) ≡ Some table
+  pub may : may_copy name (node h) ≡ true
   pub leaf : is_leaf (node h) ≡ true
   pub guarded : is_read_only table h ≡ true
   pub alone : is_copied table (copies h) ≡ false
+  pub unwritten : least_writer (part_of h) table ≡ None
 
 -- each row of a table is under a key that a transaction has written
 abbrev pub Covers : History → (table t : ℕ) → Type 0
@@ -148,6 +152,18 @@ pub record CopiesRow (d : RowPart) (running : List Copy) (table t : ℕ) (key : 
   pub runs : is_copied_by table t running ≡ true
   pub stands : row_for d table t key ≡ old
   pub fits : IfSome new (IsRowOf (d.columns table) key)
+
+-- a worker's transaction that ends in the step in which it began may write a row of a table: the table is one of a leaf, no copy of it runs, and no
+-- other running transaction has written it; the old row is the one that is there for it, and the new one is one that the table may have there
+pub record AppliesRow (h : History) (table t : ℕ) (key : List Val) (old new : Option (List Val)) : Type 0 where
+  pub within : table < length (table_names h)
+  pub leaf : is_leaf (node h) ≡ true
+  pub guarded : is_read_only table h ≡ true
+  pub uncopied : is_copied table (copies h) ≡ false
+  pub brief : IsBrief h t
+  pub alone : (u : ℕ) → contains u (running h) ≡ true → (t == u) ≡ false → wrote_in table u h ≡ false
+  pub stands : row_for (part_of h) table t key ≡ old
+  pub fits : IfSome new (IsRowOf (columns_of table h) key)
 
 -- ---- retries and switches
 
@@ -206,6 +222,13 @@ pub record Leaves (h : History) (call : NodeCall) (name : List ℕ) : Type 0 whe
   pub table : ℕ
   pub there : place_of name (table_names h) ≡ Some table
 
+-- or leave a leaf, or go into a state, as this call says, while no copy of it runs
+pub record GoesUncopied (h : History) (call : NodeCall) (name : List ℕ) : Type 0 where
+  pub may : may_serve call (node h) ≡ true
+  pub table : ℕ
+  pub there : place_of name (table_names h) ≡ Some table
+  pub uncopied : is_copied table (copies h) ≡ false
+
 -- a consumer is registered at the set's queue, or isn't
 pub record IsAtSet (h : History) (consumer : List ℕ) (there : Bool) : Type 0 where
   pub queue : ℕ
@@ -221,8 +244,8 @@ NodeFits h (joined consumer) = IsAtSet h consumer true
 NodeFits h (parted consumer) = IsAtSet h consumer false
 NodeFits h (leaf_made name provider tick) = (node h ≡ None) × AllWritable h
 NodeFits h (leaf_added table) = Joins h (adding table) table
-NodeFits h (leaf_removed table) = Leaves h (removing table) table
-NodeFits h (state_set table state) = may_serve (moving table state) (node h) ≡ true
+NodeFits h (leaf_removed table) = GoesUncopied h (removing table) table
+NodeFits h (state_set table state) = GoesUncopied h (moving table state) table
 NodeFits h (copied table snapshot tick) = JustCopied h table
 NodeFits h (hold_begun number) = IsLeastFree number (map Hold.number (holds h))
 NodeFits h _ = Unit {0}
@@ -245,12 +268,12 @@ abbrev pub MayTrace : History → ℕ → Option (List ℕ) → Trigger → Type
 MayTrace h table None trigger = IsSets h table trigger
 MayTrace h table (Some name) trigger = (has_trigger name (triggers_of table (triggers h)) ≡ false) × IsNotSets h trigger.queue
 
--- a table becomes read-only as soon as it has joined a leaf, if it is unused, and may be written again as soon as it has left, while no copy of it runs;
--- if there is no node, whoever uses the tables alone decides
+-- a table becomes read-only as soon as it has joined a leaf, if it is unused, and may be written again as soon as it has left, while no copy of it runs
+-- and no running transaction has written it; if there is no node, whoever uses the tables alone decides
 pub data MayGuard (h : History) : ℕ → Bool → Type 0 where
   without_node : (table : ℕ) (on : Bool) → node h ≡ None → MayGuard h table on
   at_joining : (table : ℕ) → IsOfLast h leaf_added table → IsUnused h table → MayGuard h table true
-  at_leaving : (table : ℕ) → IsOfLast h leaf_removed table → is_copied table (copies h) ≡ false → MayGuard h table false
+  at_leaving : (table : ℕ) → IsOfLast h leaf_removed table → is_copied table (copies h) ≡ false → least_writer (part_of h) table ≡ None → MayGuard h table false
 
 -- ---- all marks
 
@@ -275,6 +298,7 @@ pub data Fine (h : History) : Mark → Type 0 where
       → Fine h (tabled (wrote (of_session who) t table key old new))
   copies_row : (table t : ℕ) (key : List Val) (old new : Option (List Val)) → CopiesRow (part_of h) (copies h) table t key old new
       → Fine h (tabled (wrote (of_copy table) t table key old new))
+  applies_row : (table t : ℕ) (key : List Val) (old new : Option (List Val)) → AppliesRow h table t key old new → Fine h (tabled (wrote of_worker t table key old new))
   begins_waiting : (who table : ℕ) (key : List Val) (attempt : Attempt) → MayWait (part_of h) (node h) who table key attempt → Fine h (tabled (waits who table key attempt))
   ends_waiting : (who : ℕ) → Fine h (tabled (waited who))
   makes : (name : List ℕ) (t : ℕ) (time : ℤ) → queue_number name (queues h) ≡ None → Fine h (queued (made name t time))

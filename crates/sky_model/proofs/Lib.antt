@@ -33,6 +33,7 @@ pub mod SetQueues
 pub mod NodeTables
 pub mod WrittenTables
 pub mod Guarded
+pub mod InCopyTables
 pub mod Unawaited
 pub mod NodesStanding
 pub mod CallsRest
@@ -57,6 +58,8 @@ mod DueMoments
 pub mod Lawful
 pub mod CopiesCovered
 pub mod CopyCalls
+pub mod ApplyCalls
+pub mod ApplyingLaws
 pub mod NodeCalls
 pub mod CoveredCalls
 pub mod NodeDeeds
@@ -130,6 +133,7 @@ mod WorkedWrites
 mod WorkedTriggers
 mod WorkedWorkers
 mod WorkedCopies
+mod WorkedApplies
 pub mod Splitting
 pub mod Scripts
 pub mod Naming

@@ -13,7 +13,10 @@ use Rattle.sky_keys.specs.Versions.{version_of, is_other, newest_from, newest_bu
 use Rattle.sky_keys.proofs.VersionLemmas.{OnlyLast}
 use Rattle.sky_names.specs.Places.{place_of}
 use Rattle.sky_names.proofs.PlaceLemmas.{bytes_eq_refl, same_name}
-use Rattle.sky_model.specs.History.{queued, unregistered, History}
+use Rattle.sky_val.specs.declared.event.Event.{Event}
+use Rattle.londiste_state.specs.Nodes.{Leaf, of_leaf, is_among}
+use Rattle.sky_model.specs.StepApply.{picks, picked, is_of_copied}
+use Rattle.sky_model.specs.History.{Pick, queued, unregistered, History}
 use Rattle.sky_model.specs.Transactions.{next_txid, workers, has_ended}
 use Rattle.sky_model.specs.Rows.{table_names}
 use Rattle.sky_model.specs.Locks.{holder}
@@ -34,7 +37,10 @@ use Rattle.sky_model.proofs.RowKeys.{begun}
 use Rattle.sky_model.proofs.KeyVersions.{kept, key_holds}
 use Rattle.sky_model.proofs.WrittenRows.{read-left, all-left}
 use Rattle.sky_model.proofs.Guarded.{IsGuarded, copied-by, copies-guarded, copy_txid-some}
-use Rattle.sky_model.proofs.CopyCalls.{IsLeafs, leafs, among-one}
+use Rattle.sky_model.proofs.CopyCalls.{leafs, among-one}
+use Rattle.sky_model.proofs.NodeCalls.{leaf-has}
+use Rattle.sky_model.proofs.ApplyCalls.{picked-among}
+use Rattle.sky_model.proofs.ApplyingLaws.{picked-idle}
 use Rattle.sky_model.proofs.CopyLaws.{unheld}
 use Rattle.sky_model.proofs.Histories.{legal_calls, stands_calls}
 use Rattle.sky_model.proofs.Cases.{by_test, by_same}
@@ -69,7 +75,7 @@ last-own p t (v ∷ vs) only unseen newest is = of only.0 (last-own p t vs only.
         single : IsSome (version_of t (v ∷ [])) → Some v ≡ version_of t (v ∷ [])
         single = by_test (λ b. IsSome (if b then Some v else None) → Some v ≡ (if b then Some v else None)) (t == v.txid) (λ _ _. refl) (λ _ none. absurd (cc none))
 
--- ---- a copy may begin
+-- ---- a copy may begin, and a leaf's table be written
 
 -- no session holds a key of the table, and the next transaction has no version in it
 pub record CopyMayBegin (d : Database) (table : ℕ) : Type 0 where
@@ -82,8 +88,9 @@ fresh-at h l table key =
     let none = begun h l table (next_txid h) (omega arith) in
     grind (arith, (key_holds h l table key).own (next_txid h) unended, none)
 
-pub copy-may-begin : (d : Database) → IsMade d → (name : List ℕ) (table : ℕ) → may_copy name d.node ≡ true → table_number d name ≡ Some table → CopyMayBegin d table
-copy-may-begin d made name table may there = subst (λ (x : Database). CopyMayBegin x table) (sym made.shown) (record { free = λ key. unheld h l table g key (holder table key h) refl; fresh = fresh-at h l table })
+-- so it is of each table of a leaf
+pub leaf-may-write : (d : Database) → IsMade d → (name : List ℕ) (table : ℕ) → is_among name (leaf_tables d.node) ≡ true → table_number d name ≡ Some table → CopyMayBegin d table
+leaf-may-write d made name table among there = subst (λ (x : Database). CopyMayBegin x table) (sym made.shown) (record { free = λ key. unheld h l table g key (holder table key h) refl; fresh = fresh-at h l table })
   where
     h : History
     h = made_by made
@@ -91,14 +98,27 @@ copy-may-begin d made name table may there = subst (λ (x : Database). CopyMayBe
     l : Legal h
     l = legal-made made
 
-    leaf : IsLeafs (node h) name
-    leaf = leafs (node h) name (ap (λ (x : Database). may_copy name x.node) (sym made.shown) ∙ may)
+    is : is_among name (leaf_tables (node h)) ≡ true
+    is = ap (λ (x : Database). is_among name (leaf_tables x.node)) (sym made.shown) ∙ among
 
     at : place_of name (table_names h) ≡ Some table
     at = ap (λ (x : Database). table_number x name) (sym made.shown) ∙ there
 
     g : IsGuarded h table
-    g = record { leaf = leaf.leaf; guarded = (stands_calls made.calls).guarding table ∙ among-one (table_names h) (leaf_tables (node h)) name table at leaf.among }
+    g = record { leaf = leaf-has (node h) name is; guarded = (stands_calls made.calls).guarding table ∙ among-one (table_names h) (leaf_tables (node h)) name table at is }
+
+pub copy-may-begin : (d : Database) → IsMade d → (name : List ℕ) (table : ℕ) → may_copy name d.node ≡ true → table_number d name ≡ Some table → CopyMayBegin d table
+copy-may-begin d made name table may there = leaf-may-write d made name table (leafs d.node name may).among there
+
+-- and so of that of each event that is picked
+pub picked-may-write : (d : Database) → IsMade d → (l : Leaf) → d.node ≡ Some (of_leaf l) → (pick : Pick) (event : Event) → picks l pick event ≡ true → (name : List ℕ) → event.ev_extra1 ≡ Some name
+    → (table : ℕ) → table_number d name ≡ Some table → CopyMayBegin d table
+picked-may-write d made l leaf pick event is name named table there =
+    leaf-may-write d made name table (ap (λ n. is_among name (leaf_tables n)) leaf ∙ picked-among l pick event name named is) there
+
+-- and no copy runs of any of these
+pub picked-uncopied : (d : Database) → IsMade d → (pick : Pick) (events : List Event) → list_any (is_of_copied d) (picked d.node pick events) ≡ false
+picked-uncopied d made pick events = subst (λ (x : Database). list_any (is_of_copied x) (picked x.node pick events) ≡ false) (sym made.shown) (picked-idle (made_by made) (legal-made made) pick events)
 
 -- ---- a copy that runs
 

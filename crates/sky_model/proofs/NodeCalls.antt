@@ -4,12 +4,13 @@ use Rattle.std.proofs.lemmas.Bool.Decides.{nat_tests}
 use Rattle.std.proofs.lemmas.List.Elements.{All-nil, All-cons}
 use Rattle.sky_names.specs.Places.{place_of}
 use Rattle.sky_names.proofs.PlaceLemmas.{place_of_within, bytes_eq_refl}
-use Rattle.londiste_state.specs.Nodes.{Node, of_root, of_leaf}
+use Rattle.londiste_state.specs.declared.state.TableState.{TableState}
+use Rattle.londiste_state.specs.Nodes.{Node, of_root, of_leaf, is_among}
 use Rattle.sky_model.specs.declared.reply.Reply.TheVariants.{Number, Null}
 use Rattle.sky_model.specs.declared.reply.Limit.TheVariants.{Consumers, Triggers}
 use Rattle.sky_model.specs.declared.reply.Refusal.TheVariants.{ConsumerExists, IdsSpent, TableBusy, TooMany}
-use Rattle.sky_model.specs.History.{Mark, tabled, read_only, queued, registered, unregistered, opened, closed, traced, untraced, noded, NodeMark, joined, parted, leaf_made, leaf_added, leaf_removed, state_set, listed, unlisted, History, of_copy, began, ended, wrote, restarted}
-use Rattle.sky_model.specs.Nodes.{node}
+use Rattle.sky_model.specs.History.{Mark, tabled, read_only, queued, registered, unregistered, opened, closed, traced, untraced, noded, NodeMark, joined, parted, leaf_made, leaf_added, leaf_removed, state_set, listed, unlisted, History, of_worker, of_copy, began, ended, wrote, restarted}
+use Rattle.sky_model.specs.Nodes.{node, is_leaf, leaf_tables}
 use Rattle.sky_model.specs.Queues.{Tick, tick, queues, id_of, newest_tick, ticks}
 use Rattle.sky_model.specs.Consumers.{consumers, Subscription, subscription, subscription_id, last_subscription, position, active, active_batch}
 use Rattle.sky_model.specs.Rows.{table_names}
@@ -20,9 +21,9 @@ use Rattle.sky_model.specs.Outcome.{Outcome, Checked, ◌>>=◌, ◌>>◌, refus
 use Rattle.sky_model.specs.Settling.{ready, marked}
 use Rattle.sky_model.specs.StepQueue.{newest_id}
 use Rattle.sky_model.specs.StepConsumer.{opens_batch, takes_batch}
-use Rattle.sky_model.specs.StepNode.{set_queue, joins, parts, set_trigger, lists, adds, NodeCall, joining, parting, fetching, finishing, making_leaf, adding, removing, moving, listing, unlisting, table_number, may_serve, call_form, node_does, beginning_copy, copying_rows, ending_copy, giving_up_copy, holding, letting_go}
+use Rattle.sky_model.specs.StepNode.{set_queue, joins, parts, set_trigger, lists, adds, NodeCall, joining, parting, fetching, finishing, making_leaf, adding, removing, moving, listing, unlisting, table_number, may_serve, call_form, node_does, beginning_copy, copying_rows, ending_copy, giving_up_copy, applying, holding, letting_go}
 use Rattle.sky_model.specs.LawsOfRetries.{IsBackAt}
-use Rattle.sky_model.proofs.Legal.{IsQueue, queue_of_set, AllWritable, IsUnused, IsAtSet, IsOfLast, at_joining, at_leaving, Fine, registers, unregisters, traces, untraces, guards, nodes, Chain, done, more, Legal, ends_copy}
+use Rattle.sky_model.proofs.Legal.{brief, IsQueue, queue_of_set, AllWritable, IsUnused, IsAtSet, IsOfLast, at_joining, at_leaving, Fine, registers, unregisters, traces, untraces, guards, nodes, Chain, done, more, Legal, next, ends_copy}
 use Rattle.sky_model.proofs.NodeReadings.{set-number, no-node, same-node}
 use Rattle.sky_model.proofs.Unawaited.{unawaited}
 use Rattle.sky_model.proofs.Cases.{by_test}
@@ -32,26 +33,36 @@ use Rattle.sky_model.proofs.Lawful.{good_takes_batch, good_closes}
 use Rattle.sky_model.proofs.QueueNumbers.{among-number}
 use Rattle.sky_model.proofs.Rotation.{newest-kept, floor-newest}
 use Rattle.sky_model.proofs.StatementMarks.{EachMark, each-map, each-rest, each-given, Gives, gives-map, AnyReply, after, either}
-use Rattle.sky_model.specs.Copies.{copies, is_copied_by, copy_txid}
+use Rattle.sky_model.specs.Copies.{copies, is_copied, is_copied_by, copy_txid}
 use Rattle.sky_model.specs.StepCopy.{given_up}
-use Rattle.sky_model.proofs.CopyCalls.{is_for_copies, is_copies, gives-there, gives-copies, good-there, LeafGuarded, good_copies}
-use Rattle.sky_model.proofs.Guarded.{copy_txid-some, copy_txid-none, gone}
+use Rattle.sky_model.proofs.CopyCalls.{is_for_copies, is_copies, gives-there, gives-copies, good-there, LeafGuarded, among-one, good_copies}
+use Rattle.sky_model.proofs.Guarded.{IsGuarded, copy_txid-some, copy_txid-none, gone}
+use Rattle.sky_model.proofs.Holders.{guarded-unwritten}
 use Rattle.sky_model.proofs.CopiesCovered.{AllCovered}
+use Rattle.sky_model.specs.StepApply.{applies_batch}
+use Rattle.sky_model.proofs.ApplyCalls.{is_for_applying, gives-applies, good_applies}
 
--- the marks that they leave
+-- the marks that they leave, but for the applying of batches
+abbrev pub is_for_others : Mark → Bool
+is_for_others (queued (registered q name sub tick)) = true
+is_for_others (queued (unregistered q name sub)) = true
+is_for_others (queued (opened batch)) = true
+is_for_others (queued (closed batch)) = true
+is_for_others (queued (traced table name trigger)) = true
+is_for_others (queued (untraced table)) = true
+is_for_others (tabled (read_only table on)) = true
+is_for_others (noded mark) = true
+is_for_others (began (of_copy table) t) = true
+is_for_others (ended (of_copy table) t committed) = true
+is_for_others (tabled (wrote (of_copy n) t table key old new)) = true
+is_for_others _ = false
+
+-- and with it
 abbrev pub is_for_nodes : Mark → Bool
-is_for_nodes (queued (registered q name sub tick)) = true
-is_for_nodes (queued (unregistered q name sub)) = true
-is_for_nodes (queued (opened batch)) = true
-is_for_nodes (queued (closed batch)) = true
-is_for_nodes (queued (traced table name trigger)) = true
-is_for_nodes (queued (untraced table)) = true
-is_for_nodes (tabled (read_only table on)) = true
-is_for_nodes (noded mark) = true
-is_for_nodes (began (of_copy table) t) = true
-is_for_nodes (ended (of_copy table) t committed) = true
-is_for_nodes (tabled (wrote (of_copy n) t table key old new)) = true
-is_for_nodes _ = false
+is_for_nodes (began of_worker t) = true
+is_for_nodes (ended of_worker t committed) = true
+is_for_nodes (tabled (wrote of_worker t table key old new)) = true
+is_for_nodes mark = is_for_others mark
 
 -- those of a leaf's consumer
 abbrev pub is_for_consumers : Mark → Bool
@@ -63,8 +74,8 @@ is_for_consumers (noded (joined consumer)) = true
 is_for_consumers (noded (parted consumer)) = true
 is_for_consumers _ = false
 
-abbrev NodeGives : Checked Outcome → Type 0
-NodeGives c = Gives AnyReply is_for_nodes c
+abbrev OtherGives : Checked Outcome → Type 0
+OtherGives c = Gives AnyReply is_for_others c
 
 abbrev pub ConsumerGives : Checked Outcome → Type 0
 ConsumerGives c = Gives AnyReply is_for_consumers c
@@ -86,7 +97,7 @@ gives-parts queue consumer (Some sub) = (tt, tt)
 
 gives-opens : (d : Database) (queue : ℕ) (consumer : List ℕ) (sub : Subscription) (o : Option Tick) → ConsumerGives (opens_batch d queue consumer sub o)
 gives-opens d queue consumer sub None = (tt, tt)
-gives-opens d queue consumer sub (Some next) = search (after)
+gives-opens d queue consumer sub (Some closing) = search (after)
 
 gives-takes : (d : Database) (queue : ℕ) (consumer : List ℕ) (sub : Subscription) (o : Option ℕ) → ConsumerGives (takes_batch d queue consumer sub o)
 gives-takes d queue consumer sub (Some batch) = (tt, tt)
@@ -108,50 +119,79 @@ gives-consumers d (fetching consumer) e =
 gives-consumers d (finishing batch) e = gives-there is_for_consumers (d.batch batch) _ (λ b. (tt, tt))
 gives-consumers d _ e = absurd (cc)
 
-also-nodes : (mark : Mark) → is_for_consumers mark ≡ true → is_for_nodes mark ≡ true
-also-nodes (queued (registered q name sub tick)) e = refl
-also-nodes (queued (unregistered q name sub)) e = refl
-also-nodes (queued (opened batch)) e = refl
-also-nodes (queued (closed batch)) e = refl
-also-nodes (noded mark) e = refl
-also-nodes _ e = absurd (cc)
+also-others : (mark : Mark) → is_for_consumers mark ≡ true → is_for_others mark ≡ true
+also-others (queued (registered q name sub tick)) e = refl
+also-others (queued (unregistered q name sub)) e = refl
+also-others (queued (opened batch)) e = refl
+also-others (queued (closed batch)) e = refl
+also-others (noded mark) e = refl
+also-others _ e = absurd (cc)
 
-gives-consumer : (d : Database) (call : NodeCall) → is_consumers call ≡ true → NodeGives (call_form d call)
-gives-consumer d call e = gives-map AnyReply AnyReply is_for_consumers is_for_nodes (λ reply any. any) also-nodes (call_form d call) (gives-consumers d call e)
+gives-consumer : (d : Database) (call : NodeCall) → is_consumers call ≡ true → OtherGives (call_form d call)
+gives-consumer d call e = gives-map AnyReply AnyReply is_for_consumers is_for_others (λ reply any. any) also-others (call_form d call) (gives-consumers d call e)
 
-copies-too : (mark : Mark) → is_for_copies mark ≡ true → is_for_nodes mark ≡ true
+copies-too : (mark : Mark) → is_for_copies mark ≡ true → is_for_others mark ≡ true
 copies-too (began (of_copy table) t) e = refl
 copies-too (ended (of_copy table) t committed) e = refl
 copies-too (tabled (wrote (of_copy n) t table key old new)) e = refl
 copies-too (noded mark) e = refl
 copies-too _ e = absurd (cc)
 
-gives-copy : (d : Database) (call : NodeCall) → is_copies call ≡ true → NodeGives (call_form d call)
-gives-copy d call e = gives-map AnyReply AnyReply is_for_copies is_for_nodes (λ reply any. any) copies-too (call_form d call) (gives-copies d call e)
+gives-copy : (d : Database) (call : NodeCall) → is_copies call ≡ true → OtherGives (call_form d call)
+gives-copy d call e = gives-map AnyReply AnyReply is_for_copies is_for_others (λ reply any. any) copies-too (call_form d call) (gives-copies d call e)
 
-each-removed : (table : ℕ) (name : List ℕ) (o : Option ℕ) → EachMark is_for_nodes (given_up table name o ++ noded (leaf_removed name) ∷ tabled (read_only table false) ∷ [])
-each-removed table name None = tt
-each-removed table name (Some t) = tt
+-- once a copy is given up
+others-then : (table : ℕ) (name : List ℕ) (o : Option ℕ) (marks : List Mark) → EachMark is_for_others marks → EachMark is_for_others (given_up table name o ++ marks)
+others-then table name None marks each = each
+others-then table name (Some t) marks each = each
 
-gives-call : (d : Database) (call : NodeCall) → NodeGives (call_form d call)
-gives-call d (making_leaf name provider tick) = (tt, tt)
-gives-call d (adding name) = gives-there is_for_nodes (table_number d name) _ (λ table. search (after))
-gives-call d (removing name) = gives-there is_for_nodes (table_number d name) _ (λ table. (tt, each-removed table name (copy_txid table d.copies)))
-gives-call d (moving name state) = (tt, tt)
-gives-call d (listing name) = gives-there is_for_nodes (set_queue d) _ (λ queue. gives-there is_for_nodes (table_number d name) _ (λ table. search (after)))
-gives-call d (unlisting name) = gives-there is_for_nodes (table_number d name) _ (λ table. (tt, tt))
-gives-call d (joining consumer) = gives-consumer d (joining consumer) refl
-gives-call d (parting consumer) = gives-consumer d (parting consumer) refl
-gives-call d (fetching consumer) = gives-consumer d (fetching consumer) refl
-gives-call d (finishing batch) = gives-consumer d (finishing batch) refl
-gives-call d call = gives-copy d call refl
+-- whether a call applies a batch
+abbrev pub is_applying : NodeCall → Bool
+is_applying (applying events pick tick) = true
+is_applying _ = false
 
-gives-node : (d : Database) (call : NodeCall) → NodeGives (node_does d call)
+gives-other : (d : Database) (call : NodeCall) → is_applying call ≡ false → OtherGives (call_form d call)
+gives-other d (making_leaf name provider tick) e = (tt, tt)
+gives-other d (adding name) e = gives-there is_for_others (table_number d name) _ (λ table. search (after))
+gives-other d (removing name) e = gives-there is_for_others (table_number d name) _ (λ table. (tt, others-then table name (copy_txid table d.copies) _ tt))
+gives-other d (moving name state) e = gives-there is_for_others (table_number d name) _ (λ table. (tt, others-then table name (copy_txid table d.copies) _ tt))
+gives-other d (listing name) e = gives-there is_for_others (set_queue d) _ (λ queue. gives-there is_for_others (table_number d name) _ (λ table. search (after)))
+gives-other d (unlisting name) e = gives-there is_for_others (table_number d name) _ (λ table. (tt, tt))
+gives-other d (joining consumer) e = gives-consumer d (joining consumer) refl
+gives-other d (parting consumer) e = gives-consumer d (parting consumer) refl
+gives-other d (fetching consumer) e = gives-consumer d (fetching consumer) refl
+gives-other d (finishing batch) e = gives-consumer d (finishing batch) refl
+gives-other d (applying events pick tick) e = absurd (cc)
+gives-other d call e = gives-copy d call refl
+
+others-too : (mark : Mark) → is_for_others mark ≡ true → is_for_nodes mark ≡ true
+others-too (began of_worker t) e = refl
+others-too (ended of_worker t committed) e = refl
+others-too (tabled (wrote of_worker t table key old new)) e = refl
+others-too _ e = e
+
+applying-too : (mark : Mark) → is_for_applying mark ≡ true → is_for_nodes mark ≡ true
+applying-too (began of_worker t) e = refl
+applying-too (ended of_worker t committed) e = refl
+applying-too (tabled (wrote of_worker t table key old new)) e = refl
+applying-too (noded mark) e = refl
+applying-too _ e = absurd (cc)
+
+gives-call : (d : Database) (call : NodeCall) → Gives AnyReply is_for_nodes (call_form d call)
+gives-call d (applying events pick tick) = gives-map AnyReply AnyReply is_for_applying is_for_nodes (λ reply any. any) applying-too (applies_batch d pick tick events) (gives-applies d pick tick events)
+gives-call d call = gives-map AnyReply AnyReply is_for_others is_for_nodes (λ reply any. any) others-too (call_form d call) (gives-other d call refl)
+
+gives-node : (d : Database) (call : NodeCall) → Gives AnyReply is_for_nodes (node_does d call)
 gives-node d call = either AnyReply is_for_nodes (may_serve call d.node) (call_form d call) (answers Null) (gives-call d call) (tt, tt)
 
 -- each passes a test that such marks pass
 pub each-node : (p : Mark → Bool) → ((mark : Mark) → is_for_nodes mark ≡ true → p mark ≡ true) → (d : Database) (call : NodeCall) → EachMark p (marks_of (node_does d call))
 each-node p implies d call = each-map is_for_nodes p implies (marks_of (node_does d call)) (each-given AnyReply is_for_nodes (node_does d call) (gives-node d call))
+
+pub each-other : (p : Mark → Bool) → ((mark : Mark) → is_for_others mark ≡ true → p mark ≡ true) → (d : Database) (call : NodeCall) → is_applying call ≡ false → EachMark p (marks_of (node_does d call))
+each-other p implies d call other =
+    each-map is_for_others p implies (marks_of (node_does d call))
+    (each-given AnyReply is_for_others (node_does d call) (either AnyReply is_for_others (may_serve call d.node) (call_form d call) (answers Null) (gives-other d call other) (tt, tt)))
 
 -- a statement that waits isn't ready by them
 ready-alike : (h : History) (marks : List Mark) → EachMark is_for_nodes marks → ready (part_of (marked h marks)) ≡ ready (part_of h)
@@ -162,6 +202,9 @@ ready-alike h (noded mark ∷ marks) all = ready-alike (noded mark ∷ h) marks 
 ready-alike h (began (of_copy table) t ∷ marks) all = ready-alike (began (of_copy table) t ∷ h) marks all
 ready-alike h (ended (of_copy table) t committed ∷ marks) all = ready-alike (ended (of_copy table) t committed ∷ h) marks all
 ready-alike h (tabled (wrote (of_copy n) t table key old new) ∷ marks) all = ready-alike (tabled (wrote (of_copy n) t table key old new) ∷ h) marks all
+ready-alike h (began of_worker t ∷ marks) all = ready-alike (began of_worker t ∷ h) marks all
+ready-alike h (ended of_worker t committed ∷ marks) all = ready-alike (ended of_worker t committed ∷ h) marks all
+ready-alike h (tabled (wrote of_worker t table key old new) ∷ marks) all = ready-alike (tabled (wrote of_worker t table key old new) ∷ h) marks all
 ready-alike h (_ ∷ marks) all = absurd all
 
 pub node-ready : (h : History) (call : NodeCall) → ready (part_of (marked h (marks_of (node_does (database_of h) call)))) ≡ ready (part_of h)
@@ -185,6 +228,9 @@ none-back (noded mark ∷ marks) all = All-cons (IsBackAt None) (noded mark) mar
 none-back (began (of_copy table) t ∷ marks) all = All-cons (IsBackAt None) (began (of_copy table) t) marks tt (none-back marks all)
 none-back (ended (of_copy table) t committed ∷ marks) all = All-cons (IsBackAt None) (ended (of_copy table) t committed) marks tt (none-back marks all)
 none-back (tabled (wrote (of_copy n) t table key old new) ∷ marks) all = All-cons (IsBackAt None) (tabled (wrote (of_copy n) t table key old new)) marks tt (none-back marks all)
+none-back (began of_worker t ∷ marks) all = All-cons (IsBackAt None) (began of_worker t) marks tt (none-back marks all)
+none-back (ended of_worker t committed ∷ marks) all = All-cons (IsBackAt None) (ended of_worker t committed) marks tt (none-back marks all)
+none-back (tabled (wrote of_worker t table key old new) ∷ marks) all = All-cons (IsBackAt None) (tabled (wrote of_worker t table key old new)) marks tt (none-back marks all)
 none-back (_ ∷ marks) all = absurd all
 
 pub node-back : (d : Database) (call : NodeCall) → All (IsBackAt None) (marks_of (node_does d call))
@@ -201,10 +247,11 @@ set-stands h q is = of (node h) (sym (set-number (database_of h)) ∙ is)
     of (Some (of_leaf l)) e = absurd (cc)
     of (Some (of_root r)) e = among-number r.queue (queues h) q e
 
--- what is so between calls: no session that waits is ready, a database without a node has no read-only table, the tables of a leaf are read-only, and a
--- copy that runs has written the keys of all rows of its table
+-- what is so between calls: no session that waits is ready, no worker's transaction runs that ends in the step in which it began, a database without a
+-- node has no read-only table, the tables of a leaf are read-only, and a copy that runs has written the keys of all rows of its table
 pub record IsBetween (h : History) : Type 0 where
   pub rests : ready (part_of h) ≡ None
+  pub idle : brief h ≡ []
   pub writable : node h ≡ None → AllWritable h
   pub guarding : LeafGuarded h
   pub covered : AllCovered h
@@ -284,18 +331,44 @@ good-lists h l between q name table may set there =
       plain = refl;
     })) done)))
 
-good-removes : (h : History) → Legal h → (name : List ℕ) (table : ℕ) → may_serve (removing name) (node h) ≡ true → place_of name (table_names h) ≡ Some table
+-- a table of a leaf is one
+pub leaf-has : (n : Option Node) (name : List ℕ) → is_among name (leaf_tables n) ≡ true → is_leaf n ≡ true
+leaf-has None name among = absurd (cc)
+leaf-has (Some (of_root r)) name among = absurd (cc)
+leaf-has (Some (of_leaf l)) name among = refl
+
+good-removes : (h : History) → Legal h → IsBetween h → (name : List ℕ) (table : ℕ) → may_serve (removing name) (node h) ≡ true → place_of name (table_names h) ≡ Some table
     → (o : Option ℕ) → copy_txid table (copies h) ≡ o → Chain h (given_up table name o ++ noded (leaf_removed name) ∷ tabled (read_only table false) ∷ [])
-good-removes h l name table may there None is =
-    more (nodes (leaf_removed name) (record { may = may; table = table; there = there }))
-    (more (guards table false (at_leaving table (just h leaf_removed name table there) (copy_txid-none table (copies h) is))) done)
-good-removes h l name table may there (Some t) is =
+good-removes h l between name table may there o is = by o is
+  where
+    guarded : IsGuarded h table
+    guarded = record { leaf = leaf-has (node h) name may; guarded = between.guarding table ∙ among-one (table_names h) (leaf_tables (node h)) name table there may }
+
+    by : (o : Option ℕ) → copy_txid table (copies h) ≡ o → Chain h (given_up table name o ++ noded (leaf_removed name) ∷ tabled (read_only table false) ∷ [])
+    by None is =
+        let uncopied : is_copied table (copies h) ≡ false = copy_txid-none table (copies h) is in
+        more (nodes (leaf_removed name) (record { may = may; table = table; there = there; uncopied = uncopied }))
+        (more (guards table false (at_leaving table (just h leaf_removed name table there) uncopied (guarded-unwritten h l between.idle table (record { guard = guarded; uncopied = uncopied })))) done)
+    by (Some t) is =
+        let runs : is_copied_by table t (copies h) ≡ true = copy_txid-some table t (copies h) is in
+        let fine : Fine h (ended (of_copy table) t false) = ends_copy table t false (record { runs = runs; whole = λ never. absurd (cc) }) in
+        let g : History = noded (restarted name) ∷ ended (of_copy table) t false ∷ h in
+        let uncopied : is_copied table (copies g) ≡ false = gone h l table t runs in
+        more fine
+        (more (nodes (restarted name) tt)
+        (more (nodes (leaf_removed name) (record { may = may; table = table; there = there; uncopied = uncopied }))
+        (more (guards table false (at_leaving table (just g leaf_removed name table there) uncopied
+        (guarded-unwritten (ended (of_copy table) t false ∷ h) (next l fine) between.idle table (record { guard = record { leaf = guarded.leaf; guarded = guarded.guarded }; uncopied = uncopied })))) done)))
+
+good-moves : (h : History) → Legal h → (name : List ℕ) (table : ℕ) (state : TableState) → may_serve (moving name state) (node h) ≡ true → place_of name (table_names h) ≡ Some table
+    → (o : Option ℕ) → copy_txid table (copies h) ≡ o → Chain h (given_up table name o ++ noded (state_set name state) ∷ [])
+good-moves h l name table state may there None is =
+    more (nodes (state_set name state) (record { may = may; table = table; there = there; uncopied = copy_txid-none table (copies h) is })) done
+good-moves h l name table state may there (Some t) is =
     let runs : is_copied_by table t (copies h) ≡ true = copy_txid-some table t (copies h) is in
-    let g : History = noded (restarted name) ∷ ended (of_copy table) t false ∷ h in
     more (ends_copy table t false (record { runs = runs; whole = λ never. absurd (cc) }))
     (more (nodes (restarted name) tt)
-    (more (nodes (leaf_removed name) (record { may = may; table = table; there = there }))
-    (more (guards table false (at_leaving table (just g leaf_removed name table there) (gone h l table t runs))) done)))
+    (more (nodes (state_set name state) (record { may = may; table = table; there = there; uncopied = gone h l table t runs })) done))
 
 good_call : (h : History) → Legal h → IsBetween h → (call : NodeCall) → may_serve call (node h) ≡ true → Good h 0 (call_form (database_of h) call)
 good_call h l between (joining consumer) may = good-there h (set_queue (database_of h)) _ (λ q set. good-joins h l q consumer set)
@@ -307,16 +380,18 @@ good_call h l between (making_leaf name provider tick) may =
     let none : node h ≡ None = no-node (node h) may in more (nodes (leaf_made name provider tick) (none, between.writable none)) done
 good_call h l between (adding name) may = good-there h (place_of name (table_names h)) _ (λ table there. good-adds h l between name table may there)
 good_call h l between (removing name) may =
-    good-there h (place_of name (table_names h)) _ (λ table there. good-removes h l name table may there (copy_txid table (copies h)) refl)
-good_call h l between (moving name state) may = more (nodes (state_set name state) may) done
+    good-there h (place_of name (table_names h)) _ (λ table there. good-removes h l between name table may there (copy_txid table (copies h)) refl)
+good_call h l between (moving name state) may =
+    good-there h (place_of name (table_names h)) _ (λ table there. good-moves h l name table state may there (copy_txid table (copies h)) refl)
 good_call h l between (listing name) may =
     good-there h (set_queue (database_of h)) _ (λ q set. good-there h (place_of name (table_names h)) _ (λ table there. good-lists h l between q name table may set there))
-good_call h l between (beginning_copy name) may = good_copies h l between.guarding between.covered (beginning_copy name) refl may
-good_call h l between (copying_rows name rows) may = good_copies h l between.guarding between.covered (copying_rows name rows) refl may
-good_call h l between (ending_copy name snapshot tick) may = good_copies h l between.guarding between.covered (ending_copy name snapshot tick) refl may
-good_call h l between (giving_up_copy name) may = good_copies h l between.guarding between.covered (giving_up_copy name) refl may
-good_call h l between holding may = good_copies h l between.guarding between.covered holding refl may
-good_call h l between (letting_go hold) may = good_copies h l between.guarding between.covered (letting_go hold) refl may
+good_call h l between (beginning_copy name) may = good_copies h l between.idle between.guarding between.covered (beginning_copy name) refl may
+good_call h l between (copying_rows name rows) may = good_copies h l between.idle between.guarding between.covered (copying_rows name rows) refl may
+good_call h l between (ending_copy name snapshot tick) may = good_copies h l between.idle between.guarding between.covered (ending_copy name snapshot tick) refl may
+good_call h l between (giving_up_copy name) may = good_copies h l between.idle between.guarding between.covered (giving_up_copy name) refl may
+good_call h l between (applying events pick tick) may = good_applies h l between.idle between.guarding events pick tick may
+good_call h l between holding may = good_copies h l between.idle between.guarding between.covered holding refl may
+good_call h l between (letting_go hold) may = good_copies h l between.idle between.guarding between.covered (letting_go hold) refl may
 good_call h l between (unlisting name) may =
     good-there h (place_of name (table_names h)) _ (λ table there.
     more (nodes (unlisted name) (record { may = may; table = table; there = there })) (more (untraces table (just h unlisted name table there)) done))

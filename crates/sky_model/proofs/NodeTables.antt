@@ -77,7 +77,7 @@ one-apart tables (x ∷ xs) name t there other =
 
 -- ---- a table more
 
-place-kept : (name : List ℕ) (tables : List (List ℕ)) (last : List ℕ) → is_some (place_of name tables) ≡ true → place_of name (tables ++ last ∷ []) ≡ place_of name tables
+pub place-kept : (name : List ℕ) (tables : List (List ℕ)) (last : List ℕ) → is_some (place_of name tables) ≡ true → place_of name (tables ++ last ∷ []) ≡ place_of name tables
 place-kept name tables last is = place_of-append name tables last ∙ of (place_of name tables) (if bytes_eq name last then Some (length tables) else None) is
   where
     of : (o rest : Option ℕ) → is_some o ≡ true → option_or o rest ≡ o

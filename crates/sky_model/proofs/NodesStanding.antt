@@ -2,6 +2,7 @@
 use Rattle.std.proofs.Common.{◌≡◌, ℕ, ℤ, Bool, true, false, not, ◌||◌, ◌&&◌, ◌==◌, nat_le, List, [], ◌∷◌, ◌++◌, Option, Some, None, Ok, Err, is_none, is_some, option_map, filter, length, refl, sym, ◌∙◌, ap, arith, if◌then◌else◌}
 use Rattle.std.proofs.lemmas.Bool.{and_parts}
 use Rattle.std.proofs.lemmas.Bool.Decides.{nat_tests}
+use Rattle.londiste_state.specs.declared.state.TableState.{TableState}
 use Rattle.londiste_state.specs.Nodes.{Node, of_root, of_leaf, is_among}
 use Rattle.sky_keys.specs.Waits.{is_waiting}
 use Rattle.sky_names.specs.Places.{place_of}
@@ -9,7 +10,7 @@ use Rattle.sky_model.specs.declared.stmt.Stmt.{Stmt}
 use Rattle.sky_model.specs.declared.reply.Limit.TheVariants.{Triggers}
 use Rattle.sky_model.specs.declared.reply.Refusal.TheVariants.{TableBusy, TooMany}
 use Rattle.sky_model.specs.declared.reply.Reply.TheVariants.{Done, Null}
-use Rattle.sky_model.specs.History.{Mark, QueueMark, NodeMark, looked, tabled, read_only, queued, traced, untraced, noded, root_made, listed, unlisted, leaf_made, leaf_added, leaf_removed, History, of_copy, ended, restarted}
+use Rattle.sky_model.specs.History.{Mark, QueueMark, NodeMark, looked, tabled, read_only, queued, traced, untraced, noded, root_made, listed, unlisted, leaf_made, leaf_added, leaf_removed, state_set, History, of_copy, ended, restarted}
 use Rattle.sky_model.specs.Sessions.{has_open, block, own_txid, session}
 use Rattle.sky_model.specs.Rows.{table_names, is_read_only}
 use Rattle.sky_model.specs.Locks.{waiting}
@@ -22,7 +23,7 @@ use Rattle.sky_model.specs.Outcome.{Checked, Outcome, ◌>>◌, refused_if, refu
 use Rattle.sky_model.specs.Allowed.{where_of, allowed}
 use Rattle.sky_model.specs.Made.{takes_sight}
 use Rattle.sky_model.specs.Printed.{ReplyHasMoments}
-use Rattle.sky_model.specs.StepNode.{set_queue, set_trigger, lists, adds, NodeCall, making_leaf, adding, removing, moving, listing, unlisting, if_there, may_serve, call_form, node_does, beginning_copy, copying_rows, ending_copy, giving_up_copy, holding, letting_go}
+use Rattle.sky_model.specs.StepNode.{set_queue, set_trigger, lists, adds, moves_table, NodeCall, making_leaf, adding, removing, moving, listing, unlisting, if_there, may_serve, call_form, node_does, beginning_copy, copying_rows, ending_copy, giving_up_copy, applying, holding, letting_go}
 use Rattle.sky_model.specs.Reader.{Shown, shown_in, database_by_history, within_part}
 use Rattle.sky_model.specs.Settling.{Turn, turn_of, behind_marks, marked, settling, with_settling}
 use Rattle.sky_model.specs.Calls.{form, making, statement}
@@ -39,7 +40,9 @@ use Rattle.sky_model.proofs.DaemonTurns.{each-daemon_does}
 use Rattle.sky_model.proofs.Cases.{by_test, by_same}
 use Rattle.sky_model.specs.Copies.{copies, copy_txid}
 use Rattle.sky_model.specs.StepCopy.{given_up}
+use Rattle.sky_model.specs.StepApply.{applies_batch}
 use Rattle.sky_model.proofs.CopyCalls.{is_for_copies, is_copies, gives-copies}
+use Rattle.sky_model.proofs.ApplyCalls.{is_for_applying, gives-applies}
 
 -- the triggers without a name that a table has, by the database's node
 abbrev sets_on : History → ℕ → List TableTrigger
@@ -319,6 +322,15 @@ stands-copies h l s call copy chain =
     stands-marks h (marks_of (call_form (database_of h) call)) l chain
     (each-map is_for_copies is_single single-copies (marks_of (call_form (database_of h) call)) (each-given AnyReply is_for_copies (call_form (database_of h) call) (gives-copies (database_of h) call copy))) s
 
+single-applying : (mark : Mark) → is_for_applying mark ≡ true → is_single mark ≡ true
+single-applying (queued mark) e = absurd (cc)
+single-applying (tabled (read_only table on)) e = absurd (cc)
+single-applying (noded (listed table)) e = absurd (cc)
+single-applying (noded (unlisted table)) e = absurd (cc)
+single-applying (noded (leaf_added table)) e = absurd (cc)
+single-applying (noded (leaf_removed table)) e = absurd (cc)
+single-applying _ e = refl
+
 -- a table leaves a leaf, once its copy is given up
 stands-removes : (h : History) → NodeStands h → (name : List ℕ) (table : ℕ) → place_of name (table_names h) ≡ Some table → may_serve (removing name) (node h) ≡ true
     → (o : Option ℕ) → NodeStands (marked h (given_up table name o ++ noded (leaf_removed name) ∷ tabled (read_only table false) ∷ []))
@@ -326,16 +338,30 @@ stands-removes h s name table there may None = stands-removed h s name table the
 stands-removes h s name table there may (Some t) =
     stands-removed (noded (restarted name) ∷ ended (of_copy table) t false ∷ h) (record { tracing = s.tracing; guarding = s.guarding; on_leaves = s.on_leaves }) name table there may
 
+-- it goes into a state
+stands-moves : (h : History) → Legal h → NodeStands h → (name : List ℕ) (table : ℕ) (state : TableState) (o : Option ℕ) → Chain h (given_up table name o ++ noded (state_set name state) ∷ [])
+    → NodeStands (marked h (given_up table name o ++ noded (state_set name state) ∷ []))
+stands-moves h l s name table state None chain = stands-marks h _ l chain tt s
+stands-moves h l s name table state (Some t) chain = stands-marks h _ l chain tt s
+
 stands-form : (h : History) → Legal h → NodeStands h → (call : NodeCall) → may_serve call (node h) ≡ true → Chain h (marks_of (call_form (database_of h) call))
     → NodeStands (marked h (marks_of (call_form (database_of h) call)))
 stands-form h l s (making_leaf name provider tick) may chain = stands-marks h _ l chain tt s
-stands-form h l s (moving name state) may chain = stands-marks h _ l chain tt s
+stands-form h l s (moving name state) may chain = stands-moving (place_of name (table_names h)) chain
+  where
+    stands-moving : (o : Option ℕ) → Chain h (marks_of (if_there o (λ table. moves_table (database_of h) table name state))) → NodeStands (marked h (marks_of (if_there o (λ table. moves_table (database_of h) table name state))))
+    stands-moving None chain = s
+    stands-moving (Some table) chain = stands-moves h l s name table state (copy_txid table (copies h)) chain
 stands-form h l s (adding name) may chain = stands-there h s (place_of name (table_names h)) _ (λ table there. stands-adds h s name table may there)
 stands-form h l s (removing name) may chain = stands-there h s (place_of name (table_names h)) _ (λ table there. stands-removes h s name table there may (copy_txid table (copies h)))
 stands-form h l s (beginning_copy name) may chain = stands-copies h l s (beginning_copy name) refl chain
 stands-form h l s (copying_rows name rows) may chain = stands-copies h l s (copying_rows name rows) refl chain
 stands-form h l s (ending_copy name snapshot tick) may chain = stands-copies h l s (ending_copy name snapshot tick) refl chain
 stands-form h l s (giving_up_copy name) may chain = stands-copies h l s (giving_up_copy name) refl chain
+stands-form h l s (applying events pick tick) may chain =
+    stands-marks h (marks_of (applies_batch (database_of h) pick tick events)) l chain
+    (each-map is_for_applying is_single single-applying (marks_of (applies_batch (database_of h) pick tick events))
+    (each-given AnyReply is_for_applying (applies_batch (database_of h) pick tick events) (gives-applies (database_of h) pick tick events))) s
 stands-form h l s holding may chain = stands-copies h l s holding refl chain
 stands-form h l s (letting_go hold) may chain = stands-copies h l s (letting_go hold) refl chain
 stands-form h l s (listing name) may chain =

@@ -1,5 +1,6 @@
 -- A retry that came back is in the batches of its subscription that are across the place where it did, since its transaction commits before the next tick.
 use Rattle.std.proofs.Common.{◌≡◌, ℕ, ◌<◌, ℤ, List, [], ◌∷◌, ◌++◌, true, false, not, ◌&&◌, ◌||◌, ◌==◌, Some, Contains, refl, sym, ◌∙◌, ap, subst, arith, if◌then◌else◌}
+use Rattle.std.proofs.lemmas.Bool.{or_left, or_right}
 use Rattle.std.proofs.lemmas.List.Elements.{All-contains}
 use Rattle.sky_val.specs.declared.event.Event.{Event}
 use Rattle.sky_txid.specs.Ids.{contains}
@@ -17,7 +18,9 @@ use Rattle.sky_model.proofs.SnapshotLaws.{legal-below, legal_place}
 use Rattle.sky_model.proofs.TickOrder.{is_made, is_made-tick, unmade_beyond}
 use Rattle.sky_model.proofs.Listings.{unended-uncommitted, new_tick, made_since}
 use Rattle.sky_model.proofs.RetryCopies.{copies}
-use Rattle.sky_model.proofs.WorkersRest.{Calm, rests_calls}
+use Rattle.sky_model.proofs.WorkersRest.{has_put, Calm}
+use Rattle.sky_model.proofs.Histories.{rests_calls}
+use Rattle.sky_model.proofs.Good.{same-session}
 use Rattle.sky_model.proofs.Cases.{by_same, by_test}
 
 -- ---- its transaction commits before the next tick
@@ -38,39 +41,48 @@ calm_place p is = calm-below is.later p (subst Calm is.below (rests_calls is.cal
 abbrev Lasts : History → ℕ → Type 0
 Lasts h t = (contains t (brief h) || has_committed h t) ≡ true
 
-lasts : (t : ℕ) (later : List Mark) (p : History) → Calm (later ++ p) → contains t (brief p) ≡ true → Lasts (later ++ p) t
-lasts t [] p c works = grind (arith, works)
-lasts t (queued (ticked q id time seq) ∷ later) p c works = lasts t later p c.1 works
-lasts t (queued (asked retry) ∷ later) p c works = lasts t later p c.1 works
-lasts t (queued (put q event) ∷ later) p c works = lasts t later p c.1 works
-lasts t (queued (made name u time) ∷ later) p c works = lasts t later p c.1 works
-lasts t (began of_worker u ∷ later) p c works = let ih = lasts t later p c works in grind (arith, contains-push t u (brief (later ++ p)), ih)
-lasts t (ended of_worker u true ∷ later) p c works = let ih = lasts t later p c.1 works in grind (arith, contains-filter t u (brief (later ++ p)), ih)
-lasts t (ended of_worker u false ∷ later) p c works = absurd (cc (c.0))
-lasts t (ended (of_session who) u true ∷ later) p c works = let ih = lasts t later p c works in grind (arith, ih)
-lasts t (ended (of_session who) u false ∷ later) p c works = lasts t later p c works
-lasts t (ended (of_copy n) u true ∷ later) p c works = let ih = lasts t later p c works in grind (arith, ih)
-lasts t (ended (of_copy n) u false ∷ later) p c works = lasts t later p c works
-lasts t (_ ∷ later) p c works = lasts t later p c works
+-- once it has put an event, it has
+put-stays : (t : ℕ) (later : List Mark) (p : History) → has_put t p ≡ true → has_put t (later ++ p) ≡ true
+put-stays t [] p has = has
+put-stays t (queued (put q event) ∷ later) p has = or_right (event.ev_txid == t) (has_put t (later ++ p)) (put-stays t later p has)
+put-stays t (_ ∷ later) p has = put-stays t later p has
+
+lasts : (t : ℕ) (later : List Mark) (p : History) → Calm (later ++ p) → has_put t p ≡ true → contains t (brief p) ≡ true → Lasts (later ++ p) t
+lasts t [] p c has works = grind (arith, works)
+lasts t (queued (ticked q id time seq) ∷ later) p c has works = lasts t later p c.1 has works
+lasts t (queued (asked retry) ∷ later) p c has works = lasts t later p c.1 has works
+lasts t (queued (put q event) ∷ later) p c has works = lasts t later p c.1 has works
+lasts t (queued (made name u time) ∷ later) p c has works = lasts t later p c.1 has works
+lasts t (began of_worker u ∷ later) p c has works = let ih = lasts t later p c has works in grind (arith, contains-push t u (brief (later ++ p)), ih)
+lasts t (ended of_worker u true ∷ later) p c has works = let ih = lasts t later p c.1 has works in grind (arith, contains-filter t u (brief (later ++ p)), ih)
+lasts t (ended of_worker u false ∷ later) p c has works =
+    let ih = lasts t later p c.1 has works in
+    let other : (t == u) ≡ false = by_same (λ b. b ≡ false) t u (λ same. absurd (cc (sym (put-stays t later p has) ∙ ap (λ v. has_put v (later ++ p)) same ∙ c.0 refl))) (λ isnt. refl) in
+    grind (arith, contains-filter t u (brief (later ++ p)), ih, other)
+lasts t (ended (of_session who) u true ∷ later) p c has works = let ih = lasts t later p c has works in grind (arith, ih)
+lasts t (ended (of_session who) u false ∷ later) p c has works = lasts t later p c has works
+lasts t (ended (of_copy n) u true ∷ later) p c has works = let ih = lasts t later p c has works in grind (arith, ih)
+lasts t (ended (of_copy n) u false ∷ later) p c has works = lasts t later p c has works
+lasts t (_ ∷ later) p c has works = lasts t later p c has works
 
 -- if none is running, it has committed
 committed-idle : (h : History) (t : ℕ) → Lasts h t → brief h ≡ [] → has_committed h t ≡ true
 committed-idle h t last idle = subst (λ ts. (contains t ts || has_committed h t) ≡ true) idle last
 
 -- so it had committed at each later tick
-at_later : (t q id : ℕ) (later : List Mark) (p : History) → Calm (later ++ p) → contains t (brief p) ≡ true → is_made q id p ≡ false → is_made q id (later ++ p) ≡ true
+at_later : (t q id : ℕ) (later : List Mark) (p : History) → Calm (later ++ p) → has_put t p ≡ true → contains t (brief p) ≡ true → is_made q id p ≡ false → is_made q id (later ++ p) ≡ true
     → has_committed (at_tick q id (later ++ p)) t ≡ true
-at_later t q id [] p c works un there = absurd (cc (sym un ∙ there))
-at_later t q id (queued (ticked r m time seq) ∷ later) p c works un there =
+at_later t q id [] p c has works un there = absurd (cc (sym un ∙ there))
+at_later t q id (queued (ticked r m time seq) ∷ later) p c has works un there =
     by_test (λ b. (b || is_made q id (later ++ p)) ≡ true → has_committed (if b then later ++ p else at_tick q id (later ++ p)) t ≡ true) (r == q && m == id)
-    (λ _ _. committed-idle (later ++ p) t (lasts t later p c.1 works) c.0) (λ _ made. at_later t q id later p c.1 works un made) there
-at_later t q id (queued (made name u time) ∷ later) p c works un there =
+    (λ _ _. committed-idle (later ++ p) t (lasts t later p c.1 has works) c.0) (λ _ made. at_later t q id later p c.1 has works un made) there
+at_later t q id (queued (made name u time) ∷ later) p c has works un there =
     by_test (λ b. (b || is_made q id (later ++ p)) ≡ true → has_committed (if b then later ++ p else at_tick q id (later ++ p)) t ≡ true) (queues_made (later ++ p) == q && 1 == id)
-    (λ _ _. committed-idle (later ++ p) t (lasts t later p c.1 works) c.0) (λ _ made. at_later t q id later p c.1 works un made) there
-at_later t q id (queued (asked retry) ∷ later) p c works un there = at_later t q id later p c.1 works un there
-at_later t q id (queued (put r event) ∷ later) p c works un there = at_later t q id later p c.1 works un there
-at_later t q id (ended of_worker u committed ∷ later) p c works un there = at_later t q id later p c.1 works un there
-at_later t q id (_ ∷ later) p c works un there = at_later t q id later p c works un there
+    (λ _ _. committed-idle (later ++ p) t (lasts t later p c.1 has works) c.0) (λ _ made. at_later t q id later p c.1 has works un made) there
+at_later t q id (queued (asked retry) ∷ later) p c has works un there = at_later t q id later p c.1 has works un there
+at_later t q id (queued (put r event) ∷ later) p c has works un there = at_later t q id later p c.1 has works un there
+at_later t q id (ended of_worker u committed ∷ later) p c has works un there = at_later t q id later p c.1 has works un there
+at_later t q id (_ ∷ later) p c has works un there = at_later t q id later p c has works un there
 
 -- ---- a tick that is made stays what it is
 
@@ -148,7 +160,7 @@ retries_are_listed later below retry event moment is b within across = λ i. to 
 
     to : has_committed (at_tick b.queue b.cur (later ++ place)) event.ev_txid ≡ true
     to =
-        at_later event.ev_txid b.queue b.cur later place (calm_place (later ++ place) is) here.brief (sym (is_made-tick place b.queue b.cur) ∙ across.unclosed)
+        at_later event.ev_txid b.queue b.cur later place (calm_place (later ++ place) is) (or_left (event.ev_txid == event.ev_txid) (has_put event.ev_txid below) (same-session event.ev_txid)) here.brief (sym (is_made-tick place b.queue b.cur) ∙ across.unclosed)
         (sym (is_made-tick (later ++ place) b.queue b.cur) ∙ across.closed)
 
     from : has_committed (at_tick b.queue b.prev (later ++ place)) event.ev_txid ≡ false

@@ -9,7 +9,7 @@ use Rattle.sky_model.specs.History.{Mark, ended, tabled, wrote, History, began}
 use Rattle.sky_model.specs.Transactions.{next_txid, has_ended}
 use Rattle.sky_model.specs.Rows.{committed, writes as writes_of}
 use Rattle.sky_model.specs.Versions.{versions}
-use Rattle.sky_model.proofs.Legal.{Fine, writes, Legal, start, next, copies_row}
+use Rattle.sky_model.proofs.Legal.{Fine, writes, Legal, start, next, copies_row, applies_row}
 use Rattle.sky_model.proofs.Snapshots.{contains-push, sound, runs-below, copy-runs}
 
 -- the versions of a table are in the order of their keys
@@ -36,6 +36,7 @@ begun_step : (h : History) (mark : Mark) → Fine h mark → Legal h → Begun h
 begun_step h (began whose t) fine l b = λ table u le. b table u (omega arith)
 begun_step h _ (writes who t n key old new e free stands) l b = λ table u le. grind (arith, nat_tests, b table u le, runs-below h (sound h l) t ((sound h l).owns who t e))
 begun_step h _ (copies_row n t key old new is) l b = λ table u le. grind (arith, nat_tests, b table u le, runs-below h (sound h l) t (copy-runs h (sound h l) n t is.runs))
+begun_step h _ (applies_row n t key old new is) l b = λ table u le. grind (arith, nat_tests, b table u le, runs-below h (sound h l) t ((sound h l).works t is.brief.work.works))
 begun_step h _ _ l b = b
 
 pub begun : (h : History) → Legal h → Begun h

@@ -7,7 +7,7 @@ use Rattle.sky_model.specs.declared.stmt.RowStmt.TheVariants.{OpenDb}
 use Rattle.sky_model.specs.declared.stmt.Attempt.{Attempt}
 use Rattle.sky_model.specs.declared.reply.Refusal.{Refusal}
 use Rattle.std.proofs.lemmas.Bool.{and_parts}
-use Rattle.sky_model.specs.History.{Mark, looked, tabled, read_only, queued, noded, root_made, returned, traced, untraced, of_copy, began, ended}
+use Rattle.sky_model.specs.History.{Mark, looked, tabled, wrote, read_only, queued, noded, root_made, returned, traced, untraced, of_worker, of_copy, began, ended}
 use Rattle.sky_model.specs.Sessions.{Block}
 use Rattle.sky_model.specs.State.{RowPart}
 use Rattle.sky_model.specs.ShownRows.{KeyShown, RowsShown}
@@ -26,11 +26,12 @@ abbrev pub is_of_rows : Mark → Bool
 is_of_rows (queued mark) = false
 is_of_rows (noded mark) = false
 is_of_rows (tabled (read_only table on)) = false
+is_of_rows (tabled (wrote of_worker t table key old new)) = false
 is_of_rows (began (of_copy table) t) = false
 is_of_rows (ended (of_copy table) t committed) = false
 is_of_rows _ = true
 
--- none of the marks is a queue's, the node's or a copy's, and none says who may write a table
+-- none of the marks is a queue's, the node's or a copy's, none is a worker's write, and none says who may write a table
 abbrev pub RowMarks : List Mark → Type 0
 RowMarks marks = EachMark is_of_rows marks
 
@@ -50,6 +51,7 @@ rows-if k none who (queued mark) e = absurd (cc)
 rows-if k none who (noded (root_made name queue)) e = absurd (cc)
 rows-if k none who (noded mark) e = absurd (cc)
 rows-if k none who (tabled (read_only table on)) e = absurd (cc)
+rows-if k none who (tabled (wrote of_worker t table key old new)) e = absurd (cc)
 rows-if k none who (began (of_copy table) t) e = absurd (cc)
 rows-if k none who (ended (of_copy table) t committed) e = absurd (cc)
 rows-if k none who _ e = refl

@@ -60,11 +60,11 @@ pub runs-unended : (h : History) → Sound h → (t : ℕ) → contains t (runni
 runs-unended h s t runs = not-true (has_ended h t) (and_parts (nat_lt t (next_txid h)) (not (has_ended h t)) (sym (s.runs t) ∙ runs)).1
 
 -- a copy more, or without that of a transaction
-copys-push : (t : ℕ) (cs : List Copy) (c : Copy) → is_copys t (cs ++ c ∷ []) ≡ (is_copys t cs || c.txid == t)
+pub copys-push : (t : ℕ) (cs : List Copy) (c : Copy) → is_copys t (cs ++ c ∷ []) ≡ (is_copys t cs || c.txid == t)
 copys-push t [] c = grind arith
 copys-push t (x ∷ cs) c = grind (arith, copys-push t cs c)
 
-copys-without : (t u : ℕ) (cs : List Copy) → is_copys u (without_copy t cs) ≡ (is_copys u cs && not (u == t))
+pub copys-without : (t u : ℕ) (cs : List Copy) → is_copys u (without_copy t cs) ≡ (is_copys u cs && not (u == t))
 copys-without t u [] = refl
 copys-without t u (x ∷ cs) = grind (arith, nat_tests, copys-without t u cs)
 

@@ -154,6 +154,7 @@ no_more = record { moves = false; writes = false; blocks = false; wakes = false;
 abbrev pub may_leave : Kinds → ℕ → Mark → Bool
 may_leave k who (connected v) = k.moves
 may_leave k who (disconnected v) = k.moves
+may_leave k who (tabled (wrote of_worker t table key old new)) = false
 may_leave k who (tabled (wrote whose t table key old new)) = k.writes
 may_leave k who (tabled (waits v table key attempt)) = k.blocks && v == who
 may_leave k who (tabled (waited v)) = k.wakes
@@ -563,6 +564,7 @@ module _ {P : Type 0} (p : Mark → Bool) (wakes : (who : ℕ) → p (tabled (wa
       behind = r.behind x (tabled (waited w.who))
 
       plain : (who : ℕ) (mark : Mark) → may_leave no_more who mark ≡ true → p mark ≡ true
+      plain who (tabled (wrote of_worker t table key old new)) e = absurd (cc)
       plain who (tabled (wrote whose t table key old new)) e = absurd (cc)
       plain who (tabled (waits v table key attempt)) e = absurd (cc)
       plain who mark e = tried who mark e

@@ -84,6 +84,9 @@ for-nodes (noded mark) e = refl
 for-nodes (began (of_copy table) t) e = refl
 for-nodes (ended (of_copy table) t committed) e = refl
 for-nodes (tabled (wrote (of_copy n) t table key old new)) e = refl
+for-nodes (began of_worker t) e = refl
+for-nodes (ended of_worker t committed) e = refl
+for-nodes (tabled (wrote of_worker t table key old new)) e = refl
 for-nodes _ e = absurd (cc)
 
 pub each-served : (h : History) (call : NodeCall) → EachMark (may_do inside 0) (database_does database_by_history h (served call)).marks

@@ -106,7 +106,7 @@ fit-step h _ (guards _ _ (at_joining table last unused)) all = λ k d within. st
     still w apart is =
         let turned : (table == w.table) ≡ false = grind (arith, nat_tests) in
         record { within = is.within; writable = λ leaf. ap (λ b. if b then true else is_read_only w.table h) turned ∙ is.writable leaf; fits = is.fits; is_open = is.is_open }
-fit-step h _ (guards _ _ (at_leaving table last uncopied)) all = All-weaker (EntryFits h) (EntryFits (tabled (read_only table false) ∷ h)) still (waiting h) all
+fit-step h _ (guards _ _ (at_leaving table last uncopied unwritten)) all = All-weaker (EntryFits h) (EntryFits (tabled (read_only table false) ∷ h)) still (waiting h) all
   where
     still : (w : Waiting) → EntryFits h w → EntryFits (tabled (read_only table false) ∷ h) w
     still w is = record {

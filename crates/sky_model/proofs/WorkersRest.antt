@@ -1,7 +1,8 @@
 -- A worker's transaction begins and commits in one turn, without a tick or a new retry in between; and retries come back at the moment of their call.
-use Rattle.std.proofs.Common.{◌≡◌, ℕ, zero, suc, ℤ, List, [], ◌∷◌, ◌++◌, Bool, true, false, ◌&&◌, not, filter, Option, Some, None, Ok, Err, length, nat_le, refl, sym, ap, subst, ◌∙◌, arith, All, Contains, ◌==◌, ◌+◌, ◌^◌, ◌<◌, ◌≤◌, if◌then◌else◌}
+use Rattle.std.specs.List.{list_any}
+use Rattle.std.proofs.Common.{◌≡◌, ℕ, zero, suc, ℤ, ◌||◌, List, [], ◌∷◌, ◌++◌, Bool, true, false, ◌&&◌, not, filter, Option, Some, None, Ok, Err, length, nat_le, append_assoc, refl, sym, ap, subst, ◌∙◌, arith, All, Contains, ◌==◌, ◌+◌, ◌^◌, ◌<◌, ◌≤◌, if◌then◌else◌}
 use Rattle.std.proofs.lemmas.Bool.Decides.{nat_tests}
-use Rattle.std.proofs.lemmas.Bool.{cond_both, and_parts}
+use Rattle.std.proofs.lemmas.Bool.{cond_both, and_parts, false_from_ne_true}
 use Rattle.std.proofs.lemmas.List.Elements.{All-head, All-tail, All-contains}
 use Rattle.sky_val.specs.declared.event.Event.{Event}
 use Rattle.sky_txid.specs.Ids.{contains}
@@ -16,18 +17,19 @@ use Rattle.sky_model.specs.declared.stmt.RowStmt.TheVariants.{OpenDb, Close, Can
 use Rattle.sky_model.specs.declared.stmt.Stmt.TheVariants.{Row, MaintRetryEvents, MaintRotateStep2}
 use Rattle.sky_model.specs.declared.daemon.DaemonPart.{DaemonPart}
 use Rattle.sky_model.specs.declared.daemon.DaemonPart.TheVariants as part
-use Rattle.sky_model.specs.declared.reply.Reply.TheVariants.{Number}
+use Rattle.sky_model.specs.declared.reply.Reply.TheVariants.{Number, Null}
 use Rattle.sky_model.specs.declared.reply.HeldBack.{HeldBack}
-use Rattle.sky_model.specs.History.{Mark, QueueMark, of_worker, began, ended, looked, queued, made, put, ticked, asked, returned, switching, switched, History}
+use Rattle.sky_model.specs.History.{Mark, QueueMark, Pick, of_worker, tabled, wrote, noded, applied, began, ended, looked, queued, made, put, ticked, asked, returned, switching, switched, History}
 use Rattle.sky_model.specs.Transactions.{next_txid}
 use Rattle.sky_model.specs.Sessions.{Session, session, has_open, block, own_txid}
 use Rattle.sky_model.specs.Locks.{waiting}
 use Rattle.sky_model.specs.Queues.{NamedQueue, queues, events}
 use Rattle.sky_model.specs.Retries.{retries, brought_by}
 use Rattle.sky_model.specs.OwnTransaction.{next_id}
-use Rattle.sky_model.specs.State.{Database, part_of, queue_of, database_of}
+use Rattle.sky_model.specs.State.{RowPart, part_of, after_part, Database, queue_of, database_of}
+use Rattle.sky_model.specs.Nodes.{node}
 use Rattle.sky_model.specs.Printed.{ReplyHasMoments}
-use Rattle.sky_model.specs.Outcome.{Outcome, Checked, ◌>>=◌, ◌>>◌, refused_if, does_marks, marks_of, reply_of, abort, or_refused}
+use Rattle.sky_model.specs.Outcome.{Outcome, Checked, ◌>>=◌, ◌>>◌, refused_if, answers, does_marks, marks_of, reply_of, abort, or_refused}
 use Rattle.sky_model.specs.Allowed.{where_of, allowed}
 use Rattle.sky_model.specs.Made.{takes_sight, looking, runs_if}
 use Rattle.sky_model.specs.StepQueue.{next_tick}
@@ -38,21 +40,22 @@ use Rattle.sky_model.specs.Settling.{Turn, turn_of, behind_marks, marked, and_th
 use Rattle.sky_model.specs.Daemon.{quietly, ticks_of, moved_by, again_if, retries_of, first_steps_of, second_step_of_all, daemon_does}
 use Rattle.sky_model.specs.Calls.{form, making, statement}
 use Rattle.sky_model.specs.SessionMarks.{look_of, failure, entry_place, enters, failing}
-use Rattle.sky_model.specs.Promises.{after_all}
-use Rattle.sky_model.specs.StepNode.{node_does}
-use Rattle.sky_model.proofs.NodeCalls.{is_for_nodes, each-node}
-use Rattle.sky_model.specs.DatabaseCalls.{DatabaseCall, stepped, entered, failed as failed_call, worked, served, database_does, database_part}
+use Rattle.sky_model.specs.StepApply.{picked, applies_events, applies_in, ends_applying, applies_picked, is_of_copied, applies_batch}
+use Rattle.sky_model.specs.StepNode.{NodeCall, applying, may_serve, node_does}
+use Rattle.sky_model.proofs.NodeCalls.{is_for_others, each-other}
+use Rattle.sky_model.proofs.ApplyCalls.{is_written, each-event}
+use Rattle.sky_model.specs.DatabaseCalls.{DatabaseCall, stepped, entered, failed as failed_call, worked, served, database_does}
 use Rattle.sky_model.proofs.Lawful.{database-reads, past-behind, maint_may}
 use Rattle.sky_model.specs.LawsOfRetries.{IsRetry}
 use Rattle.sky_model.proofs.Resting.{behind-append}
-use Rattle.sky_model.proofs.Cases.{by_test}
-use Rattle.sky_model.proofs.Legal.{looks, Legal, next, brief}
+use Rattle.sky_model.proofs.Cases.{by_test, by_same}
+use Rattle.sky_model.proofs.Legal.{looks, puts, puts_back, Legal, start, next, brief}
+use Rattle.sky_model.proofs.Snapshots.{sound, runs-below}
 use Rattle.sky_model.proofs.LawfulTelling.{legal_behind}
 use Rattle.sky_model.proofs.RetryCopies.{copies}
 use Rattle.sky_model.proofs.RetriesBack.{AreBack, due-back}
 use Rattle.sky_model.proofs.EventsBegun.{events-begun}
-use Rattle.sky_model.proofs.Histories.{legal_calls}
-use Rattle.sky_model.proofs.StatementMarks.{EachMark, each-first, each-rest, each-given, AnyReply, Gives, gives-map, gives-tick, gives-tells, Kinds, no_more, is_common, may_leave, attempt_kinds, row_kinds, kinds, gives-form, each-abort, each-failure, settling-gives}
+use Rattle.sky_model.proofs.StatementMarks.{EachMark, each-map, each-first, each-rest, each-given, AnyReply, Gives, gives-map, gives-tick, gives-tells, Kinds, no_more, is_common, may_leave, attempt_kinds, row_kinds, kinds, gives-form, each-abort, each-failure, settling-gives}
 
 -- no mark of a worker's transaction, and none by which a retry comes back
 abbrev pub is_no_work : Mark → Bool
@@ -99,6 +102,12 @@ hits-push sub id t (x ∷ es) e = let ih = hits-push sub id t es e in grind (ari
 abbrev pub IsNew : History → ℕ → Event → Type 0
 IsNew h q e = (sub : ℕ) → is_for sub e.ev_owner ≡ true → hits sub e.ev_id e.ev_txid (events q h) ≡ 0
 
+-- whether a transaction has put an event
+abbrev pub has_put : ℕ → History → Bool
+has_put t [] = false
+has_put t (queued (put q event) ∷ h) = event.ev_txid == t || has_put t h
+has_put t (_ ∷ h) = has_put t h
+
 -- what a worker's transaction leaves besides its beginning and end, and events
 abbrev is_at_work : Mark → Bool
 is_at_work (queued (ticked q id time seq)) = false
@@ -106,16 +115,18 @@ is_at_work (queued (asked retry)) = false
 is_at_work (queued (put q event)) = false
 is_at_work (queued (made name t time)) = false
 is_at_work (queued mark) = true
+is_at_work (tabled (wrote whose t table key old new)) = true
 is_at_work _ = false
 
--- each tick was made, each queue too, and each retry asked for, while no worker's transaction was running; those commit, and put no event twice
+-- each tick was made, each queue too, and each retry asked for, while no worker's transaction was running; those commit that have put events, and put none
+-- twice
 abbrev pub Calm : History → Type 0
 Calm [] = Unit {0}
 Calm (queued (ticked q id time seq) ∷ h) = (brief h ≡ []) × Calm h
 Calm (queued (asked retry) ∷ h) = (brief h ≡ []) × Calm h
 Calm (queued (put q event) ∷ h) = (contains event.ev_txid (brief h) ≡ true → IsNew h q event) × Calm h
 Calm (queued (made name t time) ∷ h) = (brief h ≡ []) × Calm h
-Calm (ended of_worker t committed ∷ h) = (committed ≡ true) × Calm h
+Calm (ended of_worker t committed ∷ h) = (committed ≡ false → has_put t h ≡ false) × Calm h
 Calm (_ ∷ h) = Calm h
 
 -- and none is running now
@@ -150,16 +161,41 @@ works-mark h t (queued (asked retry)) all w = absurd all
 works-mark h t (queued (put q event)) all w = absurd all
 works-mark h t (queued (made name u time)) all w = absurd all
 works-mark h t (queued mark) all w = record { calm = w.calm; one = w.one }
+works-mark h t (tabled (wrote whose u table key old new)) all w = record { calm = w.calm; one = w.one }
 works-mark h t _ all w = absurd all
 
-works-marks : (h : History) (t : ℕ) (marks : List Mark) → EachMark is_at_work marks → Works h t → Rests (marked h (marks ++ ended of_worker t true ∷ []))
-works-marks h t [] all w = record { calm = (refl, w.calm); idle = ap (filter (λ u. not (u == t))) w.one ∙ grind (arith, nat_tests) }
-works-marks h t (mark ∷ marks) all w =
-    works-marks (mark ∷ h) t marks (each-rest is_at_work mark marks all) (works-mark h t mark (each-first is_at_work mark marks [] all tt) w)
+works-marks : (h : History) (t : ℕ) (committed : Bool) (marks : List Mark) → EachMark is_at_work marks → (committed ≡ false → has_put t h ≡ false) → Works h t → Rests (marked h (marks ++ ended of_worker t committed ∷ []))
+works-marks h t committed [] all unput w = record { calm = (unput, w.calm); idle = ap (filter (λ u. not (u == t))) w.one ∙ grind (arith, nat_tests) }
+works-marks h t committed (mark ∷ marks) all unput w =
+    works-marks (mark ∷ h) t committed marks (each-rest is_at_work mark marks all) (λ e. unput-mark h t mark (each-first is_at_work mark marks [] all tt) ∙ unput e) (works-mark h t mark (each-first is_at_work mark marks [] all tt) w)
+  where
+    unput-mark : (h : History) (t : ℕ) (mark : Mark) → EachMark is_at_work (mark ∷ []) → has_put t (mark ∷ h) ≡ has_put t h
+    unput-mark h t (queued (put q event)) all = absurd all
+    unput-mark h t _ all = refl
+
+-- a transaction that has put an event has begun
+put-begun : (h : History) → Legal h → (t : ℕ) → has_put t h ≡ true → t < next_txid h
+put-begun [] start t is = absurd (cc)
+put-begun (began whose u ∷ h) (next l fine) t is = omega (arith, put-begun h l t is)
+put-begun _ (next {h = h} l (puts who q event i at mine newest)) t is =
+    by_same (λ b. (b || has_put t h) ≡ true → t < next_txid h) event.ev_txid t
+    (λ same _. subst (λ k. k < next_txid h) same (runs-below h (sound h l) event.ev_txid ((sound h l).owns who event.ev_txid mine))) (λ _ is. put-begun h l t is) is
+put-begun _ (next {h = h} l (puts_back retry u back)) t is =
+    by_same (λ b. (b || has_put t h) ≡ true → t < next_txid h) u t
+    (λ same _. subst (λ k. k < next_txid h) same (runs-below h (sound h l) u ((sound h l).works u back.works))) (λ _ is. put-begun h l t is) is
+put-begun _ (next {h = h} l _) t is = put-begun h l t is
 
 -- a worker's transaction, from its beginning to its end
 rests-work : (h : History) (t : ℕ) (marks : List Mark) → EachMark is_at_work marks → Rests h → Rests (marked h (began of_worker t ∷ marks ++ ended of_worker t true ∷ []))
-rests-work h t marks all r = works-marks (began of_worker t ∷ h) t marks all (record { calm = r.calm; one = ap (λ ts. ts ++ t ∷ []) r.idle })
+rests-work h t marks all r = works-marks (began of_worker t ∷ h) t true marks all (λ never. absurd (cc)) (record { calm = r.calm; one = ap (λ ts. ts ++ t ∷ []) r.idle })
+
+-- one that puts no event, whether it commits or not
+rests-unput : (h : History) → Legal h → (committed : Bool) (marks : List Mark) → EachMark is_at_work marks → Rests h
+    → Rests (marked h (began of_worker (next_txid h) ∷ marks ++ ended of_worker (next_txid h) committed ∷ []))
+rests-unput h l committed marks all r =
+    works-marks (began of_worker (next_txid h) ∷ h) (next_txid h) committed marks all
+    (λ _. false_from_ne_true (has_put (next_txid h) h) (λ is. let below = put-begun h l (next_txid h) is in absurd (omega (arith, below))))
+    (record { calm = r.calm; one = ap (λ ts. ts ++ next_txid h ∷ []) r.idle })
 
 -- ---- what workers do
 
@@ -173,7 +209,7 @@ length-kept : (test : Bool) (r : Retry) (rs : List Retry) → length (if test th
 length-kept test r rs = grind arith
 
 works-back : (h : History) (t : ℕ) (now : ℤ) (rs : List Retry) → Brings h t rs → Rests (marked h (back now t rs ++ ended of_worker t true ∷ []))
-works-back h t now [] b = works-marks h t [] tt b.works
+works-back h t now [] b = works-marks h t true [] tt (λ never. absurd (cc)) b.works
 works-back h t now (r ∷ rs) b =
     works-back behind t now rs (record { works = record { calm = (λ _. new, b.works.calm); one = b.works.one }; few = few; owned = All-tail (λ r. r.event.ev_owner ≡ Some r.sub) r rs b.owned })
   where
@@ -353,23 +389,54 @@ rests-enters h r who true (Ok _) = rests-mark h (looked who) tt r
 rests-enters h r who false (Ok _) = r
 rests-enters h r who sight (Err refusal) = r
 
-for-nodes : (mark : Mark) → is_for_nodes mark ≡ true → is_no_work mark ≡ true
-for-nodes (began of_worker t) e = absurd (cc)
-for-nodes (ended of_worker t committed) e = absurd (cc)
-for-nodes (queued (returned retry moment)) e = absurd (cc)
-for-nodes _ e = refl
+for-others : (mark : Mark) → is_for_others mark ≡ true → is_no_work mark ≡ true
+for-others (began of_worker t) e = absurd (cc)
+for-others (ended of_worker t committed) e = absurd (cc)
+for-others (queued (returned retry moment)) e = absurd (cc)
+for-others _ e = refl
 
-rests-does : (h : History) → Legal h → Rests h → (call : DatabaseCall) → Rests (marked h (database_does database_by_history h call).marks)
+each-written : (d : RowPart) (t : ℕ) (events : List Event) → EachMark is_at_work (applies_events d t events).marks
+each-written d t events = each-map is_written is_at_work written-too (applies_events d t events).marks (each-event d t events)
+  where
+    written-too : (mark : Mark) → is_written mark ≡ true → is_at_work mark ≡ true
+    written-too (tabled (wrote of_worker u table key old new)) e = refl
+    written-too _ e = absurd (cc)
+
+-- a batch is applied in one transaction of a worker
+rests-ends : (h : History) → Legal h → Rests h → (pick : Pick) (tick many : ℕ) (marks : List Mark) → EachMark is_at_work marks → (bad : Option ℕ)
+    → Rests (marked h (marks_of (ends_applying pick tick (next_txid h) many marks bad)))
+rests-ends h l r pick tick many marks all None =
+    subst (λ ms. Rests (marked h ms)) (append_assoc (began of_worker (next_txid h) ∷ marks) (ended of_worker (next_txid h) true ∷ []) (noded (applied pick tick) ∷ []))
+    (subst Rests (sym (behind-append part_by_history h (began of_worker (next_txid h) ∷ marks ++ ended of_worker (next_txid h) true ∷ []) (noded (applied pick tick) ∷ [])))
+    (rests-mark (marked h (began of_worker (next_txid h) ∷ marks ++ ended of_worker (next_txid h) true ∷ [])) (noded (applied pick tick)) tt (rests-unput h l true marks all r)))
+rests-ends h l r pick tick many marks all (Some id) = rests-unput h l false marks all r
+
+rests-picked : (h : History) → Legal h → Rests h → (pick : Pick) (tick : ℕ) (events : List Event) → Rests (marked h (marks_of (applies_picked (database_of h) pick tick events)))
+rests-picked h l r pick tick events = of (nat_le (2 ^ 62) (next_txid h))
+  where
+    of : (spent : Bool) → Rests (marked h (marks_of ((refused_if spent TxidsSpent >> Ok (next_txid h)) >>= (λ t. ends_applying pick tick t (length events) (applies_in (part_of h) t events).marks (applies_in (part_of h) t events).bad))))
+    of true = r
+    of false =
+        rests-ends h l r pick tick (length events) (applies_in (part_of h) (next_txid h) events).marks (each-written (after_part (part_of h) (began of_worker (next_txid h))) (next_txid h) events)
+        (applies_in (part_of h) (next_txid h) events).bad
+
+rests-applies : (h : History) → Legal h → Rests h → (pick : Pick) (tick : ℕ) (events : List Event) → Rests (marked h (marks_of (applies_batch (database_of h) pick tick events)))
+rests-applies h l r pick tick events =
+    cond_both (list_any (is_of_copied (database_of h)) (picked (node h) pick events)) (answers Null) (applies_picked (database_of h) pick tick (picked (node h) pick events)) (λ c. Rests (marked h (marks_of c)))
+    (λ _. r) (λ _. rests-picked h l r pick tick (picked (node h) pick events))
+
+rests-served : (h : History) → Legal h → Rests h → (call : NodeCall) → Rests (marked h (marks_of (node_does (database_of h) call)))
+rests-served h l r (applying events pick tick) =
+    cond_both (may_serve (applying events pick tick) (node h)) (applies_batch (database_of h) pick tick events) (answers Null) (λ c. Rests (marked h (marks_of c))) (λ _. rests-applies h l r pick tick events) (λ _. r)
+rests-served h l r call = rests-marks h (marks_of (node_does (database_of h) call)) (each-other is_no_work for-others (database_of h) call refl) r
+
+-- after a call no worker's transaction is running, if none was before
+pub rests-does : (h : History) → Legal h → Rests h → (call : DatabaseCall) → Rests (marked h (database_does database_by_history h call).marks)
 rests-does h l r (stepped who stmt now) = rests-settling now h (turn_of who (statement database_by_history h now who stmt)) (rests-statement h l r now who stmt)
 rests-does h l r (entered who alone) =
     rests-enters h r who (takes_sight (entry_place alone) (session h who).sight) (allowed (is_waiting who (waiting h)) (has_open who h) (block who h) (entry_place alone))
 rests-does h l r (worked work now) = rests-daemon h l r work now
-rests-does h l r (served call) = rests-marks h (marks_of (node_does (database_of h) call)) (each-node is_no_work for-nodes (database_of h) call) r
+rests-does h l r (served call) = rests-served h l r call
 rests-does h l r (failed_call who now) =
     rests-settling now h (failing (part_of h) who)
     (rests-marks h (failure who (own_txid who h) (block who h)) (each-failure AnyReply is_no_work (λ _. tt) (no_work-if no_more refl) who (own_txid who h) (block who h)) r)
-
--- after calls no worker's transaction is running
-pub rests_calls : (calls : List DatabaseCall) → Rests (after_all database_part calls)
-rests_calls [] = record { calm = tt; idle = refl }
-rests_calls (call ∷ calls) = rests-does (after_all database_part calls) (legal_calls calls) (rests_calls calls) call

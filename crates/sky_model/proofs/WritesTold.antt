@@ -195,7 +195,8 @@ enters-told h told who sight (Err refusal) = told
 nodes-told : (h : History) (marks : List Mark) → EachMark is_for_nodes marks → AllTold h → AllTold (marked h marks)
 nodes-told h [] all told = told
 nodes-told h (tabled (wrote (of_session who) t table key old new) ∷ marks) all told = absurd all
-nodes-told h (tabled (wrote of_worker t table key old new) ∷ marks) all told = absurd all
+nodes-told h (tabled (wrote of_worker t table key old new) ∷ marks) all told =
+    let write : Mark = tabled (wrote of_worker t table key old new) in nodes-told (write ∷ h) marks all (write-told h (pos 0) write [] refl told)
 nodes-told h (tabled (wrote (of_copy n) t table key old new) ∷ marks) all told =
     let write : Mark = tabled (wrote (of_copy n) t table key old new) in nodes-told (write ∷ h) marks all (write-told h (pos 0) write [] refl told)
 nodes-told h (mark ∷ marks) all told = nodes-told (mark ∷ h) marks (each-rest is_for_nodes mark marks all) (plain-told h (mark ∷ []) tt told)

@@ -12,7 +12,7 @@ use Rattle.sky_keys.specs.declared.version.Version.{Version}
 use Rattle.sky_keys.specs.Versions.{with_version, without, version_of, newest_from, newest_by, own_version, row_of, read}
 use Rattle.sky_txid.specs.Snapshot.{SnapshotView, sees}
 use Rattle.sky_keys.proofs.EntryLemmas.{key_ties-is, versions_at-forgotten}
-use Rattle.sky_model.specs.History.{Mark, Whose, of_session, ended, tabled, table_made, wrote, History, of_copy}
+use Rattle.sky_model.specs.History.{Mark, Whose, of_session, ended, tabled, table_made, wrote, History, of_worker, of_copy}
 use Rattle.sky_model.specs.Transactions.{has_ended}
 use Rattle.sky_model.specs.Sessions.{own_txid}
 use Rattle.sky_model.specs.Rows.{table_names, columns_of, rows_standing}
@@ -21,7 +21,7 @@ use Rattle.sky_model.specs.Versions.{versions}
 use Rattle.sky_model.specs.State.{part_of}
 use Rattle.sky_model.specs.ShownRows.{RowsShown, rows_by, snapshot_now}
 use Rattle.sky_model.specs.LawsOfWrites.{IsRowOf, WritesNameWhatStands, WrittenRowsFit, StandingRowsFit}
-use Rattle.sky_model.proofs.Legal.{Replaces, Fine, makes_table, writes, Legal, start, next, legal-below_mark, fine_mark, copies_row}
+use Rattle.sky_model.proofs.Legal.{Replaces, Fine, makes_table, writes, Legal, start, next, legal-below_mark, fine_mark, copies_row, applies_row}
 use Rattle.sky_model.proofs.SnapshotLaws.{legal_place}
 use Rattle.sky_model.proofs.Cases.{if_or}
 use Rattle.sky_model.proofs.RowKeys.{is_in_order-versions}
@@ -128,6 +128,7 @@ left-step h _ (makes_table name columns new) l all = left-same h (tabled (table_
 left-step h _ (writes who t n at_key old new mine free stands) l all =
     left-written h l all (of_session who) t n at_key old new (alone h l (writes who t n at_key old new mine free stands)) stands.within (new-fits h all who n at_key old new stands)
 left-step h _ (copies_row n t at_key old new is) l all = left-written h l all (of_copy n) t n at_key old new (alone h l (copies_row n t at_key old new is)) is.within is.fits
+left-step h _ (applies_row n t at_key old new is) l all = left-written h l all of_worker t n at_key old new (alone h l (applies_row n t at_key old new is)) is.within is.fits
 left-step h (ended whose t false) fine l all = λ table key.
     subst (All (Left (ended whose t false ∷ h) table key)) (sym (versions_at-forgotten t key (versions table h) (is_in_order-versions table h)))
     (all-without (Left (ended whose t false ∷ h) table key) t (kept h table key)
@@ -153,6 +154,7 @@ fits-written : (h : History) (whose : Whose) (t table : ℕ) (key : List Val) (o
     → IfSome new (IsRowOf (columns_of table h) key)
 fits-written h _ _ _ _ _ _ l (writes who t table key old new mine free is) = new-fits h (all-left h l) who table key old new is
 fits-written h _ _ _ _ _ _ l (copies_row table t key old new is) = is.fits
+fits-written h _ _ _ _ _ _ l (applies_row table t key old new is) = is.fits
 
 pub written_rows_fit : WrittenRowsFit
 written_rows_fit p whose t table key old new is =

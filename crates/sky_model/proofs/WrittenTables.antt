@@ -5,7 +5,7 @@ use Rattle.sky_val.specs.declared.val.Val.{Val}
 use Rattle.sky_model.specs.History.{Whose, ended, tabled, wrote, History}
 use Rattle.sky_model.specs.Transactions.{has_ended, running}
 use Rattle.sky_model.specs.Rows.{Write, writes as writes_of, wrote_in, has_written}
-use Rattle.sky_model.proofs.Legal.{Fine, writes, Legal, legal-below_mark, fine_mark, copies_row}
+use Rattle.sky_model.proofs.Legal.{Fine, writes, Legal, legal-below_mark, fine_mark, copies_row, applies_row}
 use Rattle.sky_model.proofs.Snapshots.{own-unended, sound, runs-unended, copy-runs}
 use Rattle.std.proofs.lemmas.List.Elements.{All-nil, All-cons, All-head, All-tail}
 use Rattle.sky_txid.specs.Ids.{contains}
@@ -17,6 +17,7 @@ use Rattle.sky_model.proofs.Cases.{by_test, by_same}
 writer-runs : (h : History) → Legal h → {whose : Whose} {u n : ℕ} {key : List Val} {old new : Option (List Val)} → Fine h (tabled (wrote whose u n key old new)) → has_ended h u ≡ false
 writer-runs h l (writes who u _ _ _ _ mine free stands) = own-unended h l who u mine
 writer-runs h l (copies_row n u _ _ _ is) = runs-unended h (sound h l) u (copy-runs h (sound h l) n u is.runs)
+writer-runs h l (applies_row n u _ _ _ is) = runs-unended h (sound h l) u ((sound h l).works u is.brief.work.works)
 
 -- whether there is a write
 abbrev pub some : List Write → Bool

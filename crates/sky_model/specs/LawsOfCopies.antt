@@ -1,20 +1,22 @@
 -- The laws on copies of tables, and on held snapshots, at each place of each history that calls make.
-use Rattle.std.specs.Prelude.{◌≡◌, ℕ, ◌<◌, true, false, List, [], ◌∷◌, ◌++◌, Option, Some, None, map}
+use Rattle.std.specs.Prelude.{◌≡◌, ℕ, ◌<◌, true, false, ◌&&◌, List, [], ◌∷◌, ◌++◌, Option, Some, None, is_none, map, filter}
 use Rattle.sky_val.specs.declared.val.Val.{Val}
 use Rattle.sky_val.specs.Entries.{at}
 use Rattle.sky_keys.specs.Versions.{rows_read}
 use Rattle.sky_names.specs.Places.{place_of}
 use Rattle.sky_txid.specs.Ids.{contains}
 use Rattle.sky_txid.specs.Snapshot.{SnapshotView}
+use Rattle.londiste_state.specs.Nodes.{LeafTable, Node, of_leaf}
 use Rattle.sky_model.specs.History.{Mark, of_copy, ended, tabled, wrote, noded, copied, hold_begun, History}
 use Rattle.sky_model.specs.Transactions.{running, snapshot}
 use Rattle.sky_model.specs.Copies.{copies, is_copied_by, Hold, holds}
 use Rattle.sky_model.specs.Rows.{table_names, is_read_only, writes, put_all, rows, rows_with_own}
 use Rattle.sky_model.specs.Versions.{versions}
 use Rattle.sky_model.specs.Locks.{holder}
-use Rattle.sky_model.specs.Nodes.{node, is_leaf, leaf_tables}
+use Rattle.sky_model.specs.Nodes.{node, is_leaf}
 use Rattle.sky_model.specs.State.{part_of}
 use Rattle.sky_model.specs.StepCopy.{rows_now}
+use Rattle.sky_model.specs.StepNode.{is_in_copy}
 use Rattle.sky_model.specs.LawsOfNodes.{is_one_of}
 use Rattle.sky_model.specs.Promises.{after_all}
 use Rattle.sky_model.specs.DatabaseCalls.{DatabaseCall, database_part}
@@ -33,10 +35,15 @@ pub record RunsAlone (p : History) (table t : ℕ) : Type 0 where
 abbrev pub CopiesRunAlone : Type 0
 CopiesRunAlone = (p : History) → IsPlace p → (table t : ℕ) → is_copied_by table t (copies p) ≡ true → RunsAlone p table t
 
--- after calls its table is one of the leaf
-abbrev pub CopiesAreOfLeafTables : Type 0
-CopiesAreOfLeafTables = (calls : List DatabaseCall) → (let h : History = after_all database_part calls in
-    (table t : ℕ) → is_copied_by table t (copies h) ≡ true → is_one_of (table_names h) (leaf_tables (node h)) table ≡ true)
+-- the names of a leaf's tables that are being copied, and haven't been before
+abbrev pub in_copy_tables : Option Node → List (List ℕ)
+in_copy_tables (Some (of_leaf l)) = map LeafTable.name (filter (λ t. is_in_copy t.state && is_none t.snapshot) l.tables)
+in_copy_tables _ = []
+
+-- after calls its table is one of these
+abbrev pub CopiesAreOfTablesInCopy : Type 0
+CopiesAreOfTablesInCopy = (calls : List DatabaseCall) → (let h : History = after_all database_part calls in
+    (table t : ℕ) → is_copied_by table t (copies h) ≡ true → is_one_of (table_names h) (in_copy_tables (node h)) table ≡ true)
 
 -- the rows that it deletes when it begins are those of the table
 abbrev pub CopiesDeleteWhatStands : Type 0

@@ -35,6 +35,7 @@ pub mod StepConsumer
 pub mod StepRetry
 pub mod StepRotation
 pub mod StepCopy
+pub mod StepApply
 pub mod StepNode
 pub mod CopyMoves
 pub mod Telling
@@ -66,6 +67,7 @@ pub mod LawsOfLocks
 pub mod LawsOfWrites
 pub mod LawsOfNodes
 pub mod LawsOfCopies
+pub mod LawsOfApplying
 pub mod Steps
 pub mod LawsOfHistories
 pub mod LawsOfDaemons

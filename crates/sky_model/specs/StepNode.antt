@@ -3,6 +3,7 @@ use Rattle.std.specs.Prelude.{ℕ, ℤ, List, [], ◌∷◌, ◌++◌, Bool, fal
 use Rattle.sky_urlenc.specs.RowEvents.{Trigger}
 use Rattle.sky_names.specs.Places.{place_of}
 use Rattle.sky_val.specs.declared.val.Val.{Val}
+use Rattle.sky_val.specs.declared.event.Event.{Event}
 use Rattle.sky_txid.specs.Snapshot.{SnapshotView}
 use Rattle.londiste_state.specs.declared.state.TableState.{TableState}
 use Rattle.londiste_state.specs.declared.state.TableState.TheVariants.{InCopy}
@@ -12,7 +13,7 @@ use Rattle.sky_model.specs.declared.reply.Reply.TheVariants.{Done, Number, Null}
 use Rattle.sky_model.specs.declared.reply.Limit.TheVariants.{Consumers, Queues, Triggers}
 use Rattle.sky_model.specs.declared.reply.Refusal.TheVariants.{ConsumerExists, NodeExists, QueueExists, TableBusy, TooMany}
 use Rattle.sky_model.specs.Limits.{most_of}
-use Rattle.sky_model.specs.History.{Batch, tabled, read_only, queued, made, unregistered, closed, traced, untraced, noded, root_made, listed, unlisted, joined, parted, leaf_made, leaf_added, leaf_removed, state_set}
+use Rattle.sky_model.specs.History.{Batch, Pick, tabled, read_only, queued, made, unregistered, closed, traced, untraced, noded, root_made, listed, unlisted, joined, parted, leaf_made, leaf_added, leaf_removed, state_set}
 use Rattle.sky_model.specs.Queues.{queue_number, Tick, tick}
 use Rattle.sky_model.specs.Nodes.{is_root, is_leaf, set_tables, leaf_tables}
 use Rattle.sky_model.specs.Triggers.{triggers_of}
@@ -25,6 +26,7 @@ use Rattle.sky_model.specs.Outcome.{Outcome, Checked, ◌>>=◌, ◌>>◌, refus
 use Rattle.sky_model.specs.StepQueue.{newest_id}
 use Rattle.sky_model.specs.StepConsumer.{registers, takes_batch}
 use Rattle.sky_model.specs.StepCopy.{begins_copy, copies_rows, ends_copy, given_up, holds_snapshot, lets_go}
+use Rattle.sky_model.specs.StepApply.{may_apply, applies_batch}
 
 -- `create_root NAME NAME`: the root of a set, with the set's queue
 abbrev pub create_root : Database → ℤ → ℕ → (name queue : List ℕ) → Checked Outcome
@@ -94,6 +96,10 @@ adds d table name = do
 abbrev pub removes : Database → (table : ℕ) → List ℕ → Checked Outcome
 removes d table name = does_marks Done (given_up table name (copy_txid table d.copies) ++ noded (leaf_removed name) ∷ tabled (read_only table false) ∷ [])
 
+-- it goes into a state: a copy of it that runs is given up
+abbrev pub moves_table : Database → (table : ℕ) → List ℕ → TableState → Checked Outcome
+moves_table d table name state = does_marks Done (given_up table name (copy_txid table d.copies) ++ noded (state_set name state) ∷ [])
+
 -- what a database does for a node, its own or another's
 pub data NodeCall : Type 0 where
   -- a leaf's consumer joins the queue of the database's set; it leaves
@@ -104,7 +110,7 @@ pub data NodeCall : Type 0 where
   finishing : (batch : ℕ) → NodeCall
   -- the database gets a leaf
   making_leaf : (name provider : List ℕ) (tick : ℕ) → NodeCall
-  -- a table joins the leaf; it leaves; it goes into a state
+  -- a table joins the leaf; it leaves; it goes into a state. A copy of it that runs is given up when it leaves, or goes into a state
   adding : (table : List ℕ) → NodeCall
   removing : (table : List ℕ) → NodeCall
   moving : (table : List ℕ) (state : TableState) → NodeCall
@@ -116,6 +122,8 @@ pub data NodeCall : Type 0 where
   copying_rows : (table : List ℕ) (rows : List (List Val)) → NodeCall
   ending_copy : (table : List ℕ) (snapshot : SnapshotView) (tick : ℕ) → NodeCall
   giving_up_copy : (table : List ℕ) → NodeCall
+  -- the events of a batch that are picked are applied to the tables of the leaf, up to a tick
+  applying : (events : List Event) (pick : Pick) (tick : ℕ) → NodeCall
   -- the present snapshot is held; one that is held is let go
   holding : NodeCall
   letting_go : (hold : ℕ) → NodeCall
@@ -149,7 +157,8 @@ may_copy table (Some (of_leaf l)) = unwrap_or (option_map (λ t. is_in_copy t.st
 may_copy table n = false
 
 -- whether a call is one for a database whose node is this: it gets a leaf if it has no node; a table joins a set or a leaf that doesn't have it yet,
--- leaves one that has it, goes only into a state that its own allows, and is copied only in the state for it; any other call is one for each database
+-- leaves one that has it, goes only into a state that its own allows, and is copied only in the state for it; a leaf applies a batch, to one table only if
+-- that was copied; any other call is one for each database
 abbrev pub may_serve : NodeCall → Option Node → Bool
 may_serve (making_leaf name provider tick) n = is_none n
 may_serve (adding table) n = is_leaf n && not (is_among table (leaf_tables n))
@@ -161,6 +170,7 @@ may_serve (beginning_copy table) n = may_copy table n
 may_serve (copying_rows table rows) n = may_copy table n
 may_serve (ending_copy table snapshot tick) n = may_copy table n
 may_serve (giving_up_copy table) n = may_copy table n
+may_serve (applying events pick tick) n = may_apply pick n
 may_serve _ n = true
 
 -- what a call for a node does, if it is one for this database
@@ -173,7 +183,7 @@ call_form d (finishing batch) = if_there (d.batch batch) closes
 call_form d (making_leaf name provider tick) = does_marks Done (noded (leaf_made name provider tick) ∷ [])
 call_form d (adding name) = if_there (table_number d name) (λ table. adds d table name)
 call_form d (removing name) = if_there (table_number d name) (λ table. removes d table name)
-call_form d (moving table state) = does_marks Done (noded (state_set table state) ∷ [])
+call_form d (moving name state) = if_there (table_number d name) (λ table. moves_table d table name state)
 call_form d (listing name) = if_there (set_queue d) (λ queue. if_there (table_number d name) (λ table. lists d queue table name))
 call_form d (unlisting name) = if_there (table_number d name) (λ table. unlists table name)
 call_form d (beginning_copy name) = if_there (table_number d name) (λ table. begins_copy d table (copy_txid table d.copies))
@@ -181,6 +191,7 @@ call_form d (copying_rows name rows) = if_there (table_number d name) (λ table.
 call_form d (ending_copy name snapshot tick) =
     if_there (table_number d name) (λ table. if_there (copy_txid table d.copies) (λ t. ends_copy table t name snapshot tick))
 call_form d (giving_up_copy name) = if_there (table_number d name) (λ table. does_marks Done (given_up table name (copy_txid table d.copies)))
+call_form d (applying events pick tick) = applies_batch d pick tick events
 call_form d holding = holds_snapshot d
 call_form d (letting_go hold) = lets_go d hold
 

@@ -14,7 +14,7 @@ use Rattle.sky_model.specs.Hands.{CopyHand}
 use Rattle.sky_model.specs.History.{Fact, within, in_hand}
 use Rattle.sky_model.specs.Outcome.{Checked, ◌>>=◌, ◌>>◌, refused_if, refused_by, found_or, marks_of}
 use Rattle.sky_model.specs.StepRows.{table_called}
-use Rattle.sky_model.specs.StepNode.{NodeCall, parting, removing, moving, letting_go, node_does, set_queue, unlists}
+use Rattle.sky_model.specs.StepNode.{NodeCall, parting, removing, moving, node_does, set_queue, unlists}
 use Rattle.sky_model.specs.CopyMoves.{CopyMove, copy_consumer, copy_move, lets_go_for, gives_up_in}
 use Rattle.sky_model.specs.NodesOfWorld.{WorldOutcome, node_called, provides, are_columns, columns_called, first_user, done_in, create_leaf, add_table, table_state}
 use Rattle.sky_model.specs.World.{World, after_facts}

@@ -1,7 +1,8 @@
 //! The laws of the definitions: functions that do nothing, so that their contracts are proved.
 
+ghost use Rattle.sky_model.specs.LawsOfApplying.{BadEventsCantBeApplied, BatchesPutTheirEvents, GoodBatchesAreApplied, NoPickedTableIsCopied, OtherBatchesLeaveRows, WorkersWriteAlone};
 ghost use Rattle.sky_model.specs.LawsOfBatches.{BatchesAreConsecutive, BatchesListWhatStands, EqualIdsStay, EventsAreListedOnce, FinishedBatchesWereActive, IdsDontFall, ListingsStay, SubscriptionsAreDistinct, SubscriptionsAreGiven, SubscriptionsAreNew};
-ghost use Rattle.sky_model.specs.LawsOfCopies.{CopiesAreOfLeafTables, CopiesDeleteWhatStands, CopiesLeaveTheirRows, CopiesNameWhatStands, CopiesRunAlone, HeldRowsStay, HoldsHaveLeastNumbers};
+ghost use Rattle.sky_model.specs.LawsOfCopies.{CopiesAreOfTablesInCopy, CopiesDeleteWhatStands, CopiesLeaveTheirRows, CopiesNameWhatStands, CopiesRunAlone, HeldRowsStay, HoldsHaveLeastNumbers};
 ghost use Rattle.sky_model.specs.LawsOfDaemons.{DaemonsHaveStarted, DaemonsWorkWhenDue, NextDueIsFirst};
 ghost use Rattle.sky_model.specs.LawsOfHistories.{HistoriesAreMadeByOwnCalls, HomesAreOpen, WaitersHaveOpen, BlocksAreOpen};
 ghost use Rattle.sky_model.specs.LawsOfLines.{BadWordIsLeast, LinesAreInForm};
@@ -238,12 +239,13 @@ pub fn read_only_tables_stay_unwritten()
 
 /// At each place of each history that calls of a database make, a copy that runs is of a table that sessions may not
 /// write, in a leaf's database; no session holds a key of it, and no other copy of it runs. After the calls the table is
-/// one of the leaf. When a copy begins it deletes the rows of its table, and each write of it names the row that was
-/// there for its transaction. Where it is said that a table was copied, the copy's transaction has just committed, and
-/// the table has the rows that this wrote, and no others.
+/// one of the leaf, in the state in which it is copied, and has no kept snapshot of an earlier copy. When a copy begins
+/// it deletes the rows of its table, and each write of it names the row that was there for its transaction. Where it is
+/// said that a table was copied, the copy's transaction has just committed, and the table has the rows that this wrote,
+/// and no others.
 pub fn copies_leave_their_rows()
     ensures alone { CopiesRunAlone }
-    ensures tables { CopiesAreOfLeafTables }
+    ensures states { CopiesAreOfTablesInCopy }
     ensures deletes { CopiesDeleteWhatStands }
     ensures stands { CopiesNameWhatStands }
     ensures leaves { CopiesLeaveTheirRows }
@@ -254,4 +256,22 @@ pub fn copies_leave_their_rows()
 pub fn held_rows_stay()
     ensures numbers { HoldsHaveLeastNumbers }
     ensures rows { HeldRowsStay }
+{}
+
+/// At each place of each history that calls of a database make, a worker that writes a row of a table, other than by a
+/// copy, does so in a leaf's database, in a table that sessions may not write and of which no copy runs; no session
+/// holds the key, and no other running transaction has written the table; and the write names the row that was there
+/// for its transaction. If after calls the answer to a batch is a number, so many of its events are picked, and it is
+/// applied: the rows of each table are those that its picked events make of the rows before, one after another, each of
+/// which can be applied to the rows that those before it leave; and the tick is stored. Otherwise the rows of all tables
+/// are as before, and so is the node. No copy runs of the table of an event that is picked. On a leaf, and of one table
+/// only if that was copied, the event that is said to be bad is the first of those picked that can't be applied; and if
+/// all of them can, none is said to be, and the batch is applied unless no transaction id is left.
+pub fn batches_put_their_events()
+    ensures writes { WorkersWriteAlone }
+    ensures applied { BatchesPutTheirEvents }
+    ensures others { OtherBatchesLeaveRows }
+    ensures idle { NoPickedTableIsCopied }
+    ensures bad { BadEventsCantBeApplied }
+    ensures good { GoodBatchesAreApplied }
 {}

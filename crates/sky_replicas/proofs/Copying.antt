@@ -9,11 +9,11 @@ use Rattle.sky_txid.specs.Ids.{contains}
 use Rattle.sky_txid.specs.Snapshot.{SnapshotView}
 use Rattle.sky_model.specs.History.{Mark, of_copy, ended, tabled, wrote, noded, hold_begun, hold_ended, History}
 use Rattle.sky_model.specs.Transactions.{next_txid, workers, snapshot}
-use Rattle.sky_model.specs.Copies.{Copy, copies, is_copied_by, is_copys, copy_txid, Hold, holds, without_hold}
+use Rattle.sky_model.specs.Copies.{Copy, copies, is_copied, is_copied_by, is_copys, copy_txid, Hold, holds, without_hold}
 use Rattle.sky_model.specs.Rows.{table_names, writes as writes_of, put_all}
 use Rattle.sky_model.specs.Nodes.{node}
 use Rattle.sky_model.specs.StepNode.{may_copy}
-use Rattle.sky_model.proofs.Legal.{Fine, begins_copy, ends_copy, copies_row, writes, makes_table, nodes, Legal, start, next}
+use Rattle.sky_model.proofs.Legal.{Fine, begins_copy, ends_copy, copies_row, applies_row, writes, makes_table, nodes, Legal, start, next}
 use Rattle.sky_model.proofs.Snapshots.{sound, next-apart, copys-of}
 use Rattle.sky_model.proofs.Guarded.{copied_by-push, copied_by-without, copied-by, one-copy, copy_txid-some, copy_txid-none}
 use Rattle.sky_model.proofs.Cases.{by_test, by_same}
@@ -109,6 +109,15 @@ runs-step h l _ (writes who u n key old new mine free stands) name table t made 
 
     other : (n == table && u == t) ≡ false
     other = by_same (λ b. (n == table && b) ≡ false) u t (λ same. absurd (cc (sym works ∙ (sound h l).nobodys who t (mine ∙ ap Some same)))) (λ apart. grind (arith))
+runs-step h l _ (applies_row n u key old new is) name table t made e r = record {
+  named = r.named;
+  runs = r.runs;
+  written = ap (λ b. put_all (if b && u == t then writes_of table t h ++ record { key = key; row = new } ∷ [] else writes_of table t h) []) other ∙ r.written;
+  may = r.may;
+}
+  where
+    other : (n == table) ≡ false
+    other = by_same (λ b. b ≡ false) n table (λ same. absurd (cc (sym is.uncopied ∙ ap (λ k. is_copied k (copies h)) same ∙ copied-by table t (copies h) r.runs))) (λ apart. refl)
 runs-step h l _ (nodes mark fits) name table t made e r = record { named = r.named; runs = r.runs; written = r.written; may = may-stays h mark name fits e r.may }
 runs-step h l _ _ name table t made e r = record { named = r.named; runs = r.runs; written = r.written; may = r.may }
 

@@ -19,7 +19,7 @@ use Rattle.sky_model.specs.declared.reply.Refusal.TheVariants.{NoNode, NotInSet}
 use Rattle.sky_model.specs.History.{Mark, of_copy, began, ended, tabled, wrote, noded, restarted, History, in_hand, Past}
 use Rattle.sky_model.specs.Hands.{CopyHand}
 use Rattle.sky_model.specs.Transactions.{next_txid, has_ended}
-use Rattle.sky_model.specs.Copies.{copies, is_copied_by, Hold, holds}
+use Rattle.sky_model.specs.Copies.{copies, is_copied, is_copied_by, Hold, holds}
 use Rattle.sky_model.specs.Rows.{is_read_only, writes as writes_of, has_written}
 use Rattle.sky_model.specs.Versions.{versions}
 use Rattle.sky_model.specs.Nodes.{node}
@@ -31,7 +31,7 @@ use Rattle.sky_model.specs.NodesOfWorld.{Located, WorldOutcome, node_called}
 use Rattle.sky_model.specs.WorkersOfWorld.{move_facts, moves, source, leaf_table, restarting, restart_table}
 use Rattle.sky_model.specs.Settling.{marked}
 use Rattle.sky_model.specs.World.{World, world_of, history_in, hands, on_top}
-use Rattle.sky_model.proofs.Legal.{Fine, writes, copies_row, ends_copy, Legal, legal-below_mark, fine_mark}
+use Rattle.sky_model.proofs.Legal.{Fine, writes, copies_row, applies_row, ends_copy, Legal, legal-below_mark, fine_mark}
 use Rattle.sky_model.proofs.Snapshots.{sound, ender-unended, begun-next}
 use Rattle.sky_model.proofs.SnapshotLaws.{legal_place}
 use Rattle.sky_model.proofs.Guarded.{copied_by-push, copied_by-without, copied-by, IsGuarded, copies-guarded, one-copy, gone}
@@ -143,6 +143,7 @@ own-write h l table t is (writes who u n key old new mine free stands) same =
     let g : IsGuarded h table = copies-guarded h l table (copied-by table t (copies h) is) in
     absurd (cc (sym (stands.writable g.leaf) ∙ ap (λ k. is_read_only k h) same ∙ g.guarded))
 own-write h l table t is (copies_row n u key old new may) same = one-copy h l table t u is (ap (λ k. is_copied_by k u (copies h)) (sym same) ∙ may.runs)
+own-write h l table t is (applies_row n u key old new may) same = absurd (cc (sym may.uncopied ∙ ap (λ k. is_copied k (copies h)) same ∙ copied-by table t (copies h) is))
 
 forgets : (table t : ℕ) (q : History) (later : List Mark) → Legal (later ++ began (of_copy table) t ∷ q) → is_copied_by table t (copies (later ++ began (of_copy table) t ∷ q)) ≡ true
     → forgotten t (versions table (later ++ began (of_copy table) t ∷ q)) ≡ versions table q

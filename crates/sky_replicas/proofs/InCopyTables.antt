@@ -135,6 +135,20 @@ in-copy-state name (Some (of_leaf l)) e = of (table_of name l) e
     of None e = absurd (cc e)
     of (Some t) e = in-copy t.state e
 
+-- it doesn't go into that state again
+pub not-again : (name : List ℕ) (n : Option Node) → may_move name InCopy n ≡ true → may_copy name n ≡ false
+not-again name None e = refl
+not-again name (Some (of_root r)) e = refl
+not-again name (Some (of_leaf l)) e = of (table_of name l) e
+  where
+    from : (state : TableState) → is_allowed state InCopy ≡ true → is_in_copy state ≡ false
+    from InCopy e = absurd (cc e)
+    from state e = refl
+
+    of : (o : Option LeafTable) → unwrap_or (option_map (λ t. is_allowed t.state InCopy) o) false ≡ true → unwrap_or (option_map (λ t. is_in_copy t.state) o) false ≡ false
+    of None e = refl
+    of (Some t) e = from t.state e
+
 -- ---- a table that has been copied
 
 -- whether a state is one that a table has only once it has been copied
@@ -186,7 +200,7 @@ copy-after h (state_set other state) name l is fits stays past = in-changed is_p
     (λ _ same.
     let there : unwrap_or (option_map (λ (t : LeafTable). is_past_copy t.state) (table_of other l)) false ≡ true =
     ap (λ x. unwrap_or (option_map (λ (t : LeafTable). is_past_copy t.state) (table_of x l)) false) (sym (same_name name other same)) ∙ past in
-    let may : unwrap_or (option_map (λ (t : LeafTable). is_allowed t.state state) (table_of other l)) false ≡ true = ap (may_move other state) (sym is) ∙ fits in
+    let may : unwrap_or (option_map (λ (t : LeafTable). is_allowed t.state state) (table_of other l)) false ≡ true = ap (may_move other state) (sym is) ∙ fits.may in
     into-changes is_past_copy name other (in_state state) (λ t. refl) (λ t _. allowed-past state (table_of other l) there may))
     (λ _ differ. other-changes is_past_copy name other (in_state state) (λ t. refl) differ) refl) past
 copy-after h (copied other under tick) name l is fits stays past =

@@ -11,24 +11,24 @@ use Rattle.sky_model.specs.declared.stmt.NodeStmt.{NodeStmt}
 use Rattle.sky_model.specs.declared.stmt.NodeStmt.TheVariants.{CreateLeaf, AddTable, RemoveTable, TableState as ShowState, CopyStep, Restart, RestartTable, LondisteStep}
 use Rattle.sky_model.specs.declared.daemon.DaemonPart.{DaemonPart}
 use Rattle.sky_model.specs.declared.reply.Reply.{Reply}
-use Rattle.sky_model.specs.declared.reply.Reply.TheVariants.{Done, TableMoved}
+use Rattle.sky_model.specs.declared.reply.Reply.TheVariants.{Done, Null, TableMoved}
 use Rattle.sky_model.specs.declared.reply.Refusal.{Refusal}
 use Rattle.sky_model.specs.declared.reply.Refusal.TheVariants.{AlreadyInSet, NodeExists, NoNode, NoTable, NotInSet, NotProvider, SchemaDiffers, TableInUse}
-use Rattle.sky_model.specs.History.{Mark, of_copy, ended, tabled, read_only, noded, leaf_made, leaf_removed, copied, History, Fact, appeared, founded, entered, within, clock_at, node_made, in_hand, Past}
+use Rattle.sky_model.specs.History.{Mark, of_copy, ended, tabled, read_only, noded, leaf_made, leaf_removed, state_set, copied, History, Fact, appeared, founded, entered, within, clock_at, node_made, in_hand, Past}
 use Rattle.sky_model.specs.Hands.{CopyHand}
 use Rattle.sky_model.specs.Transactions.{snapshot}
 use Rattle.sky_model.specs.Copies.{copies, copy_txid}
 use Rattle.sky_model.specs.Rows.{table_names, writes as writes_of, put_all, rows}
 use Rattle.sky_model.specs.Nodes.{node, leaf_tables}
 use Rattle.sky_model.specs.State.{Database, database_of, after_marks}
-use Rattle.sky_model.specs.Outcome.{Outcome, Checked, ◌>>=◌, ◌>>◌, refused_if, refused_by, found_or, answers}
+use Rattle.sky_model.specs.Outcome.{Outcome, Checked, ◌>>=◌, ◌>>◌, refused_if, refused_by, found_or, answers, does_marks}
 use Rattle.sky_model.specs.Reader.{by_past, within_database, Deed, appears}
 use Rattle.sky_model.specs.Settling.{Turn, marked}
 use Rattle.sky_model.specs.Daemon.{daemon_does}
 use Rattle.sky_model.specs.Clock.{deed_in, waits_at}
 use Rattle.sky_model.specs.StepQueue.{newest_id}
 use Rattle.sky_model.specs.StepCopy.{given_up}
-use Rattle.sky_model.specs.StepNode.{NodeCall, joining, parting, removing, moving, letting_go, giving_up_copy, if_there, set_queue, joins, lists, adds, unlists, may_serve, call_form, node_does}
+use Rattle.sky_model.specs.StepNode.{NodeCall, joining, parting, removing, moving, letting_go, giving_up_copy, if_there, set_queue, joins, lists, adds, unlists, moves_table, may_move, call_form, node_does}
 use Rattle.sky_model.specs.CopyMoves.{CopyMove, newest_of, copy_move, copy_consumer, lets_go_for}
 use Rattle.sky_model.specs.NodesOfWorld.{WorldOutcome, node_called, done_in, leaf_of, create_leaf, provides, are_columns, columns_called, adds_to, first_user, shows_state, Located}
 use Rattle.sky_model.specs.WorkersOfWorld.{move_facts, moves, source, source_alike, leaf_table, restarts, restarting, is_on_way, next_to_copy, starts_next, leaf_steps, parts_for, leaves_leaf, removes_from, node_form}
@@ -43,15 +43,16 @@ use Rattle.sky_model.proofs.NodeDeeds.{called-there}
 use Rattle.sky_model.proofs.Marks.{database_of-marks}
 use Rattle.sky_model.proofs.Good.{same-session}
 use Rattle.sky_model.proofs.CopyLaws.{copies_leave_their_rows}
-use Rattle.sky_model.proofs.StatementMarks.{EachMark, each-rest, each-given, when-true, Gives, AnyReply, after, either}
+use Rattle.sky_model.proofs.StatementMarks.{EachMark, each-rest, each-given, when-true, Gives, AnyReply, after}
 use Rattle.sky_model.proofs.Cases.{by_test}
 use Rattle.sky_replicas.specs.LawsOfReplicas.{CopyBegan, CopiedTablesHaveProvidersRows}
 use Rattle.std.specs.Option.{option_and_then}
 use Rattle.sky_replicas.proofs.NodeNames.{provider_of, database_among, names_in, source_of, called-database}
-use Rattle.sky_replicas.proofs.RunningCopies.{Uncopied}
+use Rattle.sky_replicas.proofs.RunningCopies.{Uncopied, uncopied-txid}
+use Rattle.sky_replicas.proofs.InCopyTables.{not-again}
 use Rattle.sky_replicas.proofs.QuietStatements.{quiet-turn, quiet-daemon}
 use Rattle.sky_replicas.proofs.Keeping.{CopiedFrom, Copying, Keeps, Kept, is_quiet, FactFits, FactsFit, fits-step, fits-steps}
-use Rattle.sky_replicas.proofs.Others.{each_table, other_than, by-before, fewer, idle-hand, own-free, own-marks, quiet-marks, puts-down}
+use Rattle.sky_replicas.proofs.Others.{each_table, other_than, legal-under, by-before, fewer, idle-hand, own-free, own-marks, quiet-marks, puts-down}
 use Rattle.sky_replicas.proofs.CallPasts.{call_marks, called, after_calls, history-called, history-elsewhere, histories-elsewhere, quiet-consumer, lets-go, own-call, removing-marks}
 use Rattle.sky_replicas.proofs.Sources.{IsSource, source-is, IsAlike, alike-is}
 use Rattle.sky_replicas.proofs.CopySteps.{MoveKept, move-kept, uncopied-removed, nothing-given_up, uncopied-given_up}
@@ -69,6 +70,13 @@ all-step past fact fit kept = (fits-step each_table past fact fit kept.0, held-s
 
 all-steps : (past : Past) (facts : List Fact) → FactsFit past facts → AllKept past → AllKept (on_top past facts)
 all-steps past facts fit kept = (fits-steps each_table past facts fit kept.0, held-steps past facts fit kept.1)
+
+-- that they fit may be proved by what holds before them
+all-before : (past : Past) (facts : List Fact) → (AllLegal past → Keeps each_table past → FactsFit past facts) → AllKept past → AllKept (on_top past facts)
+all-before past facts fit kept = (
+  by-before past facts (λ legal k. fits-steps each_table past facts (fit legal k) kept.0) kept.0,
+  λ after. let legal : AllLegal past = legal-under past facts after in held-steps past facts (fit legal (kept.0 legal)) kept.1 after,
+)
 
 -- ---- facts that fit
 
@@ -164,9 +172,12 @@ module _ (past : Past) (kept : AllKept past) where
   if-checked (Ok a) next holds = holds a refl
   if-checked (Err refusal) next holds = tt
 
+  kept-before : (d : ℕ) (reply : Reply) (c : Checked Outcome) → (AllLegal past → Keeps each_table past → Gives AnyReply is_quiet c) → KeptIfOk (done_in d reply c)
+  kept-before d reply (Ok o) given = all-before past (map (within d) o.marks) (λ legal k. fit-marks past d o.marks (given legal k).1) kept
+  kept-before d reply (Err refusal) given = tt
+
   kept-done : (d : ℕ) (reply : Reply) (c : Checked Outcome) → Gives AnyReply is_quiet c → KeptIfOk (done_in d reply c)
-  kept-done d reply (Ok o) given = all-steps past (map (within d) o.marks) (fit-marks past d o.marks given.1) kept
-  kept-done d reply (Err refusal) given = tt
+  kept-done d reply c given = kept-before d reply c (λ _ _. given)
 
   kept-leaf : (d p : ℕ) (name provider : List ℕ) (tick : ℕ) (c : Checked Outcome) → Gives AnyReply is_quiet c → KeptIfOk (leaf_of d p name provider tick c)
   kept-leaf d p name provider tick (Err refusal) given = tt
@@ -293,11 +304,28 @@ module _ (past : Past) (kept : AllKept past) where
   kept-restarts name (of_root r) = tt
   kept-restarts name (of_leaf l) = kept
 
+  -- no copy runs of a table that is to be copied
+  quiet-moves : (d : ℕ) (name : List ℕ) → AllLegal past → Keeps each_table past → Gives AnyReply is_quiet (node_does (w.database d) (moving name InCopy))
+  quiet-moves d name legal k =
+      by_test (λ b. may_move name InCopy (node h) ≡ b → Gives AnyReply is_quiet (if b then call_form (database_of h) (moving name InCopy) else answers Null)) (may_move name InCopy (node h))
+      (λ _ may. moves may (place_of name (table_names h)) refl) (λ _ _. (tt, tt)) refl
+    where
+      h : History
+      h = history_in past d
+
+      idle : may_move name InCopy (node h) ≡ true → (hand : Option CopyHand) → hands past d name ≡ hand → hand ≡ None
+      idle may None has = refl
+      idle may (Some hand) has = absurd (cc (sym (k.copying d name hand refl has).here.may ∙ not-again name (node h) may))
+
+      moves : may_move name InCopy (node h) ≡ true → (o : Option ℕ) → place_of name (table_names h) ≡ o → Gives AnyReply is_quiet (if_there o (λ n. moves_table (database_of h) n name InCopy))
+      moves may None there = (tt, tt)
+      moves may (Some n) there =
+          subst (λ t. Gives AnyReply is_quiet (does_marks Done (given_up n name t ++ noded (state_set name InCopy) ∷ [])))
+          (sym (uncopied-txid h name (idle-hand past d name k (idle may (hands past d name) refl)) n there)) (tt, tt)
+
   kept-next : (d : ℕ) (o : Option (List ℕ)) → KeptIfOk (starts_next w d o)
   kept-next d None = kept
-  kept-next d (Some table) =
-      kept-done d (TableMoved table InCopy) (node_does (w.database d) (moving table InCopy))
-      (either AnyReply is_quiet (may_serve (moving table InCopy) (w.database d).node) (call_form (w.database d) (moving table InCopy)) (answers _) (tt, tt) (tt, tt))
+  kept-next d (Some table) = kept-before d (TableMoved table InCopy) (node_does (w.database d) (moving table InCopy)) (quiet-moves d table)
 
   kept-steps : (d : ℕ) (name : List ℕ) (n : Node) → KeptIfOk (leaf_steps w d name n)
   kept-steps d name (of_root r) = tt

@@ -17,7 +17,7 @@ use Rattle.sky_model.specs.Nodes.{node, is_leaf, after_node}
 use Rattle.sky_model.specs.StepNode.{may_copy}
 use Rattle.londiste_state.specs.Nodes.{Node, of_root, of_leaf}
 use Rattle.sky_model.specs.Calls.{past_of}
-use Rattle.sky_model.proofs.Legal.{Fine, makes_table, writes, copies_row, begins_copy, ends, ends_work, ends_copy, guards, nodes, without_node, at_joining, at_leaving, Legal, legal-below_mark, fine_mark}
+use Rattle.sky_model.proofs.Legal.{Fine, makes_table, writes, copies_row, applies_row, begins_copy, ends, ends_work, ends_copy, guards, nodes, without_node, at_joining, at_leaving, Legal, legal-below_mark, fine_mark}
 use Rattle.sky_model.proofs.Snapshots.{ender-unended}
 use Rattle.sky_model.proofs.SnapshotLaws.{legal-below}
 use Rattle.sky_model.proofs.Guarded.{copied-by, copies-guarded, gone}
@@ -102,6 +102,7 @@ rests-step h _ (copies_row n t key old new may) in_copy name table stays r =
     unwritten-other h name table (of_copy n) t n key old new
     (by_same (λ b. b ≡ false) n table
     (λ same. absurd (cc (sym r.none ∙ ap (λ k. is_copied k (copies h)) (sym same) ∙ copied-by n t (copies h) may.runs))) (λ _. refl)) r
+rests-step h _ (applies_row n t key old new is) in_copy name table stays r = absurd in_copy
 rests-step h _ (ends who t c mine) in_copy name table stays r = rests-ended h name table _ t c r.none r
 rests-step h _ (ends_work t c work) in_copy name table stays r = rests-ended h name table _ t c r.none r
 rests-step h _ (ends_copy n t c may) in_copy name table stays r = rests-ended h name table (of_copy n) t c (uncopied-less table t (copies h) r.none) r
@@ -113,7 +114,7 @@ rests-step h _ (guards _ _ (at_joining n last unused)) in_copy name table stays 
   none = r.none;
   unwritten = r.unwritten;
 }
-rests-step h _ (guards _ _ (at_leaving n last uncopied)) in_copy name table stays r = record {
+rests-step h _ (guards _ _ (at_leaving n last uncopied unwritten)) in_copy name table stays r = record {
   has = r.has;
   named = r.named;
   guarded = by_same (λ b. (if b then false else is_read_only table h) ≡ true) n table

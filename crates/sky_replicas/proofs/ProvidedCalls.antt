@@ -18,7 +18,7 @@ use Rattle.sky_model.specs.declared.reply.Reply.TheVariants.{Done, Null, TableMo
 use Rattle.sky_model.specs.declared.reply.Refusal.{Refusal}
 use Rattle.sky_model.specs.declared.reply.Limit.TheVariants.{Consumers}
 use Rattle.sky_model.specs.declared.reply.Refusal.TheVariants.{AlreadyInSet, IdsSpent, NodeExists, NoNode, NoTable, NotInSet, NotProvider, SchemaDiffers, TableBusy, TableInUse, TooMany}
-use Rattle.sky_model.specs.History.{Mark, noded, leaf_made, leaf_added, unlisted, leaf_removed, root_made, tabled, read_only, Fact, within, node_made, in_hand, Past}
+use Rattle.sky_model.specs.History.{Mark, noded, leaf_made, leaf_added, unlisted, root_made, tabled, read_only, Fact, within, node_made, in_hand, Past}
 use Rattle.sky_model.specs.Hands.{CopyHand}
 use Rattle.sky_model.specs.Copies.{copy_txid}
 use Rattle.sky_model.specs.Rows.{table_names, columns_of}
@@ -30,17 +30,19 @@ use Rattle.sky_model.specs.OwnTransaction.{next_id}
 use Rattle.sky_model.specs.StepQueue.{newest_id}
 use Rattle.sky_model.specs.StepConsumer.{sub_ids_spent}
 use Rattle.sky_model.specs.StepCopy.{given_up}
-use Rattle.sky_model.specs.StepNode.{NodeCall, joining, parting, fetching, finishing, making_leaf, adding, removing, moving, listing, unlisting, beginning_copy, holding, if_there, set_queue, is_full, joins, lists, adds, unlists, table_number, may_serve, call_form, node_does}
+use Rattle.sky_model.specs.StepNode.{NodeCall, joining, parting, fetching, finishing, making_leaf, adding, removing, moving, listing, unlisting, beginning_copy, applying, holding, if_there, set_queue, is_full, joins, lists, adds, unlists, table_number, may_serve, call_form, node_does}
 use Rattle.sky_model.specs.CopyMoves.{CopyMove, piece_size, rows_from, copies_piece, next_piece, behind_calls, copy_consumer, first_hand, starts_copy, under_way, continues, goes_on, leaf_state, moves_in, copy_running, copy_move, lets_go_for}
 use Rattle.sky_model.specs.NodesOfWorld.{WorldOutcome, Located, node_called, done_in, leaf_of, create_leaf, provides, are_columns, columns_called, adds_to, uses, name_in, first_user, shows_state}
 use Rattle.sky_model.specs.WorkersOfWorld.{move_facts, moves, source, source_alike, leaf_table, restarts, restarting, is_on_way, next_to_copy, starts_next, leaf_steps, parts_for, leaves_leaf, removes_from, node_form}
 use Rattle.sky_model.specs.World.{World, world_of, history_in, nodes, on_top}
 use Rattle.sky_model.specs.Calls.{Call, past_of}
 use Rattle.sky_model.proofs.Histories.{AllLegal}
+use Rattle.sky_model.specs.StepApply.{applies_batch}
+use Rattle.sky_model.proofs.ApplyCalls.{is_for_applying, gives-applies}
 use Rattle.sky_model.proofs.NodeDeeds.{called-there}
 use Rattle.sky_model.proofs.NodeCalls.{is_for_consumers, is_consumers, gives-consumers}
-use Rattle.sky_model.proofs.CopyCalls.{is_for_copies, is_copies, gives-there, gives-copies, each-given_up}
-use Rattle.sky_model.proofs.StatementMarks.{EachMark, each-map, each-append, each-rest, each-given, when-true, Gives, gives-map, AnyReply, after, either}
+use Rattle.sky_model.proofs.CopyCalls.{is_for_copies, is_copies, gives-there, gives-copies}
+use Rattle.sky_model.proofs.StatementMarks.{EachMark, each-rest, each-given, when-true, Gives, gives-map, AnyReply, after, either}
 use Rattle.sky_model.proofs.Good.{same-session}
 use Rattle.sky_model.proofs.Cases.{by_test}
 use Rattle.sky_replicas.proofs.NodeNames.{provider_of, database_among, names_in, source_of, called-database, among-there, among-named}
@@ -101,11 +103,22 @@ settled-copies (noded (leaf_added name)) e = absurd (cc e)
 settled-copies (noded (unlisted name)) e = absurd (cc e)
 settled-copies mark e = refl
 
+settled-applying : (mark : Mark) → is_for_applying mark ≡ true → is_settled mark ≡ true
+settled-applying (noded (leaf_made name provider tick)) e = absurd (cc e)
+settled-applying (noded (leaf_added name)) e = absurd (cc e)
+settled-applying (noded (unlisted name)) e = absurd (cc e)
+settled-applying mark e = refl
+
 settled-consumer : (d : Database) (call : NodeCall) → is_consumers call ≡ true → Settled (call_form d call)
 settled-consumer d call e = gives-map AnyReply AnyReply is_for_consumers is_settled (λ reply any. any) settled-consumers (call_form d call) (gives-consumers d call e)
 
 settled-copy : (d : Database) (call : NodeCall) → is_copies call ≡ true → Settled (call_form d call)
 settled-copy d call e = gives-map AnyReply AnyReply is_for_copies is_settled (λ reply any. any) settled-copies (call_form d call) (gives-copies d call e)
+
+-- once a copy is given up
+settled-then : (table : ℕ) (name : List ℕ) (o : Option ℕ) (marks : List Mark) → EachMark is_settled marks → EachMark is_settled (given_up table name o ++ marks)
+settled-then table name None marks each = each
+settled-then table name (Some t) marks each = each
 
 -- whether a call is one of a worker, or a table leaves a leaf by it
 abbrev is_workers : NodeCall → Bool
@@ -120,16 +133,14 @@ settled-form d (making_leaf name provider tick) e = absurd (cc e)
 settled-form d (adding name) e = absurd (cc e)
 settled-form d (listing name) e = absurd (cc e)
 settled-form d (unlisting name) e = absurd (cc e)
-settled-form d (moving name state) e = (tt, tt)
-settled-form d (removing name) e = gives-there is_settled (table_number d name) _ (λ table. (
-  tt,
-  each-append is_settled (given_up table name (copy_txid table d.copies))
-      (noded (leaf_removed name) ∷ tabled (read_only table false) ∷ []) (each-map is_for_copies is_settled settled-copies (given_up table name (copy_txid table d.copies)) (each-given_up table name (copy_txid table d.copies))) tt,
-))
+settled-form d (moving name state) e = gives-there is_settled (table_number d name) _ (λ table. (tt, settled-then table name (copy_txid table d.copies) _ tt))
+settled-form d (removing name) e = gives-there is_settled (table_number d name) _ (λ table. (tt, settled-then table name (copy_txid table d.copies) _ tt))
 settled-form d (joining consumer) e = settled-consumer d (joining consumer) refl
 settled-form d (parting consumer) e = settled-consumer d (parting consumer) refl
 settled-form d (fetching consumer) e = settled-consumer d (fetching consumer) refl
 settled-form d (finishing batch) e = settled-consumer d (finishing batch) refl
+settled-form d (applying events pick tick) e =
+    gives-map AnyReply AnyReply is_for_applying is_settled (λ reply any. any) settled-applying (applies_batch d pick tick events) (gives-applies d pick tick events)
 settled-form d call e = settled-copy d call refl
 
 settled-does : (d : Database) (call : NodeCall) → is_workers call ≡ true → Settled (node_does d call)

@@ -9,7 +9,7 @@ use Rattle.sky_model.specs.declared.stmt.RowStmt.TheVariants.{Insert, Update, De
 use Rattle.sky_model.specs.declared.stmt.Stmt.{Stmt}
 use Rattle.sky_model.specs.declared.stmt.Stmt.TheVariants.{Row}
 use Rattle.sky_model.specs.declared.daemon.DaemonPart.{DaemonPart}
-use Rattle.sky_model.specs.History.{Mark, of_session, of_copy, began, ended, looked, tabled, wrote, waited, noded, copied, leaf_removed, state_set, hold_begun, hold_ended, History}
+use Rattle.sky_model.specs.History.{Mark, of_session, of_worker, of_copy, began, ended, looked, tabled, wrote, waited, noded, copied, leaf_removed, state_set, hold_begun, hold_ended, History}
 use Rattle.sky_model.specs.Sessions.{Session, session, has_open, block}
 use Rattle.sky_model.specs.Locks.{waiting}
 use Rattle.sky_model.specs.State.{RowPart, part_of, Database, database_of}
@@ -32,6 +32,7 @@ use Rattle.sky_replicas.proofs.Keeping.{is_quiet}
 quiet-if : (k : Kinds) → k.writes ≡ false → (who : ℕ) (mark : Mark) → may_leave k who mark ≡ true → is_quiet mark ≡ true
 quiet-if k none who (began (of_copy n) t) e = absurd (cc)
 quiet-if k none who (ended (of_copy n) t c) e = absurd (cc)
+quiet-if k none who (tabled (wrote of_worker t n key old new)) e = absurd (cc e)
 quiet-if k none who (tabled (wrote whose t n key old new)) e = absurd (cc (sym e ∙ none))
 quiet-if k none who (noded (copied name under tick)) e = absurd (cc)
 quiet-if k none who (noded (hold_begun hold)) e = absurd (cc)

@@ -30,7 +30,7 @@ within-step h _ (guards _ _ (at_joining n last unused)) ih = λ table leaf is.
     (λ same _. let below = place_of_within last.name (table_names last.below) n last.there in
     let names = ap (λ g. length (table_names g)) last.last in
     omega (arith, same, below, names)) (λ _ was. ih table leaf was) is
-within-step h _ (guards _ _ (at_leaving n last uncopied)) ih = λ table leaf is.
+within-step h _ (guards _ _ (at_leaving n last uncopied unwritten)) ih = λ table leaf is.
     by_test (λ b. (if b then false else is_read_only table h) ≡ true → table < length (table_names h)) (n == table) (λ _ e. absurd (cc e)) (λ _ was. ih table leaf was) is
 within-step h _ (makes_table last columns new) ih = λ table leaf is.
     let within = ih table leaf is in

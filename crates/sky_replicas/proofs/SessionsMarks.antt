@@ -3,7 +3,7 @@ use Rattle.std.proofs.Common.{◌≡◌, ℕ, ℤ, Bool, true, false, ◌∷◌,
 use Rattle.sky_keys.specs.Waits.{is_waiting}
 use Rattle.sky_model.specs.declared.stmt.Stmt.{Stmt}
 use Rattle.sky_model.specs.declared.daemon.DaemonPart.{DaemonPart}
-use Rattle.sky_model.specs.History.{Mark, of_copy, began, ended, looked, noded, root_made, History}
+use Rattle.sky_model.specs.History.{Mark, of_worker, of_copy, began, ended, looked, tabled, wrote, noded, root_made, History}
 use Rattle.sky_model.specs.Sessions.{has_open, block, own_txid}
 use Rattle.sky_model.specs.Locks.{waiting}
 use Rattle.sky_model.specs.State.{Database, part_of, database_of}
@@ -21,6 +21,7 @@ use Rattle.sky_model.proofs.DaemonTurns.{each-daemon_does}
 abbrev pub is_sessions : Mark → Bool
 is_sessions (noded (root_made name queue)) = true
 is_sessions (noded mark) = false
+is_sessions (tabled (wrote of_worker t table key old new)) = false
 is_sessions (began (of_copy table) t) = false
 is_sessions (ended (of_copy table) t committed) = false
 is_sessions _ = true
@@ -28,6 +29,7 @@ is_sessions _ = true
 sessions-if : (k : Kinds) (who : ℕ) (mark : Mark) → may_leave k who mark ≡ true → is_sessions mark ≡ true
 sessions-if k who (noded (root_made name queue)) e = refl
 sessions-if k who (noded mark) e = e
+sessions-if k who (tabled (wrote of_worker t table key old new)) e = e
 sessions-if k who (began (of_copy table) t) e = e
 sessions-if k who (ended (of_copy table) t committed) e = e
 sessions-if k who _ e = refl

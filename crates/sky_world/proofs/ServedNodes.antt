@@ -19,7 +19,7 @@ use Rattle.sky_model.specs.declared.reply.Refusal.TheVariants.{AlreadyInSet, Nod
 use Rattle.sky_model.specs.declared.stop.Stop.{Stop}
 use Rattle.sky_model.specs.declared.stop.Stop.TheVariants as halt
 use Rattle.sky_model.specs.declared.stop.Stop.TheVariants.{NoMemory}
-use Rattle.sky_model.specs.History.{Mark, Fact, within, queued, registered, unregistered, opened, closed, traced, untraced, tabled, wrote, read_only, noded, leaf_made, node_made, of_copy, began, ended}
+use Rattle.sky_model.specs.History.{Mark, Fact, within, queued, registered, unregistered, opened, closed, traced, untraced, tabled, wrote, read_only, noded, leaf_made, node_made, of_worker, of_copy, began, ended}
 use Rattle.sky_model.specs.State.{RowPart, Database, after_mark, after_marks}
 use Rattle.sky_model.specs.World.{World, after_facts}
 use Rattle.sky_model.specs.Outcome.{Outcome, Checked, ◌>>=◌, ◌>>◌, refused_if, refused_by, found_or, marks_of}
@@ -30,7 +30,7 @@ use Rattle.sky_model.specs.Clock.{deed_in}
 use Rattle.sky_model.specs.SessionMarks.{Enters, entry_place}
 use Rattle.sky_model.specs.StepQueue.{newest_id}
 use Rattle.sky_model.specs.StepRows.{table_called}
-use Rattle.sky_model.specs.StepNode.{set_queue, set_queue_of, joins, lists, unlists, adds, removes, NodeCall, joining, making_leaf, adding, removing, listing, unlisting, if_there, table_number, may_serve, node_does}
+use Rattle.sky_model.specs.StepNode.{set_queue, set_queue_of, joins, lists, unlists, adds, NodeCall, joining, making_leaf, adding, listing, unlisting, if_there, table_number, may_serve, node_does}
 use Rattle.sky_model.specs.NodesOfWorld.{WorldOutcome, Located, node_called, done_in, leaf_of, provides, are_columns, columns_called, adds_to, add_table, first_user}
 use Rattle.sky_model.specs.WorkersOfWorld.{call_facts, moves, source, leaves_leaf, removes_from, remove_table, node_form}
 use Rattle.sky_model.specs.Calls.{database_turn, world_does, node_stmt_does, gets_node, node_if, roots_in, root_does, session_does}
@@ -38,7 +38,7 @@ use Rattle.sky_model.proofs.Good.{same-session}
 use Rattle.sky_model.proofs.RowStanding.{part-behind}
 use Rattle.sky_model.proofs.StatementMarks.{EachMark}
 use Rattle.sky_model.proofs.NodeCalls.{is_for_nodes, each-node}
-use Rattle.sky_model.proofs.NodeDeeds.{called-there, is-served, may-list, may-add, may-unlist, may-remove}
+use Rattle.sky_model.proofs.NodeDeeds.{called-there, is-served, may-list, may-add, may-unlist}
 use Rattle.pgq_db.specs.Views.{DbView}
 use Rattle.pgq_db.specs.Seen.{seen_database}
 use Rattle.pgq_db.specs.Served.{Serves}
@@ -71,6 +71,10 @@ waits-stay d (queued (traced table name trigger) ∷ marks) all = waits-stay (af
 waits-stay d (queued (untraced table) ∷ marks) all = waits-stay (after_mark d (queued (untraced table))) marks all
 waits-stay d (tabled (read_only table on) ∷ marks) all = waits-stay (after_mark d (tabled (read_only table on))) marks all
 waits-stay d (noded mark ∷ marks) all = waits-stay (after_mark d (noded mark)) marks all ∙ ap RowPart.waiting (part-behind d (noded mark))
+waits-stay d (began of_worker t ∷ marks) all = waits-stay (after_mark d (began of_worker t)) marks all
+waits-stay d (ended of_worker t true ∷ marks) all = waits-stay (after_mark d (ended of_worker t true)) marks all
+waits-stay d (ended of_worker t false ∷ marks) all = waits-stay (after_mark d (ended of_worker t false)) marks all
+waits-stay d (tabled (wrote of_worker t table key old new) ∷ marks) all = waits-stay (after_mark d (tabled (wrote of_worker t table key old new))) marks all
 waits-stay d (began (of_copy table) t ∷ marks) all = waits-stay (after_mark d (began (of_copy table) t)) marks all
 waits-stay d (ended (of_copy table) t true ∷ marks) all = waits-stay (after_mark d (ended (of_copy table) t true)) marks all
 waits-stay d (ended (of_copy table) t false ∷ marks) all = waits-stay (after_mark d (ended (of_copy table) t false)) marks all

@@ -7,12 +7,11 @@ use Rattle.sky_val.specs.declared.column.ColKind.TheVariants as kind
 use Rattle.sky_names.proofs.PlaceLemmas.{same_name}
 use Rattle.londiste_state.specs.declared.state.TableState.{TableState}
 use Rattle.londiste_state.specs.Nodes.{of_leaf, Leaf, is_among, tables_of}
-use Rattle.sky_model.specs.declared.reply.Reply.{Reply}
-use Rattle.sky_model.specs.declared.reply.Reply.TheVariants.{Done, Null, TableMoved}
+use Rattle.sky_model.specs.declared.reply.Reply.TheVariants.{Null, TableMoved}
 use Rattle.sky_model.specs.declared.reply.Refusal.TheVariants.{NoNode}
-use Rattle.sky_model.specs.History.{within, noded, state_set}
-use Rattle.sky_model.specs.Outcome.{Checked, Outcome, ◌>>=◌, found_or, answers, does_marks, marks_of}
-use Rattle.sky_model.specs.StepNode.{moving, may_serve, node_does, table_number}
+use Rattle.sky_model.specs.History.{within}
+use Rattle.sky_model.specs.Outcome.{Checked, Outcome, ◌>>=◌, found_or, answers, marks_of}
+use Rattle.sky_model.specs.StepNode.{moves_table, moving, if_there, table_number, may_serve, call_form, node_does}
 use Rattle.sky_model.specs.CopyMoves.{copy_move}
 use Rattle.sky_model.specs.NodesOfWorld.{WorldOutcome, Located, node_called, done_in, same_kind, same_column, same_columns, columns_called}
 use Rattle.sky_model.specs.Nodes.{leaf_tables}
@@ -123,18 +122,25 @@ same-table p r table l node among alike = record {
 -- a table that may not go into a state stays as it is
 pub nothing-sent : (v : WorldView) (d : ℕ) (table : List ℕ) (state : TableState) → may_serve (moving table state) ((seen_world v).database d).node ≡ false → Happened v v (call_facts (seen_world v) d (moving table state))
 nothing-sent v d table state not =
-    subst (λ b. Happened v v (map (within d) (marks_of (if b then does_marks Done (noded (state_set table state) ∷ []) else answers Null)))) (sym not) (nothing-happened v)
+    subst (λ b. Happened v v (map (within d) (marks_of (if b then call_form ((seen_world v).database d) (moving table state) else answers Null)))) (sym not) (nothing-happened v)
 
 pub sent : (old new : WorldView) (d : ℕ) (table : List ℕ) (state : TableState) → Happened old new (call_facts (seen_world old) d (moving table state))
     → Does old new (TableMoved table state) (done_in d (TableMoved table state) (node_does ((seen_world old).database d) (moving table state)))
 sent old new d table state happened = record {
   facts = call_facts (seen_world old) d (moving table state);
-  outcome = by (may_serve (moving table state) ((seen_world old).database d).node);
+  outcome = by (may_serve (moving table state) here.node) (table_number here table);
   moments = tt;
   happened = happened;
 }
   where
-    by : (b : Bool) → done_in d (TableMoved table state) (if b then does_marks Done (noded (state_set table state) ∷ []) else answers Null)
-        ≡ Ok (record { replies = TableMoved table state ∷ []; facts = map (within d) (marks_of (if b then does_marks Done (noded (state_set table state) ∷ []) else answers Null)) })
-    by true = refl
-    by false = refl
+    here : Database
+    here = (seen_world old).database d
+
+    there : Option ℕ → Checked Outcome
+    there o = if_there o (λ t. moves_table here t table state)
+
+    by : (b : Bool) (o : Option ℕ) → done_in d (TableMoved table state) (if b then there o else answers Null)
+        ≡ Ok (record { replies = TableMoved table state ∷ []; facts = map (within d) (marks_of (if b then there o else answers Null)) })
+    by true None = refl
+    by true (Some t) = refl
+    by false o = refl

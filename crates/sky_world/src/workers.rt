@@ -143,6 +143,7 @@ impl World {
 
     /// Runs `londiste_step`: the copy of the leaf's next table begins, one at a time.
     pub(crate) fn londiste_step(&mut self, name: &Text) -> Result<Reply, Stop>
+        requires sound { self.old.has_failed ≡ false }
         ensures { Ran self.old self.new result (londiste_step (seen_world self.old) name.now) }
     {
         match self.find_node(name) {
@@ -166,6 +167,7 @@ impl World {
 
     /// The copy of a table of a leaf is to begin.
     fn start_next(&mut self, database: usize, table: Text) -> Reply
+        requires sound { self.old.has_failed ≡ false }
         requires database { database < length self.old.databases.names }
         ensures { Does self.old self.new result (done_in database (TableMoved table InCopy) (node_does ((seen_world self.old).database database) (moving table InCopy))) }
     {
@@ -175,7 +177,8 @@ impl World {
 
     /// A table of a leaf goes into the state of one that is copied, if it may.
     fn set_in_copy(&mut self, database: usize, table: &Text)
-        requires { database < length self.old.databases.names }
+        requires sound { self.old.has_failed ≡ false }
+        requires database { database < length self.old.databases.names }
         ensures { Happened self.old self.new (call_facts (seen_world self.old) database (moving table.now InCopy)) }
     {
         if !self.may_start(database, table) {

@@ -4,8 +4,8 @@ use Rattle.sky_model.proofs.laws.copies_leave_their_rows.Goals as goal
 pub returns-clause-alone : goal.returns-clause-alone
 returns-clause-alone c = law.copies_run_alone
 
-pub returns-clause-tables : goal.returns-clause-tables
-returns-clause-tables c = law.copies_are_of_leaf_tables
+pub returns-clause-states : goal.returns-clause-states
+returns-clause-states c = law.copies_are_of_tables_in_copy
 
 pub returns-clause-deletes : goal.returns-clause-deletes
 returns-clause-deletes c = law.copies_delete_what_stands

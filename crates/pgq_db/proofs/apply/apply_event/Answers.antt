@@ -1,0 +1,6 @@
+use Rattle.sky_state.specs.Seen.{seen}
+use Rattle.pgq_db.proofs.ApplySteps.{makes-unnamed}
+use Rattle.pgq_db.proofs.apply.apply_event.Goals as goal
+
+pub returns-in-None-clause-made : goal.returns-in-None-clause-made
+returns-in-None-clause-made c = makes-unnamed (seen c.args.rows.now) c.args.txid c.args.event.now c.in-None.is
