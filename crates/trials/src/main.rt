@@ -5,12 +5,16 @@
 //! is in `stdout`.
 #![tactic(auto)]
 
+mod applies;
 mod copies;
 mod databases;
 mod encoding;
+mod leaf_copies;
+mod leaves;
 mod lines;
 mod nodes;
 mod providers;
+mod replica;
 mod runs;
 mod scans;
 mod sessions;

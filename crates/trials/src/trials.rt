@@ -1,6 +1,7 @@
 use crate::databases::Database;
 use crate::encoding::Encoding;
 use crate::nodes::Nodes;
+use crate::replica::Replica;
 use crate::runs::Runs;
 use crate::scans::Scans;
 use crate::sessions::Sessions;
@@ -8,7 +9,7 @@ use crate::settings::Settings;
 use crate::ticks::Kept;
 use crate::words::first_word;
 use crate::workers::Workers;
-use crate::{copies, lines, states, streams};
+use crate::{applies, copies, lines, states, streams};
 use anyhow::bail;
 use std::alloc::Global;
 
@@ -20,6 +21,8 @@ pub struct Trials {
     sessions: Sessions,
     database: Database,
     nodes: Nodes,
+    // Of the table `applies.txt`.
+    replica: Replica,
     workers: Workers,
     runs: Runs,
     settings: Settings,
@@ -34,6 +37,7 @@ impl Trials {
             sessions: Sessions::new(alloc),
             database: Database::new(alloc),
             nodes: Nodes::new(alloc),
+            replica: Replica::new(alloc),
             workers: Workers::new(alloc),
             runs: Runs::new(alloc),
             settings: Settings::new(),
@@ -52,6 +56,7 @@ impl Trials {
             "sessions.txt" => self.sessions.answer(alloc, command, rest),
             "databases.txt" => self.database.answer(alloc, command, rest),
             "nodes.txt" => self.nodes.answer(alloc, command, rest),
+            "applies.txt" => applies::answer(alloc, &mut self.replica, command, rest),
             "workers.txt" => self.workers.answer(alloc, command, rest),
             "states.txt" => states::answer(alloc, command, rest),
             "lines.txt" => lines::answer(alloc, command, rest),
