@@ -1,0 +1,4 @@
+pub mod Tables
+pub mod LawsOfFollowing
+pub mod LawsOfOwners
+pub mod LawsOfSynced
