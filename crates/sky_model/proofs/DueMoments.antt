@@ -412,7 +412,7 @@ keep-node false d past since = since
 
 started-at : (past : Past) (who : ℕ) (stmt : Stmt) (d : ℕ) → AreStarted past → AreStarted (on_top past (does_at by_past past who stmt d).facts)
 started-at past who (Node stmt) d since =
-    after-node_does AreStarted (λ p e since. since) (λ p e table hand since. since) (λ p e call since. keep-marks e (marks_of (node_does (database_of (history_in p e)) call)) p since) past who stmt d
+    after-node_does AreStarted (λ p e since. since) (λ p e table hand since. since) (λ p e batch since. since) (λ p e call since. keep-marks e (marks_of (node_does (database_of (history_in p e)) call)) p since) past who stmt d
     (keep-deed d [] (database_turn (within_database by_past d) past (clock past) who (Node stmt)) (λ p still. still) past since) since
 started-at past who (CreateRoot name queue) d since =
     let turn_within : Turn = database_turn (within_database by_past d) past (clock past) who (CreateRoot name queue) in

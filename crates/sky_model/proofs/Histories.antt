@@ -41,7 +41,7 @@ use Rattle.sky_model.proofs.CallsRest.{calls-rest}
 use Rattle.sky_model.specs.Nodes.{node, leaf_tables}
 use Rattle.sky_model.specs.Rows.{table_names}
 use Rattle.sky_model.specs.LawsOfNodes.{is_one_of}
-use Rattle.sky_model.proofs.NodeDeeds.{node-quiet, IsOther, after-other_does}
+use Rattle.sky_model.proofs.NodeDeeds.{node-quiet, after-node_does}
 use Rattle.sky_model.specs.Calls.{may_make, database_turn, opening, opens, outside_does, beside, gets_node, node_if, does_at, session_does, turn, Call, called, past_of}
 use Rattle.sky_model.specs.SessionMarks.{look_of, entry_place, enters, failing}
 use Rattle.sky_model.specs.Promises.{after_all}
@@ -195,16 +195,10 @@ same-turn-within past d now who stmt =
       behind = λ p mark. ap (λ b. if b then mark ∷ history_in p d else history_in p d) (same-session d);
     }) past now who stmt
 
--- a call of a database by which no batch is applied
-abbrev pub IsPlain : DatabaseCall → Type 0
-IsPlain (served call) = IsOther call
-IsPlain call = Unit {0}
-
 -- such calls of a database make a history, and are in form if this holds
 record Made (formed : Type 0) (h : History) : Type 0 where
   calls : List DatabaseCall
   in_form : formed → All IsDatabaseCallInForm calls
-  plain : All IsPlain calls
   make : after_all database_part calls ≡ h
 
 -- a past in which that is so of each database
@@ -216,7 +210,6 @@ made_turn : (formed : Type 0) (h : History) (now : ℤ) (who : ℕ) (stmt : Stmt
 made_turn formed h now who stmt is_form made = record {
   calls = stepped who stmt now ∷ made.calls;
   in_form = λ holds. All-cons IsDatabaseCallInForm (stepped who stmt now) made.calls (is_form holds) (made.in_form holds);
-  plain = All-cons IsPlain (stepped who stmt now) made.calls tt made.plain;
   make = λ i. marked (made.make i) (database_turn database_by_history (made.make i) now who stmt).marks;
 }
 
@@ -251,26 +244,25 @@ made_outside : (formed : Type 0) (past : Past) (who : ℕ) (stmt : Stmt) (name :
 made_outside formed past who stmt None is_form all = all
 made_outside formed past who stmt (Some name) is_form all = made_opens formed past who stmt name (place_of name (database_names past)) is_form all
 
-made_served : (formed : Type 0) (h : History) (call : NodeCall) → IsOther call → Made formed h → Made formed (marked h (marks_of (node_does (database_of h) call)))
-made_served formed h call other made = record {
+made_served : (formed : Type 0) (h : History) (call : NodeCall) → Made formed h → Made formed (marked h (marks_of (node_does (database_of h) call)))
+made_served formed h call made = record {
   calls = served call ∷ made.calls;
   in_form = λ holds. All-cons IsDatabaseCallInForm (served call) made.calls tt (made.in_form holds);
-  plain = All-cons IsPlain (served call) made.calls other made.plain;
   make = λ i. marked (made.make i) (marks_of (node_does (database_of (made.make i)) call));
 }
 
 -- a call for a node in a database
-made_called-in : (formed : Type 0) (past : Past) (d : ℕ) (call : NodeCall) → IsOther call → AllMade formed past
+made_called-in : (formed : Type 0) (past : Past) (d : ℕ) (call : NodeCall) → AllMade formed past
     → AllMade formed (on_top past (map (within d) (marks_of (node_does (database_of (history_in past d)) call))))
-made_called-in formed past d call other all = λ n.
+made_called-in formed past d call all = λ n.
     let marks : List Mark = marks_of (node_does (database_of (history_in past d)) call) in
     subst (Made formed) (sym (history-marks past d marks n))
     (by_same (λ b. Made formed (if b then marked (history_in past n) marks else history_in past n)) d n
-    (λ same. subst (λ m. Made formed (marked (history_in past m) marks)) same (made_served formed (history_in past d) call other (all d))) (λ _. all n))
+    (λ same. subst (λ m. Made formed (marked (history_in past m) marks)) same (made_served formed (history_in past d) call (all d))) (λ _. all n))
 
 made_at : (formed : Type 0) (past : Past) (who : ℕ) (stmt : Stmt) (d : ℕ) → (formed → IsInForm stmt) → AllMade formed past → AllMade formed (on_top past (does_at by_past past who stmt d).facts)
 made_at formed past who (Node stmt) d is_form all =
-    after-other_does (AllMade formed) (λ p e made. made) (λ p e table hand made. made) (made_called-in formed) past who stmt d (made_deed formed past d who (Node stmt) [] (λ p n. refl) is_form all) all
+    after-node_does (AllMade formed) (λ p e made. made) (λ p e table hand made. made) (λ p e batch made. made) (made_called-in formed) past who stmt d (made_deed formed past d who (Node stmt) [] (λ p n. refl) is_form all) all
 made_at formed past who (CreateRoot name queue) d is_form all =
     let turn_within : Turn = database_turn (within_database by_past d) past (world_of past).now who (CreateRoot name queue) in
     let got : Bool = gets_node ((world_of past).database d) turn_within in
@@ -292,7 +284,6 @@ made_daemon : (formed : Type 0) (h : History) (part : DaemonPart) (now : ℤ) �
 made_daemon formed h part now made = record {
   calls = worked part now ∷ made.calls;
   in_form = λ holds. All-cons IsDatabaseCallInForm (worked part now) made.calls tt (made.in_form holds);
-  plain = All-cons IsPlain (worked part now) made.calls tt made.plain;
   make = λ i. marked (made.make i) (daemon_does database_by_history (made.make i) part now).marks;
 }
 
@@ -318,10 +309,10 @@ made_called formed past call None is_form all =
 
 -- if something else holds that implies it
 made_if_given : (formed given : Type 0) → (given → formed) → (h : History) → Made formed h → Made given h
-made_if_given formed given gives h made = record { calls = made.calls; in_form = λ holds. made.in_form (gives holds); plain = made.plain; make = made.make }
+made_if_given formed given gives h made = record { calls = made.calls; in_form = λ holds. made.in_form (gives holds); make = made.make }
 
 made_past : (calls : List Call) → AllMade (All IsCallInForm calls) (past_of calls)
-made_past [] d = record { calls = []; in_form = λ holds. All-nil IsDatabaseCallInForm; plain = All-nil IsPlain; make = refl }
+made_past [] d = record { calls = []; in_form = λ holds. All-nil IsDatabaseCallInForm; make = refl }
 made_past (call ∷ calls) d =
     made_called (All IsCallInForm (call ∷ calls)) (past_of calls) call (place_of call.who (session_names (past_of calls)))
     (λ holds. (All-head IsCallInForm call calls holds).1)
@@ -331,16 +322,6 @@ pub histories_are_made_by_own_calls : HistoriesAreMadeByOwnCalls
 histories_are_made_by_own_calls calls database =
     let made : Made (All IsCallInForm calls) (history_in (past_of calls) database) = made_past calls database in
     record { own_calls = made.calls; in_form = made.in_form; make = made.make }
-
--- by none of the database's calls a batch is applied: no statement of the world does so
-pub record IsMadePlainly (h : History) : Type 0 where
-  pub calls : List DatabaseCall
-  pub plain : All IsPlain calls
-  pub make : after_all database_part calls ≡ h
-
-pub made_plainly : (calls : List Call) (database : ℕ) → IsMadePlainly (history_in (past_of calls) database)
-made_plainly calls database =
-    let made : Made (All IsCallInForm calls) (history_in (past_of calls) database) = made_past calls database in record { calls = made.calls; plain = made.plain; make = made.make }
 
 -- so a place of the world is one of its database's calls
 pub world_place : (calls : List Call) (database : ℕ) (later : List Mark) (p : History) → All IsCallInForm calls → history_in (past_of calls) database ≡ later ++ p → IsPlace p

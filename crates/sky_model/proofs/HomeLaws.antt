@@ -271,7 +271,7 @@ for-nodes _ e = refl
 
 homed-at : (past : Past) → AllLegal past → Homed past → (who : ℕ) (stmt : Stmt) (d : ℕ) → home past who ≡ Some d → Homed (on_top past (does_at by_past past who stmt d).facts)
 homed-at past all homed who (Node stmt) d is =
-    after-node_does Homed (λ p e still. still) (λ p e table hand still. still)
+    after-node_does Homed (λ p e still. still) (λ p e table hand still. still) (λ p e batch still. still)
     (λ p e call still. homed-marks p e (marks_of (node_does (database_of (history_in p e)) call)) (each-node is_staying for-nodes (database_of (history_in p e)) call) still) past who stmt d
     (homed-inside past homed d who is [] (node-quiet false d) (Node stmt)) homed
 homed-at past all homed who (CreateRoot name queue) d is =

@@ -134,6 +134,7 @@ mod WorkedTriggers
 mod WorkedWorkers
 mod WorkedCopies
 mod WorkedApplies
+mod WorkedReplays
 pub mod Splitting
 pub mod Scripts
 pub mod Naming

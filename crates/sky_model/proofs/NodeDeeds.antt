@@ -1,39 +1,31 @@
 -- What a statement on nodes does in the world: calls for nodes in databases, one after another.
-use Rattle.std.proofs.Common.{◌≡◌, ℕ, ◌==◌, List, [], ◌∷◌, ◌++◌, Bool, true, false, not, ◌||◌, map, Option, Some, None, Ok, Err, IfOk, is_some, is_none, option_map, bytes_eq, length, nat_lt, refl, sym, ◌∙◌, ap, subst, append_assoc, if◌then◌else◌}
+use Rattle.std.proofs.Common.{◌≡◌, ℕ, ◌==◌, List, [], ◌∷◌, ◌++◌, Bool, true, false, not, ◌||◌, map, Option, Some, None, Ok, Err, IfOk, is_some, is_none, option_map, bytes_eq, refl, sym, ◌∙◌, ap, subst, append_assoc, if◌then◌else◌}
 use Rattle.std.proofs.lemmas.Bool.{not-false, or_parts}
 use Rattle.sky_names.specs.Places.{place_of}
-use Rattle.londiste_state.specs.declared.state.TableState.TheVariants.{InCopy, CatchingUp}
-use Rattle.londiste_state.specs.Nodes.{Node, of_root, of_leaf, Root, Leaf, LeafTable, node_name, table_of, tables_of, is_among}
+use Rattle.londiste_state.specs.Nodes.{Node, of_root, of_leaf, Root, Leaf, node_name, table_of, tables_of, is_among}
 use Rattle.sky_model.specs.Nodes.{node}
 use Rattle.sky_model.specs.declared.stmt.Stmt.TheVariants as stmt
 use Rattle.sky_model.specs.declared.stmt.NodeStmt.{NodeStmt}
 use Rattle.sky_model.specs.declared.stmt.NodeStmt.TheVariants.{CreateLeaf, AddTable, RemoveTable, TableState, CopyStep, Restart, RestartTable, LondisteStep}
 use Rattle.sky_model.specs.declared.reply.Reply.{Reply}
-use Rattle.sky_model.specs.declared.reply.Reply.TheVariants.{Done, Null, RowsCopied, TableMoved}
-use Rattle.sky_model.specs.declared.reply.Limit.TheVariants.{Consumers}
+use Rattle.sky_model.specs.declared.reply.Reply.TheVariants.{Done, Null}
 use Rattle.sky_model.specs.declared.reply.Refusal.{Refusal}
-use Rattle.sky_model.specs.declared.reply.Refusal.TheVariants.{AlreadyInSet, IdsSpent, TooMany, NodeExists, NoNode, NoTable, NotInSet, NotProvider, SchemaDiffers, TableInUse}
-use Rattle.sky_model.specs.History.{Mark, Fact, within, noded, leaf_made, node_made, in_hand, Past}
+use Rattle.sky_model.specs.declared.reply.Refusal.TheVariants.{AlreadyInSet, NodeExists, NoNode, NoTable, NotInSet, NotProvider, SchemaDiffers, TableInUse}
+use Rattle.sky_model.specs.History.{Mark, Fact, within, noded, leaf_made, node_made, in_hand, batch_in_hand, Past}
 use Rattle.sky_model.specs.State.{Database, database_of}
-use Rattle.sky_model.specs.Hands.{CopyHand}
+use Rattle.sky_model.specs.Hands.{BatchHand, Hand}
 use Rattle.sky_model.specs.World.{World, world_of, history_in, after_facts, on_top}
 use Rattle.sky_model.specs.Outcome.{Outcome, Checked, ◌>>=◌, ◌>>◌, refused_if, refused_by, found_or, answers, does_marks, marks_of}
 use Rattle.sky_model.specs.Reader.{part_by_history, by_past, within_database}
 use Rattle.sky_model.specs.Settling.{behind_marks}
 use Rattle.sky_model.specs.Clock.{deed_in}
 use Rattle.sky_model.specs.StepQueue.{newest_id}
-use Rattle.sky_model.specs.StepNode.{set_queue, set_queue_of, joins, lists, unlists, adds, NodeCall, joining, making_leaf, adding, moving, listing, unlisting, if_there, table_number, may_serve, call_form, node_does, removing, parting, holding, letting_go, beginning_copy, copying_rows, ending_copy, is_full}
-use Rattle.sky_model.specs.StepConsumer.{sub_ids_spent}
-use Rattle.sky_model.specs.OwnTransaction.{next_id}
-use Rattle.sky_model.specs.ShownRows.{snapshot_now}
-use Rattle.sky_model.proofs.NodeCalls.{is_applying}
-use Rattle.sky_val.specs.declared.val.Val.{Val}
-use Rattle.sky_val.specs.Entries.{Entries}
-use Rattle.sky_txid.specs.Snapshot.{SnapshotView}
-use Rattle.londiste_state.specs.declared.state.TableState.{TableState as State}
+use Rattle.sky_model.specs.StepNode.{set_queue, set_queue_of, joins, lists, unlists, adds, NodeCall, joining, making_leaf, adding, listing, unlisting, if_there, table_number, may_serve, call_form, node_does, removing}
 use Rattle.sky_model.specs.NodesOfWorld.{WorldOutcome, Located, if_named, node_among, node_called, done_in, leaf_of, create_leaf, provides, are_columns, columns_called, adds_to, first_user, shows_state}
-use Rattle.sky_model.specs.CopyMoves.{CopyMove, piece_size, rows_from, rows_of, last_key, copies_piece, next_piece, behind_calls, copy_consumer, first_hand, starts_copy, under_way, continues, goes_on, leaf_state, moves_in, copy_move, lets_go_for, copy_running}
-use Rattle.sky_model.specs.WorkersOfWorld.{calls_facts, move_facts, moves, source, source_alike, leaf_table, restarts, restarting, next_to_copy, starts_next, leaf_steps, is_on_way, parts_for, leaves_leaf, removes_from, node_form}
+use Rattle.sky_model.specs.WorkerMoves.{Move}
+use Rattle.sky_model.specs.CopyMoves.{copy_move}
+use Rattle.sky_model.specs.ReplayMoves.{replay_move}
+use Rattle.sky_model.specs.WorkersOfWorld.{calls_facts, move_facts, moves, source, source_alike, leaf_table, restarts, restarting, provider_of, leaf_steps, leaves_leaf, removes_from, node_form}
 use Rattle.sky_model.specs.Calls.{may_make, database_turn, node_if, world_does, does_at}
 use Rattle.sky_model.proofs.LawfulRows.{nothing}
 use Rattle.sky_model.proofs.Cases.{by_test, by_same}
@@ -49,32 +41,28 @@ node-quiet false d = record { histories = λ past n. refl; homes = λ past who. 
 abbrev call_facts : Past → ℕ → NodeCall → List Fact
 call_facts past d call = map (within d) (marks_of (node_does (database_of (history_in past d)) call))
 
--- a call that applies no batch
-abbrev pub IsOther : NodeCall → Type 0
-IsOther call = is_applying call ≡ false
-
-abbrev AllOther : List NodeCall → Type 0
-AllOther [] = Unit {0}
-AllOther (call ∷ calls) = IsOther call × AllOther calls
-
--- facts that such calls leave, one after another, and databases that get their nodes, and what workers have in hand
+-- facts that calls for nodes leave, one after another, and databases that get their nodes, and what workers have in hand
 data Serves : Past → List Fact → Type 0 where
   none : (past : Past) → Serves past []
-  last : (past : Past) (d : ℕ) (call : NodeCall) → IsOther call → Serves past (call_facts past d call)
-  first : (past : Past) (d : ℕ) (call : NodeCall) → IsOther call → (rest : List Fact) → Serves (on_top past (call_facts past d call)) rest → Serves past (call_facts past d call ++ rest)
+  last : (past : Past) (d : ℕ) (call : NodeCall) → Serves past (call_facts past d call)
+  first : (past : Past) (d : ℕ) (call : NodeCall) (rest : List Fact) → Serves (on_top past (call_facts past d call)) rest → Serves past (call_facts past d call ++ rest)
   gets : (past : Past) (d : ℕ) (rest : List Fact) → Serves (node_made d ∷ past) rest → Serves past (node_made d ∷ rest)
-  holds : (past : Past) (d : ℕ) (table : List ℕ) (hand : Option CopyHand) (rest : List Fact) → Serves (in_hand d table hand ∷ past) rest → Serves past (in_hand d table hand ∷ rest)
+  holds : (past : Past) (d : ℕ) (table : List ℕ) (hand : Option Hand) (rest : List Fact) → Serves (in_hand d table hand ∷ past) rest → Serves past (in_hand d table hand ∷ rest)
+  takes : (past : Past) (d : ℕ) (batch : Option BatchHand) (rest : List Fact) → Serves (batch_in_hand d batch ∷ past) rest → Serves past (batch_in_hand d batch ∷ rest)
 
 -- what each of these keeps, they keep
 module _ (Q : Past → Type 0) (made : (past : Past) (d : ℕ) → Q past → Q (node_made d ∷ past))
-    (handed : (past : Past) (d : ℕ) (table : List ℕ) (hand : Option CopyHand) → Q past → Q (in_hand d table hand ∷ past)) (called : (past : Past) (d : ℕ) (call : NodeCall) → IsOther call → Q past → Q (on_top past (call_facts past d call))) where
+    (handed : (past : Past) (d : ℕ) (table : List ℕ) (hand : Option Hand) → Q past → Q (in_hand d table hand ∷ past))
+    (taken : (past : Past) (d : ℕ) (batch : Option BatchHand) → Q past → Q (batch_in_hand d batch ∷ past))
+    (called : (past : Past) (d : ℕ) (call : NodeCall) → Q past → Q (on_top past (call_facts past d call))) where
   after-serves : (past : Past) (facts : List Fact) → Serves past facts → Q past → Q (on_top past facts)
   after-serves past _ (none _) q = q
-  after-serves past _ (last _ d call other) q = called past d call other q
-  after-serves past _ (first _ d call other rest also) q =
-      subst Q (sym (on_top-append past (call_facts past d call) rest)) (after-serves (on_top past (call_facts past d call)) rest also (called past d call other q))
+  after-serves past _ (last _ d call) q = called past d call q
+  after-serves past _ (first _ d call rest also) q =
+      subst Q (sym (on_top-append past (call_facts past d call) rest)) (after-serves (on_top past (call_facts past d call)) rest also (called past d call q))
   after-serves past _ (gets _ d rest also) q = after-serves (node_made d ∷ past) rest also (made past d q)
   after-serves past _ (holds _ d table hand rest also) q = after-serves (in_hand d table hand ∷ past) rest also (handed past d table hand q)
+  after-serves past _ (takes _ d batch rest also) q = after-serves (batch_in_hand d batch ∷ past) rest also (taken past d batch q)
 
 -- ---- the node of a name
 
@@ -117,82 +105,6 @@ apart-bare past d p queue bare set =
     by_same (λ b. b ≡ false) p d
     (λ same. absurd (cc (sym set ∙ ap (set_queue_of (database_of (history_in past p))) (ap (λ n. node (history_in past n)) same ∙ bare)))) (λ _. refl)
 
--- ---- the calls of a move
-
-record OtherMove (move : CopyMove) : Type 0 where
-  provider : AllOther move.provider
-  replica : AllOther move.replica
-
-other-append : (xs ys : List NodeCall) → AllOther xs → AllOther ys → AllOther (xs ++ ys)
-other-append [] ys xs_are ys_are = ys_are
-other-append (x ∷ xs) ys xs_are ys_are = (xs_are.0, other-append xs ys xs_are.1 ys_are)
-
-piece-other : (table : List ℕ) (snapshot : SnapshotView) (hand : CopyHand) (rows : Entries (List Val)) → OtherMove (copies_piece table snapshot hand rows)
-piece-other table snapshot hand rows = of (nat_lt (length rows) piece_size)
-  where
-    of : (last : Bool) → OtherMove (if last then record {
-      provider = letting_go hand.hold ∷ [];
-      replica = copying_rows table (rows_of rows) ∷ ending_copy table snapshot hand.tick ∷ [];
-      replies = RowsCopied (length rows) ∷ TableMoved table CatchingUp ∷ [];
-      hand = None;
-    } else record {
-      provider = [];
-      replica = copying_rows table (rows_of rows) ∷ [];
-      replies = RowsCopied (length rows) ∷ [];
-      hand = Some (record hand { last = last_key hand.last rows });
-    })
-    of true = record { provider = (refl, tt); replica = (refl, (refl, tt)) }
-    of false = record { provider = tt; replica = (refl, tt) }
-
-starts-other : (p r : Database) (table : List ℕ) → IfOk (starts_copy p r table) OtherMove
-starts-other p r table = of (is_full p (copy_consumer r.node)) (sub_ids_spent p) (next_id r.part)
-  where
-    piece : OtherMove (next_piece p table (snapshot_now p.part) (first_hand p))
-    piece = piece-other table (snapshot_now p.part) (first_hand p) (rows_from p table (snapshot_now p.part) None piece_size)
-
-    of : (full spent : Bool) (c : Checked ℕ) → IfOk (refused_if full (TooMany Consumers) >> (refused_if spent IdsSpent >> (c >>= (λ t.
-        Ok (behind_calls (parting (copy_consumer r.node) ∷ joining (copy_consumer r.node) ∷ holding ∷ []) (beginning_copy table ∷ []) (next_piece p table (snapshot_now p.part) (first_hand p))))))) OtherMove
-    of true spent c = tt
-    of false true c = tt
-    of false false (Err refusal) = tt
-    of false false (Ok t) = record { provider = (refl, (refl, (refl, piece.provider))); replica = (refl, piece.replica) }
-
-continues-other : (p : Database) (table : List ℕ) (hand : Option CopyHand) (o : Option (CopyHand × SnapshotView)) → IfOk (continues p table hand o) OtherMove
-continues-other p table hand None = record { provider = tt; replica = tt }
-continues-other p table hand (Some x) = piece-other table x.1 x.0 (rows_from p table x.1 x.0.last piece_size)
-
-goes-other : (p r : Database) (table : List ℕ) (hand : Option CopyHand) (running : Option ℕ) → IfOk (goes_on p r table hand running) OtherMove
-goes-other p r table hand None = starts-other p r table
-goes-other p r table hand (Some t) = continues-other p table hand (under_way p hand)
-
-moves-other : (state : State) (p r : Database) (table : List ℕ) (hand : Option CopyHand) → IfOk (moves_in state p r table hand) OtherMove
-moves-other InCopy p r table hand = goes-other p r table hand (copy_running r table)
-moves-other state p r table hand = record { provider = tt; replica = tt }
-
-move-other : (p r : Database) (table : List ℕ) (hand : Option CopyHand) → IfOk (copy_move p r table hand) OtherMove
-move-other p r table hand = moves-other (leaf_state table r.node) p r table hand
-
-lets-other : (hand : Option CopyHand) → AllOther (lets_go_for hand)
-lets-other None = tt
-lets-other (Some hand) = (refl, tt)
-
-restarting-other : (table : List ℕ) (hand : Option CopyHand) → OtherMove (restarting table hand)
-restarting-other table hand = record { provider = lets-other hand; replica = (refl, tt) }
-
-parts-other : (n : Option Node) (state : Option State) → AllOther (parts_for n state)
-parts-other n None = tt
-parts-other n (Some state) = of (is_on_way state)
-  where
-    of : (b : Bool) → AllOther (if b then parting (copy_consumer n) ∷ [] else [])
-    of true = (refl, tt)
-    of false = tt
-
-leaves-other : (l : Leaf) (table : List ℕ) (hand : Option CopyHand) → OtherMove (leaves_leaf l table hand)
-leaves-other l table hand = record {
-  provider = other-append (lets_go_for hand) (parts_for (Some (of_leaf l)) (option_map LeafTable.state (table_of table l))) (lets-other hand) (parts-other (Some (of_leaf l)) (option_map LeafTable.state (table_of table l)));
-  replica = (refl, tt);
-}
-
 -- ---- the statements
 
 module _ (past : Past) where
@@ -219,24 +131,24 @@ module _ (past : Past) where
   if-checked (Err refusal) next serves = tt
 
   -- what a call does
-  serves-does : (d : ℕ) (reply : Reply) (call : NodeCall) → IsOther call → ServesIfOk (done_in d reply (node_does (database_of (history_in past d)) call))
-  serves-does d reply call other = of (node_does (database_of (history_in past d)) call) refl
+  serves-does : (d : ℕ) (reply : Reply) (call : NodeCall) → ServesIfOk (done_in d reply (node_does (database_of (history_in past d)) call))
+  serves-does d reply call = of (node_does (database_of (history_in past d)) call) refl
     where
       of : (x : Checked Outcome) → node_does (database_of (history_in past d)) call ≡ x → ServesIfOk (done_in d reply x)
-      of (Ok outcome) is = subst (λ x. Serves past (map (within d) (marks_of x))) is (last past d call other)
+      of (Ok outcome) is = subst (λ x. Serves past (map (within d) (marks_of x))) is (last past d call)
       of (Err refusal) is = tt
 
   -- what is done in a database is what a call does there, if it is one for the database's node
-  serves-done : (d : ℕ) (reply : Reply) (c : Checked Outcome) (call : NodeCall) → IsOther call → may_serve call (node (history_in past d)) ≡ true → c ≡ call_form (database_of (history_in past d)) call
+  serves-done : (d : ℕ) (reply : Reply) (c : Checked Outcome) (call : NodeCall) → may_serve call (node (history_in past d)) ≡ true → c ≡ call_form (database_of (history_in past d)) call
       → ServesIfOk (done_in d reply c)
-  serves-done d reply c call other may same = subst (λ x. ServesIfOk (done_in d reply x)) (is-served (database_of (history_in past d)) call may ∙ sym same) (serves-does d reply call other)
+  serves-done d reply c call may same = subst (λ x. ServesIfOk (done_in d reply x)) (is-served (database_of (history_in past d)) call may ∙ sym same) (serves-does d reply call)
 
   -- a database without a node gets a leaf
   serves-made : (q : Past) (d : ℕ) (name provider : List ℕ) (tick : ℕ) → node (history_in q d) ≡ None → Serves q (within d (noded (leaf_made name provider tick)) ∷ node_made d ∷ [])
   serves-made q d name provider tick bare =
       subst (λ marks. Serves q (map (within d) marks ++ node_made d ∷ []))
       (ap (λ n. marks_of (if is_none n then does_marks Done (noded (leaf_made name provider tick) ∷ []) else answers Null)) bare)
-      (first q d (making_leaf name provider tick) refl (node_made d ∷ []) (gets _ d [] (none _)))
+      (first q d (making_leaf name provider tick) (node_made d ∷ []) (gets _ d [] (none _)))
 
   serves-leaf : (d p : ℕ) (name provider : List ℕ) (tick queue : ℕ) (c : Checked Outcome) → c ≡ node_does (database_of (history_in past p)) (joining name) → node (history_in past d) ≡ None
       → (p == d) ≡ false → ServesIfOk (leaf_of d p name provider tick c)
@@ -244,7 +156,7 @@ module _ (past : Past) where
   serves-leaf d p name provider tick queue (Ok joined) same bare other =
       let marks : List Mark = marks_of (node_does (database_of (history_in past p)) (joining name)) in
       subst (λ x. Serves past (map (within p) (marks_of x) ++ within d (noded (leaf_made name provider tick)) ∷ node_made d ∷ [])) (sym same)
-      (first past p (joining name) refl (within d (noded (leaf_made name provider tick)) ∷ node_made d ∷ [])
+      (first past p (joining name) (within d (noded (leaf_made name provider tick)) ∷ node_made d ∷ [])
       (serves-made (on_top past (call_facts past p (joining name))) d name provider tick
       (ap node (history-marks past p marks d ∙ ap (λ b. if b then behind_marks part_by_history (history_in past d) marks else history_in past d) other) ∙ bare)))
 
@@ -259,12 +171,12 @@ module _ (past : Past) where
 
   -- ---- moves of workers
 
-  serves-calls : (q : Past) (d : ℕ) (calls : List NodeCall) → AllOther calls → (rest : List Fact) → Serves (on_top q (calls_facts (world_of q) d calls)) rest → Serves q (calls_facts (world_of q) d calls ++ rest)
-  serves-calls q d [] others rest also = also
-  serves-calls q d (call ∷ calls) others rest also =
+  serves-calls : (q : Past) (d : ℕ) (calls : List NodeCall) (rest : List Fact) → Serves (on_top q (calls_facts (world_of q) d calls)) rest → Serves q (calls_facts (world_of q) d calls ++ rest)
+  serves-calls q d [] rest also = also
+  serves-calls q d (call ∷ calls) rest also =
       subst (λ x. Serves q ((front ++ calls_facts x d calls) ++ rest)) (world_of-facts q front)
       (subst (Serves q) (sym (append_assoc front back rest))
-      (first q d call others.0 (back ++ rest) (serves-calls (on_top q front) d calls others.1 rest
+      (first q d call (back ++ rest) (serves-calls (on_top q front) d calls rest
       (subst (λ p. Serves p rest) (on_top-append q front back)
       (subst (λ x. Serves (on_top q (front ++ calls_facts x d calls)) rest) (sym (world_of-facts q front)) also)))))
     where
@@ -274,30 +186,34 @@ module _ (past : Past) where
       back : List Fact
       back = calls_facts (world_of (on_top q front)) d calls
 
-  serves-move : (q : Past) (p d : ℕ) (table : List ℕ) (move : CopyMove) → OtherMove move → Serves q (move_facts (world_of q) p d table move)
-  serves-move q p d table move others =
-      serves-calls q p move.provider others.provider (calls_facts (after_facts (world_of q) there) d move.replica ++ in_hand d table move.hand ∷ [])
-      (subst (λ x. Serves (on_top q there) (calls_facts x d move.replica ++ in_hand d table move.hand ∷ [])) (world_of-facts q there)
-      (serves-calls (on_top q there) d move.replica others.replica (in_hand d table move.hand ∷ []) (holds (on_top (on_top q there) (calls_facts (world_of (on_top q there)) d move.replica)) d table move.hand [] (none _))))
+  serves-move : {H : Type 0} (q : Past) (p d : ℕ) (handed : Option H → Fact) (move : Move H) → ((r : Past) → Serves r (handed move.hand ∷ [])) → Serves q (move_facts (world_of q) p d handed move)
+  serves-move q p d handed move held =
+      serves-calls q p move.provider (calls_facts (after_facts (world_of q) there) d move.replica ++ handed move.hand ∷ [])
+      (subst (λ x. Serves (on_top q there) (calls_facts x d move.replica ++ handed move.hand ∷ [])) (world_of-facts q there)
+      (serves-calls (on_top q there) d move.replica (handed move.hand ∷ []) (held (on_top (on_top q there) (calls_facts (world_of (on_top q there)) d move.replica)))))
     where
       there : List Fact
       there = calls_facts (world_of q) p move.provider
 
-  serves-moves : (p d : ℕ) (table : List ℕ) (c : Checked CopyMove) → IfOk c OtherMove → ServesIfOk (moves w p d table c)
-  serves-moves p d table (Ok move) others = serves-move past p d table move others
-  serves-moves p d table (Err refusal) others = tt
+  serves-moves : {H : Type 0} (p d : ℕ) (handed : Option H → Fact) (c : Checked (Move H)) → ((r : Past) (hand : Option H) → Serves r (handed hand ∷ [])) → ServesIfOk (moves w p d handed c)
+  serves-moves p d handed (Ok move) held = serves-move past p d handed move (λ r. held r move.hand)
+  serves-moves p d handed (Err refusal) held = tt
 
-  serves-next : (d : ℕ) (o : Option (List ℕ)) → ServesIfOk (starts_next w d o)
-  serves-next d None = none past
-  serves-next d (Some table) = serves-does d (TableMoved table InCopy) (moving table InCopy) refl
+  -- what a table's worker has in hand, or a leaf's, comes last
+  in-hand : (d : ℕ) (table : List ℕ) (r : Past) (hand : Option Hand) → Serves r (in_hand d table hand ∷ [])
+  in-hand d table r hand = holds r d table hand [] (none _)
 
-  serves-restarts : (name : List ℕ) (n : Node) → ServesIfOk (restarts name n)
-  serves-restarts name (of_root r) = tt
-  serves-restarts name (of_leaf l) = none past
+  batch-in-hand : (d : ℕ) (r : Past) (batch : Option BatchHand) → Serves r (batch_in_hand d batch ∷ [])
+  batch-in-hand d r batch = takes r d batch [] (none _)
+
+  serves-restarts : (d : ℕ) (name : List ℕ) (n : Node) → ServesIfOk (restarts d name n)
+  serves-restarts d name (of_root r) = tt
+  serves-restarts d name (of_leaf l) = batch-in-hand d past None
 
   serves-steps : (d : ℕ) (name : List ℕ) (n : Node) → ServesIfOk (leaf_steps w d name n)
   serves-steps d name (of_root r) = tt
-  serves-steps d name (of_leaf l) = serves-next d (next_to_copy l)
+  serves-steps d name (of_leaf l) =
+      if-checked (provider_of w l) _ (λ p. serves-moves p d (batch_in_hand d) (replay_move (w.database p) (w.database d) l (w.batches d)) (batch-in-hand d))
 
   -- ---- each of them
 
@@ -305,21 +221,21 @@ module _ (past : Past) where
       → ServesIfOk (adds_to w d table name n)
   serves-adds d table name (of_root r) stands new there =
       if-found (set_queue (w.database d)) (NotProvider r.name) _ (λ queue is.
-      serves-done d Done (lists (w.database d) queue table name) (listing name) refl (may-list (node (history_in past d)) r name stands new)
+      serves-done d Done (lists (w.database d) queue table name) (listing name) (may-list (node (history_in past d)) r name stands new)
       (sym (ap (λ o. if_there o (λ q. if_there (table_number (w.database d) name) (λ t. lists (w.database d) q t name))) is
       ∙ ap (λ o. if_there o (λ t. lists (w.database d) queue t name)) there)))
   serves-adds d table name (of_leaf l) stands new there =
       if-found (provides name (node_called w l.provider)) (NotInSet name) _ (λ p _.
       if-test (not (are_columns ((w.database d).part.columns table) (columns_called name (w.database p)))) (SchemaDiffers name) _ (λ _.
-      serves-done d Done (adds (w.database d) table name) (adding name) refl (may-add (node (history_in past d)) l name stands new)
+      serves-done d Done (adds (w.database d) table name) (adding name) (may-add (node (history_in past d)) l name stands new)
       (sym (ap (λ o. if_there o (λ t. adds (w.database d) t name)) there))))
 
   serves-removes : (d table : ℕ) (name : List ℕ) (n : Node) → (w.database d).node ≡ Some n → is_among name (tables_of n) ≡ true → place_of name (w.database d).part.tables ≡ Some table
       → ServesIfOk (removes_from w d table name n)
   serves-removes d table name (of_root r) stands among there =
       if-refused (option_map TableInUse (first_user w r.name name)) _
-      (serves-done d Done (unlists table name) (unlisting name) refl (may-unlist (node (history_in past d)) r name stands among) (sym (ap (λ o. if_there o (λ t. unlists t name)) there)))
-  serves-removes d table name (of_leaf l) stands among there = if-checked (source w l name) _ (λ p. serves-move past p d name (leaves_leaf l name (w.hands d name)) (leaves-other l name (w.hands d name)))
+      (serves-done d Done (unlists table name) (unlisting name) (may-unlist (node (history_in past d)) r name stands among) (sym (ap (λ o. if_there o (λ t. unlists t name)) there)))
+  serves-removes d table name (of_leaf l) stands among there = if-checked (source w l name) _ (λ p. serves-move past p d (in_hand d name) (leaves_leaf l name (w.hands d name)) (λ r. in-hand d name r None))
 
   serves-state : (name table : List ℕ) (n : Node) → ServesIfOk (shows_state name table n)
   serves-state name table (of_root r) = tt
@@ -342,37 +258,30 @@ module _ (past : Past) where
       if-found (node_called w name) (NoNode name) _ (λ n _.
       if-checked (leaf_table name table n.node) _ (λ l.
       if-checked (source_alike w n.database l table) _ (λ p.
-      serves-moves p n.database table (copy_move (w.database p) (w.database n.database) table (w.hands n.database table)) (move-other (w.database p) (w.database n.database) table (w.hands n.database table)))))
-  serves-form d (Restart name) = if-found (node_called w name) (NoNode name) _ (λ n _. serves-restarts name n.node)
+      serves-moves p n.database (in_hand n.database table) (copy_move (w.database p) (w.database n.database) table (w.hands n.database table)) (in-hand n.database table))))
+  serves-form d (Restart name) = if-found (node_called w name) (NoNode name) _ (λ n _. serves-restarts n.database name n.node)
   serves-form d (RestartTable name table) =
       if-found (node_called w name) (NoNode name) _ (λ n _.
       if-checked (leaf_table name table n.node) _ (λ l.
-      if-checked (source w l table) _ (λ p. serves-move past p n.database table (restarting table (w.hands n.database table)) (restarting-other table (w.hands n.database table)))))
+      if-checked (source w l table) _ (λ p.
+      serves-move past p n.database (in_hand n.database table) (restarting table (w.hands n.database table)) (λ r. in-hand n.database table r None))))
   serves-form d (LondisteStep name) = if-found (node_called w name) (NoNode name) _ (λ n _. serves-steps n.database name n.node)
 
--- what each of these keeps, a statement on nodes keeps, if it is kept where its session may not make it: none of them applies a batch
-pub after-other_does : (Q : Past → Type 0) → ((past : Past) (d : ℕ) → Q past → Q (node_made d ∷ past))
-    → ((past : Past) (d : ℕ) (table : List ℕ) (hand : Option CopyHand) → Q past → Q (in_hand d table hand ∷ past))
-    → ((past : Past) (d : ℕ) (call : NodeCall) → IsOther call → Q past → Q (on_top past (map (within d) (marks_of (node_does (database_of (history_in past d)) call)))))
+-- what each of these keeps, a statement on nodes keeps, if it is kept where its session may not make it
+pub after-node_does : (Q : Past → Type 0) → ((past : Past) (d : ℕ) → Q past → Q (node_made d ∷ past))
+    → ((past : Past) (d : ℕ) (table : List ℕ) (hand : Option Hand) → Q past → Q (in_hand d table hand ∷ past))
+    → ((past : Past) (d : ℕ) (batch : Option BatchHand) → Q past → Q (batch_in_hand d batch ∷ past))
+    → ((past : Past) (d : ℕ) (call : NodeCall) → Q past → Q (on_top past (map (within d) (marks_of (node_does (database_of (history_in past d)) call)))))
     → (past : Past) (who : ℕ) (s : NodeStmt) (d : ℕ)
     → Q (on_top past (deed_in d [] (database_turn (within_database by_past d) past (world_of past).now who (stmt.Node s))).facts)
     → Q past → Q (on_top past (does_at by_past past who (stmt.Node s) d).facts)
-after-other_does Q made handed called past who s d refused q = of (may_make ((world_of past).database d) who (stmt.Node s))
+after-node_does Q made handed taken called past who s d refused q = of (may_make ((world_of past).database d) who (stmt.Node s))
   where
     does : (c : Checked WorldOutcome) → IfOk c (λ o. Serves past o.facts) → Q (on_top past (world_does who c).facts)
-    does (Ok o) serves = after-serves Q made handed called past o.facts serves q
+    does (Ok o) serves = after-serves Q made handed taken called past o.facts serves q
     does (Err refusal) serves = q
 
     of : (b : Bool) → Q (on_top past (if b then world_does who (node_form (world_of past) d s)
         else deed_in d [] (database_turn (within_database by_past d) past (world_of past).now who (stmt.Node s))).facts)
     of true = does (node_form (world_of past) d s) (serves-form past d s)
     of false = refused
-
--- what all calls for nodes keep too
-pub after-node_does : (Q : Past → Type 0) → ((past : Past) (d : ℕ) → Q past → Q (node_made d ∷ past))
-    → ((past : Past) (d : ℕ) (table : List ℕ) (hand : Option CopyHand) → Q past → Q (in_hand d table hand ∷ past))
-    → ((past : Past) (d : ℕ) (call : NodeCall) → Q past → Q (on_top past (map (within d) (marks_of (node_does (database_of (history_in past d)) call)))))
-    → (past : Past) (who : ℕ) (s : NodeStmt) (d : ℕ)
-    → Q (on_top past (deed_in d [] (database_turn (within_database by_past d) past (world_of past).now who (stmt.Node s))).facts)
-    → Q past → Q (on_top past (does_at by_past past who (stmt.Node s) d).facts)
-after-node_does Q made handed called = after-other_does Q made handed (λ past d call other. called past d call)

@@ -1,14 +1,15 @@
 -- Worked copies of a table from one database to another, move by move, by computation.
-use Rattle.std.proofs.Common.{◌≡◌, ℕ, ◌^◌, pos, true, false, List, [], ◌∷◌, Option, Some, None, Ok, Err, Result, map, refl, codes}
+use Rattle.std.proofs.Common.{◌≡◌, ℕ, ◌^◌, pos, true, false, List, [], ◌∷◌, Option, Some, None, Ok, Err, Result, option_map, map, refl, codes}
 use Rattle.sky_val.specs.declared.val.Val.{Val}
 use Rattle.sky_val.specs.declared.val.Val.TheVariants as value
 use Rattle.sky_val.specs.declared.column.ColKind.TheVariants as kind
 use Rattle.londiste_state.specs.declared.state.TableState.TheVariants.{InCopy, CatchingUp}
+use Rattle.londiste_state.specs.Nodes.{LeafTable}
 use Rattle.sky_model.specs.declared.stmt.Stmt.TheVariants as stmt
 use Rattle.sky_model.specs.declared.stmt.RowStmt.{RowStmt}
 use Rattle.sky_model.specs.declared.stmt.RowStmt.TheVariants.{OpenDb, CreateTable, Insert, Delete}
 use Rattle.sky_model.specs.declared.reply.Reply.{Reply}
-use Rattle.sky_model.specs.declared.reply.Reply.TheVariants.{TableMoved, RowsCopied, AwaitsTable}
+use Rattle.sky_model.specs.declared.reply.Reply.TheVariants.{TableMoved, RowsCopied, AwaitsTable, Idle}
 use Rattle.sky_model.specs.declared.reply.Refusal.{Refusal}
 use Rattle.sky_model.specs.declared.reply.Refusal.TheVariants.{IdsSpent}
 use Rattle.sky_model.specs.History.{History}
@@ -18,8 +19,9 @@ use Rattle.sky_model.specs.ShownRows.{snapshot_now}
 use Rattle.sky_model.specs.Promises.{after_all}
 use Rattle.sky_model.specs.DatabaseCalls.{DatabaseCall, stepped, served, database_part}
 use Rattle.sky_model.specs.StepNode.{NodeCall, making_leaf, adding, moving, listing}
-use Rattle.sky_model.specs.Hands.{CopyHand}
-use Rattle.sky_model.specs.CopyMoves.{CopyMove, copy_move, leaf_state, rows_from}
+use Rattle.sky_model.specs.Hands.{Hand}
+use Rattle.sky_model.specs.WorkerMoves.{Move}
+use Rattle.sky_model.specs.CopyMoves.{copy_move, table_at, rows_from}
 
 abbrev does : RowStmt → DatabaseCall
 does statement = stepped 0 (stmt.Row statement) (pos 0)
@@ -51,7 +53,7 @@ abbrev and_then : List DatabaseCall → List NodeCall → List DatabaseCall
 and_then calls [] = calls
 and_then calls (call ∷ rest) = and_then (served call ∷ calls) rest
 
-abbrev moves : (p r : List DatabaseCall) → Option CopyHand → Result CopyMove Refusal
+abbrev moves : (p r : List DatabaseCall) → Option Hand → Result (Move Hand) Refusal
 moves p r hand = copy_move (database_of (after p)) (database_of (after r)) (codes "t") hand
 
 -- the databases and the hand after a move, and what it printed
@@ -59,9 +61,9 @@ pub record Moved : Type 0 where
   p : List DatabaseCall
   r : List DatabaseCall
   printed : List Reply
-  hand : Option CopyHand
+  hand : Option Hand
 
-abbrev moved : (p r : List DatabaseCall) → Result CopyMove Refusal → Moved
+abbrev moved : (p r : List DatabaseCall) → Result (Move Hand) Refusal → Moved
 moved p r (Ok m) = record { p = and_then p m.provider; r = and_then r m.replica; printed = m.replies; hand = m.hand }
 moved p r (Err refusal) = record { p = p; r = r; printed = []; hand = None }
 
@@ -76,11 +78,11 @@ copied_at_once = refl
 at_rest : (holds (after once.p) ≡ []) × (copies (after once.r) ≡ []) × (once.hand ≡ None)
 at_rest = (refl, refl, refl)
 
-state_then : leaf_state (codes "t") (database_of (after once.r)).node ≡ CatchingUp
+state_then : option_map LeafTable.state (table_at (codes "t") (database_of (after once.r)).node) ≡ Some CatchingUp
 state_then = refl
 
--- before and after it is to be copied, the worker waits, or is idle
-waits : map (λ r. (moved provider r (moves provider r None)).printed) (bare ∷ once.r ∷ []) ≡ (AwaitsTable (codes "t") ∷ []) ∷ (AwaitsTable (codes "t") ∷ []) ∷ []
+-- before it is to be copied, the worker waits; once it has copied all, it is idle until there is a batch
+waits : map (λ r. (moved once.p r (moves once.p r None)).printed) (bare ∷ once.r ∷ []) ≡ (AwaitsTable (codes "t") ∷ []) ∷ (Idle ∷ []) ∷ []
 waits = refl
 
 -- the next piece begins above the last one's last key, and is read as the table was when the copy began

@@ -10,7 +10,7 @@ use Rattle.sky_txid.specs.Snapshot.{SnapshotView}
 use Rattle.londiste_state.specs.declared.state.TableState.{TableState}
 use Rattle.sky_model.specs.declared.stmt.Attempt.{Attempt}
 use Rattle.sky_model.specs.Config.{Config}
-use Rattle.sky_model.specs.Hands.{CopyHand}
+use Rattle.sky_model.specs.Hands.{BatchHand, Hand}
 
 -- a batch: a consumer's, from one tick of its queue to another
 pub record Batch : Type 0 where
@@ -160,7 +160,9 @@ pub data Fact : Type 0 where
   -- a database got its node
   node_made : (database : ℕ) → Fact
   -- the worker that copies a table of a database has this in hand from now on, or nothing
-  in_hand : (database : ℕ) (table : List ℕ) (hand : Option CopyHand) → Fact
+  in_hand : (database : ℕ) (table : List ℕ) (hand : Option Hand) → Fact
+  -- the worker of its leaf has this batch in hand, or nothing
+  batch_in_hand : (database : ℕ) (batch : Option BatchHand) → Fact
 
 -- what happened everywhere
 abbrev pub Past : Type 0

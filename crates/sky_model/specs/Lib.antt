@@ -37,7 +37,10 @@ pub mod StepRotation
 pub mod StepCopy
 pub mod StepApply
 pub mod StepNode
+pub mod WorkerMoves
+pub mod BatchMoves
 pub mod CopyMoves
+pub mod ReplayMoves
 pub mod Telling
 pub mod StepSession
 pub mod Selection

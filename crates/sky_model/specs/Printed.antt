@@ -10,7 +10,7 @@ use Rattle.sky_model.specs.declared.reply.ConsumerInfo as consumer
 use Rattle.sky_model.specs.declared.reply.HeldBack as held
 use Rattle.sky_model.specs.declared.reply.HeldBack.TheVariants.{Pending, Period, SecondStep, Consumer, Tick}
 use Rattle.sky_model.specs.declared.reply.Reply.{Reply}
-use Rattle.sky_model.specs.declared.reply.Reply.TheVariants.{Done, Number, Null, Bool, Begin, AlreadyInTransaction, Commit, Rollback, NoTransaction, NotWaiting, Waits, Snapshot, Events, Row, NoRow, Rows, Moment, QueueInfo, BatchInfo, ConsumerInfo, HeldBack, State, TableMoved, RowsCopied, AwaitsTable, Idle, Refused}
+use Rattle.sky_model.specs.declared.reply.Reply.TheVariants.{Done, Number, Null, Bool, Begin, AlreadyInTransaction, Commit, Rollback, NoTransaction, NotWaiting, Waits, Snapshot, Events, Row, NoRow, Rows, Moment, QueueInfo, BatchInfo, ConsumerInfo, HeldBack, State, TableMoved, RowsCopied, AwaitsTable, BatchTaken, BatchApplied, BatchSkipped, BatchFinished, Idle, Refused}
 use Rattle.sky_model.specs.Limits.{most_of}
 use Rattle.sky_model.specs.declared.reply.Limit.{Limit}
 use Rattle.sky_model.specs.declared.reply.Limit.TheVariants.{Sessions, Databases, Queues, Consumers, Tables, Columns, Triggers}
@@ -207,6 +207,10 @@ reply_lines names (State state) = state_text state ∷ []
 reply_lines names (TableMoved table state) = (codes "state " ++ table ++ 32 ∷ state_text state) ∷ []
 reply_lines names (RowsCopied n) = (codes "copied " ++ decimal n) ∷ []
 reply_lines names (AwaitsTable table) = (codes "wait " ++ table) ∷ []
+reply_lines names (BatchTaken id prev cur) = (codes "batch " ++ decimal id ++ 32 ∷ decimal prev ++ 32 ∷ decimal cur) ∷ []
+reply_lines names (BatchApplied cur many) = (codes "applied " ++ decimal cur ++ 32 ∷ decimal many) ∷ []
+reply_lines names (BatchSkipped cur) = (codes "skipped " ++ decimal cur) ∷ []
+reply_lines names (BatchFinished id) = (codes "finished " ++ decimal id) ∷ []
 reply_lines names Idle = codes "idle" ∷ []
 reply_lines names (Refused refusal) = (codes "error " ++ refusal_text names refusal) ∷ []
 

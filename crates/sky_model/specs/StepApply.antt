@@ -1,5 +1,5 @@
--- What applying a batch does to the database of a leaf: one transaction writes the rows of the events that are picked, one after another, and stores the tick. Each
--- definition that takes the database `d` reads it as it is.
+-- What applying a batch does to the database of a leaf: one transaction writes the rows of the events that are picked,
+-- one after another, and stores the tick. Each definition that takes the database `d` reads it as it is.
 use Rattle.std.specs.Prelude.{ℕ, List, [], ◌∷◌, ◌++◌, Bool, true, false, not, ◌&&◌, Option, Some, None, option_map, option_and_then, unwrap_or, is_some, is_none, filter, length, bytes_eq, if◌then◌else◌}
 use Rattle.std.specs.List.{list_any}
 use Rattle.sky_val.specs.declared.val.Val.{Val}

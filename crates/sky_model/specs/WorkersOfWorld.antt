@@ -1,21 +1,21 @@
 -- What the statements on the workers of a leaf do, and what a table that leaves a node leaves behind. Each reads the world `w` as it is; `d` is the
 -- database of the node.
-use Rattle.std.specs.Prelude.{ℕ, List, [], ◌∷◌, ◌++◌, Bool, true, false, not, map, find, Option, Some, None, option_map, Ok, Err, if◌then◌else◌}
-use Rattle.std.specs.List.{list_any}
+use Rattle.std.specs.Prelude.{ℕ, List, [], ◌∷◌, ◌++◌, Bool, false, not, map, Option, Some, None, option_map, Ok, Err, if◌then◌else◌}
 use Rattle.sky_val.specs.declared.column.Column.{Column}
 use Rattle.londiste_state.specs.declared.state.TableState.{TableState}
-use Rattle.londiste_state.specs.declared.state.TableState.TheVariants.{Absent, InCopy, Synced}
 use Rattle.londiste_state.specs.Nodes.{Node, of_root, of_leaf, Leaf, LeafTable, is_among, table_of, tables_of}
 use Rattle.sky_model.specs.declared.stmt.NodeStmt.{NodeStmt}
 use Rattle.sky_model.specs.declared.stmt.NodeStmt.TheVariants as node
-use Rattle.sky_model.specs.declared.reply.Reply.TheVariants.{Done, TableMoved, Idle}
+use Rattle.sky_model.specs.declared.reply.Reply.TheVariants.{Done}
 use Rattle.sky_model.specs.declared.reply.Refusal.TheVariants.{NoNode, NotInSet, NotLeaf, NotProvider, SchemaDiffers, TableInUse}
-use Rattle.sky_model.specs.Hands.{CopyHand}
-use Rattle.sky_model.specs.History.{Fact, within, in_hand}
+use Rattle.sky_model.specs.Hands.{Hand, copy_in}
+use Rattle.sky_model.specs.History.{Fact, within, in_hand, batch_in_hand}
 use Rattle.sky_model.specs.Outcome.{Checked, ◌>>=◌, ◌>>◌, refused_if, refused_by, found_or, marks_of}
 use Rattle.sky_model.specs.StepRows.{table_called}
-use Rattle.sky_model.specs.StepNode.{NodeCall, parting, removing, moving, node_does, set_queue, unlists}
-use Rattle.sky_model.specs.CopyMoves.{CopyMove, copy_consumer, copy_move, lets_go_for, gives_up_in}
+use Rattle.sky_model.specs.StepNode.{NodeCall, parting, removing, node_does, set_queue, unlists}
+use Rattle.sky_model.specs.WorkerMoves.{Move}
+use Rattle.sky_model.specs.CopyMoves.{copy_consumer, copy_move, lets_go_for, gives_up_in}
+use Rattle.sky_model.specs.ReplayMoves.{is_on_way, replay_move}
 use Rattle.sky_model.specs.NodesOfWorld.{WorldOutcome, node_called, provides, are_columns, columns_called, first_user, done_in, create_leaf, add_table, table_state}
 use Rattle.sky_model.specs.World.{World, after_facts}
 
@@ -30,15 +30,15 @@ abbrev pub calls_facts : World → (d : ℕ) → List NodeCall → List Fact
 calls_facts w d [] = []
 calls_facts w d (call ∷ calls) = call_facts w d call ++ calls_facts (after_facts w (call_facts w d call)) d calls
 
--- what a move of a worker leaves: its calls in the provider's database `p`, and then those in the replica's
-abbrev pub move_facts : World → (p d : ℕ) → List ℕ → CopyMove → List Fact
-move_facts w p d table move =
-    let there : List Fact = calls_facts w p move.provider in there ++ (calls_facts (after_facts w there) d move.replica ++ in_hand d table move.hand ∷ [])
+-- what a move of a worker leaves: its calls in the provider's database `p`, and then those in the leaf's, and what it then has in hand
+abbrev pub move_facts : {H : Type 0} → World → (p d : ℕ) → (Option H → Fact) → Move H → List Fact
+move_facts w p d handed move =
+    let there : List Fact = calls_facts w p move.provider in there ++ (calls_facts (after_facts w there) d move.replica ++ handed move.hand ∷ [])
 
 -- what it does, if it isn't refused
-abbrev pub moves : World → (p d : ℕ) → List ℕ → Checked CopyMove → Checked WorldOutcome
-moves w p d table (Ok move) = Ok (record { replies = move.replies; facts = move_facts w p d table move })
-moves w p d table (Err refusal) = Err refusal
+abbrev pub moves : {H : Type 0} → World → (p d : ℕ) → (Option H → Fact) → Checked (Move H) → Checked WorldOutcome
+moves w p d handed (Ok move) = Ok (record { replies = move.replies; facts = move_facts w p d handed move })
+moves w p d handed (Err refusal) = Err refusal
 
 -- ---- the database from which a table is copied
 
@@ -76,20 +76,20 @@ copy_step w name table = do
   n ← found_or (node_called w name) (NoNode name)
   l ← leaf_table name table n.node
   p ← source_alike w n.database l table
-  moves w p n.database table (copy_move (w.database p) (w.database n.database) table (w.hands n.database table))
+  moves w p n.database (in_hand n.database table) (copy_move (w.database p) (w.database n.database) table (w.hands n.database table))
 
--- `restart NAME`: its worker has nothing in hand that would be lost
-abbrev pub restarts : (name : List ℕ) → Node → Checked WorldOutcome
-restarts name (of_root r) = Err (NotLeaf name)
-restarts name (of_leaf l) = Ok (record { replies = Done ∷ []; facts = [] })
+-- `restart NAME`: what its worker has in hand is lost
+abbrev pub restarts : (d : ℕ) → (name : List ℕ) → Node → Checked WorldOutcome
+restarts d name (of_root r) = Err (NotLeaf name)
+restarts d name (of_leaf l) = Ok (record { replies = Done ∷ []; facts = batch_in_hand d None ∷ [] })
 
 abbrev pub restart : World → (name : List ℕ) → Checked WorldOutcome
 restart w name = do
   n ← found_or (node_called w name) (NoNode name)
-  restarts name n.node
+  restarts n.database name n.node
 
 -- what is in hand is given up, and it is answered
-abbrev pub restarting : List ℕ → Option CopyHand → CopyMove
+abbrev pub restarting : List ℕ → Option Hand → Move Hand
 restarting table hand = record (gives_up_in table hand) { replies = Done ∷ [] }
 
 -- `restart NAME TABLE`: what its worker has in hand is lost
@@ -98,31 +98,20 @@ restart_table w name table = do
   n ← found_or (node_called w name) (NoNode name)
   l ← leaf_table name table n.node
   p ← source w l table
-  moves w p n.database table (Ok (restarting table (w.hands n.database table)))
+  moves w p n.database (in_hand n.database table) (Ok (restarting table (w.hands n.database table)))
 
--- whether a table is on its way from one that isn't copied to one in sync
-abbrev pub is_on_way : TableState → Bool
-is_on_way Absent = false
-is_on_way Synced = false
-is_on_way state = true
-
--- whether it isn't copied yet
-abbrev pub is_absent : TableState → Bool
-is_absent Absent = true
-is_absent state = false
-
--- the table of a leaf that is to be copied next, one at a time
-abbrev pub next_to_copy : Leaf → Option (List ℕ)
-next_to_copy l = if list_any (λ t. is_on_way t.state) l.tables then None else option_map LeafTable.name (find (λ t. is_absent t.state) l.tables)
-
--- the copy of a table is to begin
-abbrev pub starts_next : World → ℕ → Option (List ℕ) → Checked WorldOutcome
-starts_next w d None = Ok (record { replies = Idle ∷ []; facts = [] })
-starts_next w d (Some table) = done_in d (TableMoved table InCopy) (node_does (w.database d) (moving table InCopy))
+-- the database of a leaf's provider
+abbrev pub provider_of : World → Leaf → Checked ℕ
+provider_of w l = do
+  n ← found_or (node_called w l.provider) (NoNode l.provider)
+  queue ← found_or (set_queue (w.database n.database)) (NotProvider l.provider)
+  Ok n.database
 
 abbrev pub leaf_steps : World → ℕ → (name : List ℕ) → Node → Checked WorldOutcome
 leaf_steps w d name (of_root r) = Err (NotLeaf name)
-leaf_steps w d name (of_leaf l) = starts_next w d (next_to_copy l)
+leaf_steps w d name (of_leaf l) = do
+  p ← provider_of w l
+  moves w p d (batch_in_hand d) (replay_move (w.database p) (w.database d) l (w.batches d))
 
 -- `londiste_step NAME`
 abbrev pub londiste_step : World → (name : List ℕ) → Checked WorldOutcome
@@ -138,9 +127,9 @@ parts_for n None = []
 parts_for n (Some state) = if is_on_way state then parting (copy_consumer n) ∷ [] else []
 
 -- a table leaves a leaf: a copy of it that runs is given up, and its consumer leaves
-abbrev pub leaves_leaf : Leaf → List ℕ → Option CopyHand → CopyMove
+abbrev pub leaves_leaf : Leaf → List ℕ → Option Hand → Move Hand
 leaves_leaf l table hand = record {
-  provider = lets_go_for hand ++ parts_for (Some (of_leaf l)) (option_map LeafTable.state (table_of table l));
+  provider = lets_go_for (copy_in hand) ++ parts_for (Some (of_leaf l)) (option_map LeafTable.state (table_of table l));
   replica = removing table ∷ [];
   replies = Done ∷ [];
   hand = None;
@@ -152,7 +141,7 @@ removes_from w d table name (of_root r) = do
   done_in d Done (unlists table name)
 removes_from w d table name (of_leaf l) = do
   p ← source w l name
-  moves w p d name (Ok (leaves_leaf l name (w.hands d name)))
+  moves w p d (in_hand d name) (Ok (leaves_leaf l name (w.hands d name)))
 
 -- `remove_table NAME TABLE`
 abbrev pub remove_table : World → (name table : List ℕ) → Checked WorldOutcome

@@ -1,7 +1,7 @@
 -- The world, as a statement reads it, and how what happens changes it.
 use Rattle.std.specs.Prelude.{ℕ, ℤ, pos, List, [], ◌∷◌, ◌++◌, Option, Some, None, ◌==◌, if◌then◌else◌}
-use Rattle.sky_model.specs.History.{History, Fact, appeared, founded, entered, left, within, clock_at, daemon_on, daemon_off, node_made, in_hand, Past}
-use Rattle.sky_model.specs.Hands.{CopyHand}
+use Rattle.sky_model.specs.History.{History, Fact, appeared, founded, entered, left, within, clock_at, daemon_on, daemon_off, node_made, in_hand, batch_in_hand, Past}
+use Rattle.sky_model.specs.Hands.{BatchHand, Hand}
 use Rattle.sky_model.specs.State.{Database, database_of, changed_at, changed_for, after_mark}
 
 -- the sessions, in the order of appearance: a session's number is its place here
@@ -49,10 +49,16 @@ nodes (node_made d ∷ past) = nodes past ++ d ∷ []
 nodes (_ ∷ past) = nodes past
 
 -- what the worker that copies a table of a database has in hand
-abbrev pub hands : Past → ℕ → List ℕ → Option CopyHand
+abbrev pub hands : Past → ℕ → List ℕ → Option Hand
 hands [] = λ database table. None
 hands (in_hand database table hand ∷ past) = changed_at database (changed_for table (λ _. hand)) (hands past)
 hands (_ ∷ past) = hands past
+
+-- what the worker of the leaf of a database has in hand
+abbrev pub batches : Past → ℕ → Option BatchHand
+batches [] = λ database. None
+batches (batch_in_hand database batch ∷ past) = changed_at database (λ _. batch) (batches past)
+batches (_ ∷ past) = batches past
 
 -- the world, as a statement reads it
 pub record World : Type 0 where
@@ -63,7 +69,8 @@ pub record World : Type 0 where
   pub database : ℕ → Database
   pub daemons : ℕ → Option ℤ
   pub nodes : List ℕ
-  pub hands : ℕ → List ℕ → Option CopyHand
+  pub hands : ℕ → List ℕ → Option Hand
+  pub batches : ℕ → Option BatchHand
 
 abbrev pub world_of : Past → World
 world_of past = record {
@@ -75,6 +82,7 @@ world_of past = record {
   daemons = daemon past;
   nodes = nodes past;
   hands = hands past;
+  batches = batches past;
 }
 
 -- the world after something happened
@@ -89,6 +97,7 @@ after_fact w (daemon_on d) = record w { daemons = changed_at d (λ _. Some w.now
 after_fact w (daemon_off d) = record w { daemons = changed_at d (λ _. None) w.daemons }
 after_fact w (node_made d) = record w { nodes = w.nodes ++ d ∷ [] }
 after_fact w (in_hand d table hand) = record w { hands = changed_at d (changed_for table (λ _. hand)) w.hands }
+after_fact w (batch_in_hand d batch) = record w { batches = changed_at d (λ _. batch) w.batches }
 
 abbrev pub after_facts : World → List Fact → World
 after_facts w [] = w

@@ -409,6 +409,14 @@ pub enum Reply {
     RowsCopied(u64),
     /// `wait` and the table for which a worker waits.
     AwaitsTable(Text),
+    /// `batch`, the id of a batch that a worker has taken, and those of its opening and closing tick.
+    BatchTaken(u64, u64, u64),
+    /// `applied`, the id of a batch's closing tick, and how many of its events were picked.
+    BatchApplied(u64, u64),
+    /// `skipped` and the id of a batch's closing tick.
+    BatchSkipped(u64),
+    /// `finished` and the id of a batch.
+    BatchFinished(u64),
     /// `idle`
     Idle,
     /// `error` and the refusal.
@@ -443,6 +451,10 @@ impl Drop for Reply {
             Reply::TableMoved(_, _) => {}
             Reply::RowsCopied(_) => {}
             Reply::AwaitsTable(_) => {}
+            Reply::BatchTaken(_, _, _) => {}
+            Reply::BatchApplied(_, _) => {}
+            Reply::BatchSkipped(_) => {}
+            Reply::BatchFinished(_) => {}
             Reply::Idle => {}
             Reply::Refused(_) => {}
         }

@@ -91,8 +91,12 @@ fn append_reply(
         Reply::HeldBack(held) => append_held_line(name, held, into),
         Reply::State(state) => append_state(name, *state, into),
         Reply::TableMoved(table, state) => append_move(name, table, *state, into),
-        Reply::RowsCopied(count) => append_copied(name, *count, into),
+        Reply::RowsCopied(count) => append_counted(name, b"copied ", *count, into),
         Reply::AwaitsTable(table) => append_wait(name, table, into),
+        Reply::BatchTaken(id, prev, cur) => append_taken(name, *id, *prev, *cur, into),
+        Reply::BatchApplied(cur, many) => append_applied(name, *cur, *many, into),
+        Reply::BatchSkipped(cur) => append_counted(name, b"skipped ", *cur, into),
+        Reply::BatchFinished(id) => append_counted(name, b"finished ", *id, into),
         Reply::Idle => append_line(name, b"idle", into),
         Reply::Refused(refusal) => append_refused(names, name, refusal, into),
     }
@@ -283,15 +287,59 @@ fn append_move(
     Ok(())
 }
 
-// How many rows were copied.
-fn append_copied(name: &[u8], count: u64, into: &mut Vec<u8>) -> Result<(), NoMemory>
+// A word with a space behind it, and a number.
+fn append_counted(name: &[u8], word: &[u8], number: u64, into: &mut Vec<u8>) -> Result<(), NoMemory>
     ensures ok { OnOk result
-        (into.new.items ≡ into.old.items ++ line_text name.now (codes "copied " ++ decimal count)) }
+        (into.new.items ≡ into.old.items ++ line_text name.now (word.now ++ decimal number)) }
     ensures kept { OnErr result (Keeps into.old.items into.new.items) }
 {
     append_name(name, into)?;
-    into.extend_from_slice(b"copied ")?;
-    append_number(count, into)?;
+    into.extend_from_slice(word)?;
+    append_number(number, into)?;
+    into.push(b'\n')?;
+    Ok(())
+}
+
+// A batch that was taken, and its ticks.
+fn append_taken(
+    name: &[u8],
+    id: u64,
+    prev: u64,
+    cur: u64,
+    into: &mut Vec<u8>,
+) -> Result<(), NoMemory>
+    ensures ok { OnOk result (into.new.items
+        ≡ into.old.items ++ line_text name.now (codes "batch " ++ decimal id ++ 32 ∷ decimal prev ++ 32 ∷ decimal cur)) }
+    ensures kept { OnErr result (Keeps into.old.items into.new.items) }
+{
+    append_name(name, into)?;
+    into.extend_from_slice(b"batch ")?;
+    append_number(id, into)?;
+    append_spaced(prev, into)?;
+    append_spaced(cur, into)?;
+    into.push(b'\n')?;
+    Ok(())
+}
+
+// A space, and a number.
+fn append_spaced(number: u64, into: &mut Vec<u8>) -> Result<(), NoMemory>
+    ensures ok { OnOk result (into.new.items ≡ into.old.items ++ 32 ∷ decimal number) }
+    ensures kept { OnErr result (Keeps into.old.items into.new.items) }
+{
+    into.push(b' ')?;
+    append_number(number, into)
+}
+
+// The tick up to which a batch was applied, and how many of its events were picked.
+fn append_applied(name: &[u8], cur: u64, many: u64, into: &mut Vec<u8>) -> Result<(), NoMemory>
+    ensures ok { OnOk result (into.new.items
+        ≡ into.old.items ++ line_text name.now (codes "applied " ++ decimal cur ++ 32 ∷ decimal many)) }
+    ensures kept { OnErr result (Keeps into.old.items into.new.items) }
+{
+    append_name(name, into)?;
+    into.extend_from_slice(b"applied ")?;
+    append_number(cur, into)?;
+    append_spaced(many, into)?;
     into.push(b'\n')?;
     Ok(())
 }

@@ -8,7 +8,7 @@ use Rattle.sky_txid.specs.Snapshot.{SnapshotView}
 use Rattle.londiste_state.specs.Nodes.{is_among}
 use Rattle.sky_model.specs.declared.reply.Reply.TheVariants.{Done, Null}
 use Rattle.sky_model.specs.declared.reply.Refusal.TheVariants.{TxidsSpent}
-use Rattle.sky_model.specs.History.{Mark, of_copy, began, ended, tabled, read_only, noded, leaf_removed, state_set, copied, restarted, hold_begun, hold_ended, History, Fact, within, in_hand, Past}
+use Rattle.sky_model.specs.History.{Mark, of_copy, began, ended, tabled, read_only, noded, leaf_removed, state_set, copied, restarted, hold_begun, hold_ended, History, Fact, within, Past}
 use Rattle.sky_model.specs.Transactions.{next_txid}
 use Rattle.sky_model.specs.Copies.{copies, copy_txid, Hold, holds}
 use Rattle.sky_model.specs.Rows.{Write, table_names, columns_of, writes as writes_of}
@@ -17,7 +17,7 @@ use Rattle.sky_model.specs.State.{RowPart, part_of, after_part, Database, databa
 use Rattle.sky_model.specs.Outcome.{◌>>=◌, ◌>>◌, refused_if, answers, does_marks, marks_of}
 use Rattle.sky_model.specs.StepCopy.{copy_write, copy_writes, deletions, insertions, rows_now, begins_copy, all_fit, copies_rows, ends_copy, given_up}
 use Rattle.sky_model.specs.StepNode.{NodeCall, beginning_copy, copying_rows, ending_copy, giving_up_copy, removing, letting_go, if_there, removes, may_copy, may_serve, call_form, node_does}
-use Rattle.sky_model.specs.CopyMoves.{CopyMove}
+use Rattle.sky_model.specs.WorkerMoves.{Move}
 use Rattle.sky_model.specs.WorkersOfWorld.{calls_facts, move_facts}
 use Rattle.sky_model.specs.Settling.{marked}
 use Rattle.sky_model.specs.World.{world_of, after_facts, history_in, on_top}
@@ -51,17 +51,17 @@ on-calls past d (call ∷ calls) =
     ∙ on-calls (on_top past front) d calls
 
 -- the past after a move
-pub on-move : (past : Past) (p d : ℕ) (table : List ℕ) (move : CopyMove)
-    → on_top past (move_facts (world_of past) p d table move) ≡ in_hand d table move.hand ∷ after_calls (after_calls past p move.provider) d move.replica
-on-move past p d table move =
+pub on-move : {H : Type 0} (past : Past) (p d : ℕ) (handed : Option H → Fact) (move : Move H)
+    → on_top past (move_facts (world_of past) p d handed move) ≡ handed move.hand ∷ after_calls (after_calls past p move.provider) d move.replica
+on-move past p d handed move =
     let there : List Fact = calls_facts (world_of past) p move.provider in
-    let last : List Fact = in_hand d table move.hand ∷ [] in
+    let last : List Fact = handed move.hand ∷ [] in
     let middle : Past = after_calls past p move.provider in
     on_top-append past there (calls_facts (after_facts (world_of past) there) d move.replica ++ last)
     ∙ ap (λ x. on_top (on_top past there) (calls_facts x d move.replica ++ last)) (sym (world_of-facts past there))
     ∙ ap (λ q. on_top q (calls_facts (world_of q) d move.replica ++ last)) (on-calls past p move.provider)
     ∙ on_top-append middle (calls_facts (world_of middle) d move.replica) last
-    ∙ ap (λ q. in_hand d table move.hand ∷ q) (on-calls middle d move.replica)
+    ∙ ap (λ q. handed move.hand ∷ q) (on-calls middle d move.replica)
 
 -- ---- histories after a call
 

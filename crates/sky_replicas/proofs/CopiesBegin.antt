@@ -1,11 +1,11 @@
 -- Where a copy of a table begins, and where it is said that one was copied, the table is being copied in its leaf.
-use Rattle.std.proofs.Common.{◌≡◌, ◌^◌, All, ℕ, nat_le, List, [], ◌∷◌, ◌++◌, Bool, true, false, Option, Some, None, Ok, subst, refl, if◌then◌else◌}
+use Rattle.std.proofs.Common.{◌≡◌, ◌^◌, ℕ, nat_le, List, [], ◌∷◌, ◌++◌, Bool, true, false, Option, Some, None, Ok, subst, refl, if◌then◌else◌}
 use Rattle.sky_keys.specs.Waits.{is_waiting}
 use Rattle.sky_names.specs.Places.{place_of}
 use Rattle.sky_val.specs.declared.val.Val.{Val}
 use Rattle.sky_model.specs.declared.reply.Reply.TheVariants.{Done, Null}
 use Rattle.sky_model.specs.declared.reply.Refusal.TheVariants.{TxidsSpent}
-use Rattle.sky_model.specs.History.{Mark, of_worker, of_copy, began, noded, copied, tabled, wrote, hold_ended, History}
+use Rattle.sky_model.specs.History.{Mark, of_copy, began, noded, copied, hold_ended, History}
 use Rattle.sky_model.specs.Transactions.{next_txid}
 use Rattle.sky_model.specs.Copies.{copies, copy_txid, Hold}
 use Rattle.sky_model.specs.Sessions.{has_open, block, session}
@@ -26,9 +26,9 @@ use Rattle.sky_model.specs.DatabaseCalls.{DatabaseCall, stepped, entered, failed
 use Rattle.sky_model.specs.World.{history_in}
 use Rattle.sky_model.specs.Daemon.{daemon_does}
 use Rattle.sky_model.specs.Calls.{database_turn, Call, past_of}
-use Rattle.sky_model.proofs.Histories.{IsPlain, made_plainly}
-use Rattle.sky_model.proofs.NodeDeeds.{IsOther}
-use Rattle.std.proofs.lemmas.List.Elements.{All-head, All-tail}
+use Rattle.sky_model.specs.StepApply.{applies_batch}
+use Rattle.sky_model.proofs.Histories.{histories_are_made_by_own_calls}
+use Rattle.sky_model.proofs.ApplyCalls.{is_for_applying, gives-applies}
 use Rattle.sky_model.proofs.NodeCalls.{is_for_consumers, is_consumers, gives-consumers}
 use Rattle.sky_model.proofs.CopyCalls.{gives-there}
 use Rattle.sky_model.proofs.StatementMarks.{EachMark, each-map, each-rest, each-given, when-true, Gives, gives-map, AnyReply, after, either}
@@ -43,11 +43,10 @@ pub record IsInCopy (h : History) (table : ℕ) : Type 0 where
   pub there : place_of name (table_names h) ≡ Some table
   pub may : may_copy name (node h) ≡ true
 
--- so it is where a mark comes by which a copy of it begins, or has ended; and no worker writes a row, other than by a copy
+-- so it is where a mark comes by which a copy of it begins, or has ended
 abbrev pub MarkInCopy : History → Mark → Type 0
 MarkInCopy h (began (of_copy table) t) = IsInCopy h table
 MarkInCopy h (noded (copied name under tick)) = may_copy name (node h) ≡ true
-MarkInCopy h (tabled (wrote of_worker t table key old new)) = ⊥
 MarkInCopy h mark = Unit {0}
 
 abbrev pub AllInCopy : History → Type 0
@@ -63,13 +62,11 @@ in-copy-below (mark ∷ later) p all = in-copy-below later p all.1
 abbrev is_aside : Mark → Bool
 is_aside (began (of_copy table) t) = false
 is_aside (noded (copied name under tick)) = false
-is_aside (tabled (wrote of_worker t table key old new)) = false
 is_aside mark = true
 
 aside-mark : (h : History) (mark : Mark) → is_aside mark ≡ true → MarkInCopy h mark
 aside-mark h (began (of_copy table) t) e = absurd (cc e)
 aside-mark h (noded (copied name under tick)) e = absurd (cc e)
-aside-mark h (tabled (wrote of_worker t table key old new)) e = absurd (cc e)
 aside-mark h mark e = tt
 
 aside-marks : (h : History) (marks : List Mark) → EachMark is_aside marks → AllInCopy h → AllInCopy (marked h marks)
@@ -80,14 +77,17 @@ aside-marks h (mark ∷ marks) each all =
 sessions-aside : (mark : Mark) → is_sessions mark ≡ true → is_aside mark ≡ true
 sessions-aside (began (of_copy table) t) e = absurd (cc e)
 sessions-aside (noded (copied name under tick)) e = absurd (cc e)
-sessions-aside (tabled (wrote of_worker t table key old new)) e = absurd (cc e)
 sessions-aside mark e = refl
 
 consumers-aside : (mark : Mark) → is_for_consumers mark ≡ true → is_aside mark ≡ true
 consumers-aside (began (of_copy table) t) e = absurd (cc e)
 consumers-aside (noded (copied name under tick)) e = absurd (cc e)
-consumers-aside (tabled (wrote of_worker t table key old new)) e = absurd (cc e)
 consumers-aside mark e = refl
+
+applying-aside : (mark : Mark) → is_for_applying mark ≡ true → is_aside mark ≡ true
+applying-aside (began (of_copy table) t) e = absurd (cc e)
+applying-aside (noded (copied name under tick)) e = absurd (cc e)
+applying-aside mark e = refl
 
 after-sessions : (h : History) (marks : List Mark) → EachMark is_sessions marks → AllInCopy h → AllInCopy (marked h marks)
 after-sessions h marks each all = aside-marks h marks (each-map is_sessions is_aside sessions-aside marks each) all
@@ -124,25 +124,26 @@ is_copying call = false
 aside-consumer : (d : Database) (call : NodeCall) → is_consumers call ≡ true → Aside (call_form d call)
 aside-consumer d call e = gives-map AnyReply AnyReply is_for_consumers is_aside (λ reply any. any) consumers-aside (call_form d call) (gives-consumers d call e)
 
-aside-call : (d : Database) (call : NodeCall) → IsOther call → is_copying call ≡ false → Aside (call_form d call)
-aside-call d (joining consumer) other e = aside-consumer d (joining consumer) refl
-aside-call d (parting consumer) other e = aside-consumer d (parting consumer) refl
-aside-call d (fetching consumer) other e = aside-consumer d (fetching consumer) refl
-aside-call d (finishing batch) other e = aside-consumer d (finishing batch) refl
-aside-call d (making_leaf name provider tick) other e = (tt, tt)
-aside-call d (adding name) other e = gives-there is_aside (table_number d name) _ (λ table. search (after))
-aside-call d (removing name) other e = gives-there is_aside (table_number d name) _ (λ table. (tt, aside-then table name (copy_txid table d.copies) _ tt))
-aside-call d (moving name state) other e = gives-there is_aside (table_number d name) _ (λ table. (tt, aside-then table name (copy_txid table d.copies) _ tt))
-aside-call d (listing name) other e = gives-there is_aside (set_queue d) _ (λ queue. gives-there is_aside (table_number d name) _ (λ table. search (after)))
-aside-call d (unlisting name) other e = gives-there is_aside (table_number d name) _ (λ table. (tt, tt))
-aside-call d (copying_rows name rows) other e = gives-there is_aside (table_number d name) _ (λ table. gives-there is_aside (copy_txid table d.copies) _ (λ t. aside-rows d table t rows))
-aside-call d (giving_up_copy name) other e = gives-there is_aside (table_number d name) _ (λ table. (tt, aside-given_up table name (copy_txid table d.copies)))
-aside-call d holding other e = (tt, tt)
-aside-call d (letting_go hold) other e =
+aside-call : (d : Database) (call : NodeCall) → is_copying call ≡ false → Aside (call_form d call)
+aside-call d (joining consumer) e = aside-consumer d (joining consumer) refl
+aside-call d (parting consumer) e = aside-consumer d (parting consumer) refl
+aside-call d (fetching consumer) e = aside-consumer d (fetching consumer) refl
+aside-call d (finishing batch) e = aside-consumer d (finishing batch) refl
+aside-call d (making_leaf name provider tick) e = (tt, tt)
+aside-call d (adding name) e = gives-there is_aside (table_number d name) _ (λ table. search (after))
+aside-call d (removing name) e = gives-there is_aside (table_number d name) _ (λ table. (tt, aside-then table name (copy_txid table d.copies) _ tt))
+aside-call d (moving name state) e = gives-there is_aside (table_number d name) _ (λ table. (tt, aside-then table name (copy_txid table d.copies) _ tt))
+aside-call d (listing name) e = gives-there is_aside (set_queue d) _ (λ queue. gives-there is_aside (table_number d name) _ (λ table. search (after)))
+aside-call d (unlisting name) e = gives-there is_aside (table_number d name) _ (λ table. (tt, tt))
+aside-call d (copying_rows name rows) e = gives-there is_aside (table_number d name) _ (λ table. gives-there is_aside (copy_txid table d.copies) _ (λ t. aside-rows d table t rows))
+aside-call d (giving_up_copy name) e = gives-there is_aside (table_number d name) _ (λ table. (tt, aside-given_up table name (copy_txid table d.copies)))
+aside-call d holding e = (tt, tt)
+aside-call d (letting_go hold) e =
     either AnyReply is_aside (list_any (λ (x : Hold). x.number == hold) d.holds) (does_marks Done (noded (hold_ended hold) ∷ [])) (answers Null) (tt, tt) (tt, tt)
-aside-call d (applying events pick tick) other e = absurd (cc other)
-aside-call d (beginning_copy name) other e = absurd (cc e)
-aside-call d (ending_copy name under tick) other e = absurd (cc e)
+aside-call d (applying events pick tick) e =
+    gives-map AnyReply AnyReply is_for_applying is_aside (λ reply any. any) applying-aside (applies_batch d pick tick events) (gives-applies d pick tick events)
+aside-call d (beginning_copy name) e = absurd (cc e)
+aside-call d (ending_copy name under tick) e = absurd (cc e)
 
 after-begins : (h : History) (table : ℕ) (o : Option ℕ) → IsInCopy h table → AllInCopy h → AllInCopy (marked h (marks_of (begins_copy (database_of h) table o)))
 after-begins h table (Some t) is all = all
@@ -166,29 +167,29 @@ after-copying h (beginning_copy name) may e all =
 after-copying h (ending_copy name under tick) may e all = after-there h (place_of name (table_names h)) _ all (λ table _. after-there h (copy_txid table (copies h)) _ all (λ t _. (may, (tt, all))))
 after-copying h _ may e all = absurd (cc e)
 
-after-call : (h : History) (call : NodeCall) → IsOther call → may_serve call (node h) ≡ true → AllInCopy h → AllInCopy (marked h (marks_of (call_form (database_of h) call)))
-after-call h call other may all =
+after-call : (h : History) (call : NodeCall) → may_serve call (node h) ≡ true → AllInCopy h → AllInCopy (marked h (marks_of (call_form (database_of h) call)))
+after-call h call may all =
     by_test (λ b. is_copying call ≡ b → AllInCopy (marked h (marks_of (call_form (database_of h) call)))) (is_copying call) (λ _ is. after-copying h call may is all)
-    (λ _ isnt. aside-marks h (marks_of (call_form (database_of h) call)) (each-given AnyReply is_aside (call_form (database_of h) call) (aside-call (database_of h) call other isnt)) all) refl
+    (λ _ isnt. aside-marks h (marks_of (call_form (database_of h) call)) (each-given AnyReply is_aside (call_form (database_of h) call) (aside-call (database_of h) call isnt)) all) refl
 
-after-node : (h : History) (call : NodeCall) → IsOther call → AllInCopy h → AllInCopy (marked h (marks_of (node_does (database_of h) call)))
-after-node h call other all =
-    by_test (λ b. AllInCopy (marked h (marks_of (if b then call_form (database_of h) call else answers Null)))) (may_serve call (node h)) (λ may. after-call h call other may all) (λ _. all)
+after-node : (h : History) (call : NodeCall) → AllInCopy h → AllInCopy (marked h (marks_of (node_does (database_of h) call)))
+after-node h call all =
+    by_test (λ b. AllInCopy (marked h (marks_of (if b then call_form (database_of h) call else answers Null)))) (may_serve call (node h)) (λ may. after-call h call may all) (λ _. all)
 
 -- ---- all calls
 
-after-does : (h : History) (call : DatabaseCall) → IsPlain call → AllInCopy h → AllInCopy (marked h (database_does database_by_history h call).marks)
-after-does h (stepped who stmt now) plain all = after-sessions h (database_turn database_by_history h now who stmt).marks (sessions-turn h now who stmt) all
-after-does h (entered who alone) plain all =
+after-does : (h : History) (call : DatabaseCall) → AllInCopy h → AllInCopy (marked h (database_does database_by_history h call).marks)
+after-does h (stepped who stmt now) all = after-sessions h (database_turn database_by_history h now who stmt).marks (sessions-turn h now who stmt) all
+after-does h (entered who alone) all =
     after-sessions h (database_does database_by_history h (entered who alone)).marks
     (sessions-enters who (takes_sight (entry_place alone) (session h who).sight) (allowed (is_waiting who (waiting h)) (has_open who h) (block who h) (entry_place alone))) all
-after-does h (failed who now) plain all = after-sessions h (database_does database_by_history h (failed who now)).marks (sessions-fails h now who) all
-after-does h (worked part now) plain all = after-sessions h (daemon_does database_by_history h part now).marks (sessions-daemon h part now) all
-after-does h (served call) plain all = after-node h call plain all
+after-does h (failed who now) all = after-sessions h (database_does database_by_history h (failed who now)).marks (sessions-fails h now who) all
+after-does h (worked part now) all = after-sessions h (daemon_does database_by_history h part now).marks (sessions-daemon h part now) all
+after-does h (served call) all = after-node h call all
 
-in-copy-calls : (calls : List DatabaseCall) → All IsPlain calls → AllInCopy (after_all database_part calls)
-in-copy-calls [] plain = tt
-in-copy-calls (call ∷ calls) plain = after-does (after_all database_part calls) call (All-head IsPlain call calls plain) (in-copy-calls calls (All-tail IsPlain call calls plain))
+in-copy-calls : (calls : List DatabaseCall) → AllInCopy (after_all database_part calls)
+in-copy-calls [] = tt
+in-copy-calls (call ∷ calls) = after-does (after_all database_part calls) call (in-copy-calls calls)
 
 pub in-copy-past : (calls : List Call) (database : ℕ) → AllInCopy (history_in (past_of calls) database)
-in-copy-past calls database = let made = made_plainly calls database in subst AllInCopy made.make (in-copy-calls made.calls made.plain)
+in-copy-past calls database = let made = histories_are_made_by_own_calls calls database in subst AllInCopy made.make (in-copy-calls made.own_calls)

@@ -7,8 +7,8 @@ use Rattle.sky_val.specs.Entries.{Entries, is_in_order}
 use Rattle.sky_names.specs.Places.{place_of}
 use Rattle.sky_txid.specs.Snapshot.{SnapshotView}
 use Rattle.sky_model.specs.declared.reply.Reply.TheVariants.{Done, Null}
-use Rattle.sky_model.specs.History.{Mark, NodeMark, of_copy, began, ended, tabled, read_only, noded, leaf_removed, copied, restarted, History, within, in_hand, Past}
-use Rattle.sky_model.specs.Hands.{CopyHand}
+use Rattle.sky_model.specs.History.{Mark, NodeMark, of_copy, began, ended, tabled, read_only, noded, leaf_removed, copied, restarted, History, Fact, within, in_hand, Past}
+use Rattle.sky_model.specs.Hands.{CopyHand, of_copy, copy_in}
 use Rattle.sky_model.specs.Transactions.{next_txid, snapshot}
 use Rattle.sky_model.specs.Copies.{Copy, copies, is_copied, is_copied_by, copy_txid, without_copy}
 use Rattle.sky_model.specs.Rows.{Write, table_names, columns_of, writes as writes_of, put_all, rows}
@@ -17,17 +17,18 @@ use Rattle.sky_model.specs.State.{RowPart, part_of, after_part, database_of}
 use Rattle.sky_model.specs.Outcome.{answers, does_marks, marks_of}
 use Rattle.sky_model.specs.StepCopy.{copy_writes, deletions, insertions, rows_now, given_up}
 use Rattle.sky_model.specs.StepNode.{beginning_copy, copying_rows, ending_copy, giving_up_copy, letting_go, if_there, may_copy, call_form}
-use Rattle.sky_model.specs.CopyMoves.{CopyMove, newest_of, rows_of, last_key, only_prints, lets_go_for}
+use Rattle.sky_model.specs.WorkerMoves.{Move, only_prints}
+use Rattle.sky_model.specs.CopyMoves.{newest_of, rows_of, last_key, lets_go_for}
 use Rattle.sky_model.specs.WorkersOfWorld.{move_facts}
 use Rattle.sky_model.specs.Settling.{marked}
-use Rattle.sky_model.specs.World.{world_of, history_in, hands, on_top}
+use Rattle.sky_model.specs.World.{world_of, history_in, on_top}
 use Rattle.sky_model.proofs.Legal.{Legal}
 use Rattle.sky_model.proofs.Histories.{AllLegal}
 use Rattle.sky_model.proofs.Good.{same-session}
 use Rattle.sky_model.proofs.Guarded.{copy_txid-some, copy_txid-none, gone}
 use Rattle.sky_model.proofs.RowKeys.{begun}
 use Rattle.sky_model.proofs.Cases.{by_test}
-use Rattle.sky_replicas.specs.LawsOfReplicas.{CopyBegan}
+use Rattle.sky_replicas.specs.LawsOfReplicas.{CopyBegan, copy_in_hand}
 use Rattle.sky_replicas.proofs.Pieces.{put-next, put-append, put-deletions, AreKeyed}
 use Rattle.sky_replicas.proofs.FittingRows.{AllFit, rows-fit}
 use Rattle.sky_replicas.proofs.NodeNames.{source_of}
@@ -53,16 +54,25 @@ still-marks past e (mark ∷ marks) d p after s =
 
 -- ---- what a move keeps
 
-abbrev pub MoveKept : Past → (p d : ℕ) → List ℕ → CopyMove → Type 0
-MoveKept past p d name move = Kept each_table (on_top past (move_facts (world_of past) p d name move))
+-- of one that copies, what the worker then has in hand is a copy
+abbrev pub copy_handed : ℕ → List ℕ → Option CopyHand → Fact
+copy_handed d name hand = in_hand d name (option_map of_copy hand)
 
-pub move-kept : (past : Past) (p d : ℕ) (name : List ℕ) (move : CopyMove) → Kept each_table (in_hand d name move.hand ∷ after_calls (after_calls past p move.provider) d move.replica) → MoveKept past p d name move
-move-kept past p d name move kept = subst (Kept each_table) (sym (on-move past p d name move)) kept
+abbrev pub MoveKept : {H : Type 0} → Past → (p d : ℕ) → (Option H → Fact) → Move H → Type 0
+MoveKept past p d handed move = Kept each_table (on_top past (move_facts (world_of past) p d handed move))
+
+pub move-kept : {H : Type 0} (past : Past) (p d : ℕ) (handed : Option H → Fact) (move : Move H) → Kept each_table (handed move.hand ∷ after_calls (after_calls past p move.provider) d move.replica)
+    → MoveKept past p d handed move
+move-kept past p d handed move kept = subst (Kept each_table) (sym (on-move past p d handed move)) kept
 
 -- nothing but what is printed
-pub prints-kept : (past : Past) (p d : ℕ) (name : List ℕ) (reply : _) (hand : Option CopyHand) → hands past d name ≡ hand → Kept each_table past
-    → IfOk (only_prints reply hand) (λ move. MoveKept past p d name move)
-prints-kept past p d name reply hand same kept = fits-step each_table past (in_hand d name hand) same kept
+pub copy-again : (o : Option CopyHand) → copy_in (option_map of_copy o) ≡ o
+copy-again None = refl
+copy-again (Some hand) = refl
+
+pub prints-kept : (past : Past) (p d : ℕ) (name : List ℕ) (reply : _) (hand : Option CopyHand) → copy_in_hand past d name ≡ hand → Kept each_table past
+    → IfOk (only_prints reply hand) (λ move. MoveKept past p d (copy_handed d name) move)
+prints-kept past p d name reply hand same kept = fits-step each_table past (copy_handed d name hand) (same ∙ sym (copy-again hand)) kept
 
 -- ---- the copy in the replica's database
 
@@ -207,7 +217,7 @@ given_up-history past d p name hand table t l other may named runs =
     ∙ ap (marked h) (giving-up-marks h name table t may named (copy-found h l table t runs))
 
 -- so none runs after that
-pub uncopied-given_up : (past : Past) (d p : ℕ) (name : List ℕ) (hand : Option CopyHand) → hands past d name ≡ hand → Legal (history_in past d) → (p == d) ≡ false → Keeps each_table past
+pub uncopied-given_up : (past : Past) (d p : ℕ) (name : List ℕ) (hand : Option CopyHand) → copy_in_hand past d name ≡ hand → Legal (history_in past d) → (p == d) ≡ false → Keeps each_table past
     → Uncopied (history_in (called (after_calls past p (lets_go_for hand)) d (giving_up_copy name)) d) name
 uncopied-given_up past d p name None has l other k =
     let none : Uncopied (history_in past d) name = idle-hand past d name k has in
@@ -296,7 +306,7 @@ pub goes : (past : Past) (d p : ℕ) (name : List ℕ) (table t : ℕ) (made pie
     → (p == d) ≡ false → AtCopy (history_in past d) name table t made → AllFit (columns_of table (history_in past d)) piece → is_in_order (made ++ (piece ++ rest)) ≡ true
     → Holds (history_in past p) hand.hold (history_in before p) → Source past d p name table t hand.hold false before source hand.tick → rows source (history_in before p) ≡ made ++ (piece ++ rest)
     → hand.last ≡ last_key None (made ++ piece) → (AllLegal past → StillFrom past d p) → KeptFree p d name hand.hold past
-    → Kept each_table (in_hand d name (Some hand) ∷ called past d (copying_rows name (rows_of piece)))
+    → Kept each_table (in_hand d name (Some (of_copy hand)) ∷ called past d (copying_rows name (rows_of piece)))
 goes past d p name table t made piece rest before source hand other c fits order there s rows_are last from kept =
     takes-up p d name hand second (own-marks-free p hand.hold past d name table marks c.runs.named (own-call h name table (copying_rows name (rows_of piece)) c.runs.named refl) kept) copying (λ after. (still after).from)
   where

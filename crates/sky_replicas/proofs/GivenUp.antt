@@ -17,7 +17,8 @@ use Rattle.londiste_state.specs.Nodes.{of_leaf, Leaf, is_among, tables_of}
 use Rattle.sky_model.specs.declared.reply.Reply.TheVariants.{Done}
 use Rattle.sky_model.specs.declared.reply.Refusal.TheVariants.{NoNode, NotInSet}
 use Rattle.sky_model.specs.History.{Mark, of_copy, began, ended, tabled, wrote, noded, restarted, History, in_hand, Past}
-use Rattle.sky_model.specs.Hands.{CopyHand}
+use Rattle.sky_model.specs.Hands.{CopyHand, of_copy}
+use Rattle.sky_model.specs.WorkerMoves.{handing}
 use Rattle.sky_model.specs.Transactions.{next_txid, has_ended}
 use Rattle.sky_model.specs.Copies.{copies, is_copied, is_copied_by, Hold, holds}
 use Rattle.sky_model.specs.Rows.{is_read_only, writes as writes_of, has_written}
@@ -26,7 +27,7 @@ use Rattle.sky_model.specs.Nodes.{node}
 use Rattle.sky_model.specs.State.{database_of}
 use Rattle.sky_model.specs.Outcome.{◌>>=◌, ◌>>◌, refused_if, found_or}
 use Rattle.sky_model.specs.StepNode.{letting_go, giving_up_copy, may_copy}
-use Rattle.sky_model.specs.CopyMoves.{copy_running, goes_on, moves_in, lets_go_for}
+use Rattle.sky_model.specs.CopyMoves.{copy_running, goes_on, lets_go_for}
 use Rattle.sky_model.specs.NodesOfWorld.{Located, WorldOutcome, node_called}
 use Rattle.sky_model.specs.WorkersOfWorld.{move_facts, moves, source, leaf_table, restarting, restart_table}
 use Rattle.sky_model.specs.Settling.{marked}
@@ -43,8 +44,9 @@ use Rattle.sky_model.proofs.NodeDeeds.{called-there}
 use Rattle.sky_model.proofs.Histories.{AllLegal}
 use Rattle.sky_model.proofs.Good.{same-session}
 use Rattle.sky_model.proofs.Cases.{by_test, by_same}
-use Rattle.sky_replicas.specs.LawsOfReplicas.{IsUndone, GivenUpCopiesLeaveNothing, InHand, IsGivenUp, IsRestarted}
-use Rattle.sky_replicas.proofs.HandsAt.{at-itself, hand-is}
+use Rattle.sky_replicas.specs.LawsOfReplicas.{IsUndone, GivenUpCopiesLeaveNothing, copy_in_hand, InHand, IsGivenUp, IsRestarted}
+use Rattle.sky_replicas.proofs.HandsAt.{at-itself, hands-are}
+use Rattle.sky_replicas.proofs.InCopyTables.{copies-in}
 use Rattle.sky_replicas.proofs.RunningCopies.{uncopied-idle}
 use Rattle.sky_replicas.proofs.Keeping.{Copying, Keeps}
 use Rattle.sky_replicas.proofs.Others.{each_table, idle-hand}
@@ -253,15 +255,15 @@ pub is-restarted : (past : Past) (name table : List ℕ) (n : Located) (leaf : L
 is-restarted past name table n leaf p legal k found leaf_is among from = record {
   outcome = outcome;
   done = done;
-  put_down = ap (λ q. hands q d table) now-is ∙ hand-is after d table None d table ∙ ap (λ b. if b then None else hands after d table) (at-itself d table);
+  put_down = ap (λ q. hands q d table) now-is ∙ hands-are after d table None d table ∙ ap (λ b. if b then None else hands after d table) (at-itself d table);
   given_up = λ x has.
       subst (λ q. IsGivenUp past q d table x) (sym (now-is ∙ ap (λ o. in_hand d table None ∷ called (after_calls past p (lets_go_for o)) d (giving_up_copy table)) has))
       (let c : Copying past d table x = k.copying d table x refl has in is-given-up past d p table x (legal d) s c.here.may (in-hand past d table x has c));
   unchanged = still;
   same_node = node-is hand refl;
   anew = λ q state.
-      ap (λ x. moves_in x (database_of (history_in now q)) (database_of (history_in now d)) table None) state
-      ∙ ap (goes_on (database_of (history_in now q)) (database_of (history_in now d)) table None) idle;
+      copies-in (database_of (history_in now q)) (database_of (history_in now d)) table None state
+      ∙ ap (λ o. handing of_copy (goes_on (database_of (history_in now q)) (database_of (history_in now d)) table None o)) idle;
 }
   where
     w : World
@@ -271,10 +273,10 @@ is-restarted past name table n leaf p legal k found leaf_is among from = record 
     d = n.database
 
     hand : Option CopyHand
-    hand = hands past d table
+    hand = copy_in_hand past d table
 
     outcome : WorldOutcome
-    outcome = record { replies = Done ∷ []; facts = move_facts w p d table (restarting table hand) }
+    outcome = record { replies = Done ∷ []; facts = move_facts w p d (in_hand d table) (restarting table (hands past d table)) }
 
     now : Past
     now = on_top past outcome.facts
@@ -283,7 +285,7 @@ is-restarted past name table n leaf p legal k found leaf_is among from = record 
     after = called (after_calls past p (lets_go_for hand)) d (giving_up_copy table)
 
     now-is : now ≡ in_hand d table None ∷ after
-    now-is = on-move past p d table (restarting table hand)
+    now-is = on-move past p d (in_hand d table) (restarting table (hands past d table))
 
     s : IsSource past d p
     s = source-is past d p leaf table (called-there w name n found ∙ ap Some leaf_is) from
@@ -291,12 +293,12 @@ is-restarted past name table n leaf p legal k found leaf_is among from = record 
     idle : copy_running (database_of (history_in now d)) table ≡ None
     idle = ap (λ q. copy_running (database_of (history_in q d)) table) now-is ∙ uncopied-idle (history_in after d) table (uncopied-given_up past d p table hand refl (legal d) s.other k)
 
-    still : hands past d table ≡ None → (e : ℕ) → history_in now e ≡ history_in past e
+    still : copy_in_hand past d table ≡ None → (e : ℕ) → history_in now e ≡ history_in past e
     still nothing e =
         ap (λ q. history_in q e) now-is ∙ ap (λ o. history_in (called (after_calls past p (lets_go_for o)) d (giving_up_copy table)) e) nothing
         ∙ ap (λ q. history_in q e) (nothing-given_up past d table (idle-hand past d table k nothing))
 
-    node-is : (o : Option CopyHand) → hands past d table ≡ o → node (history_in now d) ≡ node (history_in past d)
+    node-is : (o : Option CopyHand) → copy_in_hand past d table ≡ o → node (history_in now d) ≡ node (history_in past d)
     node-is None is = ap node (still is d)
     node-is (Some x) is =
         let c : Copying past d table x = k.copying d table x refl is in
@@ -305,7 +307,7 @@ is-restarted past name table n leaf p legal k found leaf_is among from = record 
 
     done : restart_table w name table ≡ Ok outcome
     done =
-        ap (λ o. found_or o (NoNode name) >>= (λ m. leaf_table name table m.node >>= (λ l. source w l table >>= (λ q. moves w q m.database table (Ok (restarting table (w.hands m.database table))))))) found
-        ∙ ap (λ m. leaf_table name table m >>= (λ l. source w l table >>= (λ q. moves w q d table (Ok (restarting table hand))))) leaf_is
-        ∙ ap (λ b. (refused_if (not b) (NotInSet table) >> Ok leaf) >>= (λ l. source w l table >>= (λ q. moves w q d table (Ok (restarting table hand))))) (ap (λ m. is_among table (tables_of m)) (sym leaf_is) ∙ among)
-        ∙ ap (λ c. c >>= (λ q. moves w q d table (Ok (restarting table hand)))) from
+        ap (λ o. found_or o (NoNode name) >>= (λ m. leaf_table name table m.node >>= (λ l. source w l table >>= (λ q. moves w q m.database (in_hand m.database table) (Ok (restarting table (w.hands m.database table))))))) found
+        ∙ ap (λ m. leaf_table name table m >>= (λ l. source w l table >>= (λ q. moves w q d (in_hand d table) (Ok (restarting table (w.hands d table)))))) leaf_is
+        ∙ ap (λ b. (refused_if (not b) (NotInSet table) >> Ok leaf) >>= (λ l. source w l table >>= (λ q. moves w q d (in_hand d table) (Ok (restarting table (w.hands d table)))))) (ap (λ m. is_among table (tables_of m)) (sym leaf_is) ∙ among)
+        ∙ ap (λ c. c >>= (λ q. moves w q d (in_hand d table) (Ok (restarting table (w.hands d table))))) from

@@ -6,13 +6,11 @@ use Rattle.std.proofs.lemmas.List.Folds.{list_any-append}
 use Rattle.sky_val.specs.declared.val.Val.{Val}
 use Rattle.sky_val.specs.Entries.{Entries}
 use Rattle.sky_txid.specs.Snapshot.{SnapshotView}
-use Rattle.londiste_state.specs.declared.state.TableState.{TableState}
-use Rattle.londiste_state.specs.declared.state.TableState.TheVariants.{InCopy, Synced}
 use Rattle.sky_model.specs.declared.reply.Reply.TheVariants.{Done, Null}
 use Rattle.sky_model.specs.declared.reply.Refusal.TheVariants.{IdsSpent, TooMany, TxidsSpent}
 use Rattle.sky_model.specs.declared.reply.Limit.TheVariants.{Consumers}
 use Rattle.sky_model.specs.History.{Mark, of_copy, began, tabled, read_only, noded, leaf_removed, hold_begun, hold_ended, History, Fact, within, node_made, in_hand, Past}
-use Rattle.sky_model.specs.Hands.{CopyHand}
+use Rattle.sky_model.specs.Hands.{CopyHand, of_copy}
 use Rattle.sky_model.specs.Transactions.{next_txid, snapshot}
 use Rattle.sky_model.specs.Copies.{copies, copy_txid, Hold, holds, without_hold, least_free}
 use Rattle.sky_model.specs.Rows.{Write}
@@ -23,16 +21,18 @@ use Rattle.sky_model.specs.Outcome.{Checked, Outcome, ◌>>=◌, ◌>>◌, refus
 use Rattle.sky_model.specs.StepCopy.{copy_write, copy_writes, deletions, insertions, rows_now, begins_copy, all_fit, copies_rows, given_up}
 use Rattle.sky_model.specs.StepConsumer.{sub_ids_spent}
 use Rattle.sky_model.specs.StepNode.{NodeCall, joining, parting, removing, beginning_copy, copying_rows, ending_copy, giving_up_copy, holding, letting_go, table_number, is_full, may_copy, may_serve, call_form, node_does}
-use Rattle.sky_model.specs.CopyMoves.{CopyMove, piece_size, held_snapshot, rows_from, rows_of, last_key, copies_piece, next_piece, behind_calls, copy_consumer, first_hand, starts_copy, copy_running, under_way, continues, goes_on, leaf_state, moves_in, copy_move, lets_go_for}
+use Rattle.sky_model.specs.WorkerMoves.{Move, behind_calls}
+use Rattle.sky_model.specs.CopyMoves.{piece_size, held_snapshot, rows_from, rows_of, last_key, copies_piece, next_piece, copy_consumer, first_hand, starts_copy, copy_running, under_way, continues, goes_on, lets_go_for}
 use Rattle.sky_model.specs.WorkersOfWorld.{move_facts}
 use Rattle.sky_model.specs.Settling.{marked}
-use Rattle.sky_model.specs.World.{world_of, history_in, hands, on_top}
+use Rattle.sky_model.specs.World.{world_of, history_in, on_top}
 use Rattle.sky_model.proofs.Legal.{Fine}
 use Rattle.sky_model.proofs.Histories.{AllLegal}
 use Rattle.sky_model.proofs.NodeCalls.{is_for_consumers, is_consumers, gives-consumers}
 use Rattle.sky_model.proofs.CopyCalls.{gives-there}
 use Rattle.sky_model.proofs.StatementMarks.{EachMark, each-rest, each-given, when-true, Gives, gives-map, AnyReply, either}
 use Rattle.sky_model.proofs.Cases.{by_test, by_same}
+use Rattle.sky_replicas.specs.LawsOfReplicas.{copy_in_hand}
 use Rattle.sky_replicas.proofs.NodeNames.{source_of}
 use Rattle.sky_replicas.proofs.HandsAt.{is_at, AreOne, one-at, at-itself, hand-is}
 use Rattle.sky_replicas.proofs.Copying.{copy-found}
@@ -40,8 +40,8 @@ use Rattle.sky_replicas.proofs.Keeping.{legal-before, fine-within, Noded, noded-
 use Rattle.sky_replicas.proofs.Others.{each_table, other_than, legal-under}
 use Rattle.sky_replicas.proofs.CallPasts.{call_marks, called, after_calls, on-move, history-called}
 use Rattle.sky_replicas.proofs.Sources.{IsAlike}
-use Rattle.sky_replicas.proofs.CopySteps.{StillFrom}
-use Rattle.sky_replicas.proofs.KeptMoves.{last_move, next_move, still-called, number-is, to-copy}
+use Rattle.sky_replicas.proofs.CopySteps.{StillFrom, copy_handed, copy-again}
+use Rattle.sky_replicas.proofs.KeptMoves.{last_move, next_move, still-called, number-is}
 
 -- whether a number is that of a hold
 abbrev pub is_held : ℕ → List Hold → Bool
@@ -49,7 +49,7 @@ is_held number hs = list_any (λ (x : Hold). x.number == number) hs
 
 -- who has a hold in hand: the worker of one of these tables, or else it is the own hold of one worker, in the database of its provider
 pub data Holder (among : ℕ → List ℕ → Bool) (p : ℕ) (own : Option ℕ) (past : Past) (r number : ℕ) : Type 0 where
-  others : (e : ℕ) (other : List ℕ) (hand : CopyHand) → among e other ≡ true → hands past e other ≡ Some hand → source_of past e ≡ Some r → hand.hold ≡ number → Holder among p own past r number
+  others : (e : ℕ) (other : List ℕ) (hand : CopyHand) → among e other ≡ true → copy_in_hand past e other ≡ Some hand → source_of past e ≡ Some r → hand.hold ≡ number → Holder among p own past r number
   owns : r ≡ p → own ≡ Some number → Holder among p own past r number
 
 -- each hold has one
@@ -80,7 +80,7 @@ held-before h (noded (hold_ended other)) number e is = held-less number other (h
 held-before h mark number e is = is
 
 -- a holder of one past is one of another, in which the workers have the same in hand
-holder-same : {among : ℕ → List ℕ → Bool} {p : ℕ} {own : Option ℕ} {r number : ℕ} (past now : Past) → ((e : ℕ) (other : List ℕ) → hands now e other ≡ hands past e other)
+holder-same : {among : ℕ → List ℕ → Bool} {p : ℕ} {own : Option ℕ} {r number : ℕ} (past now : Past) → ((e : ℕ) (other : List ℕ) → copy_in_hand now e other ≡ copy_in_hand past e other)
     → ((e q : ℕ) → source_of past e ≡ Some q → source_of now e ≡ Some q) → Holder among p own past r number → Holder among p own now r number
 holder-same {r = r} past now same still (others e other hand is has from number_is) = others e other hand is (same e other ∙ has) (still e r from) number_is
 holder-same past now same still (owns at is) = owns at is
@@ -276,13 +276,13 @@ begins-held among p past kept after = record {
 -- ---- what the own worker has in hand
 
 -- a hold that isn't the own one is another worker's
-own-held : (d p : ℕ) (name : List ℕ) (past : Past) → source_of past d ≡ Some p → (o : Option CopyHand) → hands past d name ≡ o → AllHeld past → KeptHeld (other_than d name) p (option_map CopyHand.hold o) past
+own-held : (d p : ℕ) (name : List ℕ) (past : Past) → source_of past d ≡ Some p → (o : Option CopyHand) → copy_in_hand past d name ≡ o → AllHeld past → KeptHeld (other_than d name) p (option_map CopyHand.hold o) past
 own-held d p name past from o has kept legal = record { all_noded = k.all_noded; holders = λ r n is. of r n (k.holders r n is) }
   where
     k : Held each_table 0 None past
     k = kept legal
 
-    own : (r n : ℕ) (hand : CopyHand) → hands past d name ≡ Some hand → source_of past d ≡ Some r → hand.hold ≡ n → Holder (other_than d name) p (option_map CopyHand.hold o) past r n
+    own : (r n : ℕ) (hand : CopyHand) → copy_in_hand past d name ≡ Some hand → source_of past d ≡ Some r → hand.hold ≡ n → Holder (other_than d name) p (option_map CopyHand.hold o) past r n
     own r n hand mine comes number_is =
         let one : Some r ≡ Some p = sym comes ∙ from in owns (cc one) (ap (option_map CopyHand.hold) (sym has ∙ mine) ∙ ap Some number_is)
 
@@ -291,7 +291,7 @@ own-held d p name past from o has kept legal = record { all_noded = k.all_noded;
     of r n (others e other hand _ mine comes number_is) =
         by_test (λ b. is_at d name e other ≡ b → Holder (other_than d name) p (option_map CopyHand.hold o) past r n) (is_at d name e other)
         (λ _ at. let one : AreOne d name e other = one-at d name e other at in
-        own r n hand (ap (hands past d) one.table ∙ ap (λ q. hands past q other) one.database ∙ mine) (ap (source_of past) one.database ∙ comes) number_is)
+        own r n hand (ap (copy_in_hand past d) one.table ∙ ap (λ q. copy_in_hand past q other) one.database ∙ mine) (ap (source_of past) one.database ∙ comes) number_is)
         (λ _ no. others e other hand (ap not no) mine comes number_is) refl
 
 isnt : (b : Bool) → not b ≡ true → b ≡ false
@@ -308,31 +308,31 @@ puts-held d p name past kept after = record { all_noded = k.all_noded; holders =
     of : (r n : ℕ) → Holder (other_than d name) p None past r n → Holder each_table 0 None (in_hand d name None ∷ past) r n
     of r n (owns at none) = absurd (cc none)
     of r n (others e other hand differ has comes number_is) =
-        others e other hand refl (hand-is past d name None e other ∙ ap (λ b. if b then None else hands past e other) (isnt (is_at d name e other) differ) ∙ has) comes number_is
+        others e other hand refl (hand-is past d name None e other ∙ ap (λ b. if b then None else copy_in_hand past e other) (isnt (is_at d name e other) differ) ∙ has) comes number_is
 
 -- or this
-takes-held : (d p : ℕ) (name : List ℕ) (hand : CopyHand) (past : Past) → (AllLegal past → source_of past d ≡ Some p) → KeptHeld (other_than d name) p (Some hand.hold) past → AllHeld (in_hand d name (Some hand) ∷ past)
+takes-held : (d p : ℕ) (name : List ℕ) (hand : CopyHand) (past : Past) → (AllLegal past → source_of past d ≡ Some p) → KeptHeld (other_than d name) p (Some hand.hold) past → AllHeld (in_hand d name (Some (of_copy hand)) ∷ past)
 takes-held d p name hand past from kept after = record { all_noded = k.all_noded; holders = λ r n is. of r n (k.holders r n is) }
   where
     legal : AllLegal past
-    legal = legal-before past (in_hand d name (Some hand)) after
+    legal = legal-before past (in_hand d name (Some (of_copy hand))) after
 
     k : Held (other_than d name) p (Some hand.hold) past
     k = kept legal
 
-    of : (r n : ℕ) → Holder (other_than d name) p (Some hand.hold) past r n → Holder each_table 0 None (in_hand d name (Some hand) ∷ past) r n
+    of : (r n : ℕ) → Holder (other_than d name) p (Some hand.hold) past r n → Holder each_table 0 None (in_hand d name (Some (of_copy hand)) ∷ past) r n
     of r n (owns at own) =
-        others d name hand refl (hand-is past d name (Some hand) d name ∙ ap (λ b. if b then Some hand else hands past d name) (at-itself d name)) (from legal ∙ ap Some (sym at)) (cc own)
+        others d name hand refl (hand-is past d name (Some (of_copy hand)) d name ∙ ap (λ b. if b then Some hand else copy_in_hand past d name) (at-itself d name)) (from legal ∙ ap Some (sym at)) (cc own)
     of r n (others e other theirs differ has comes number_is) =
-        others e other theirs refl (hand-is past d name (Some hand) e other ∙ ap (λ b. if b then Some hand else hands past e other) (isnt (is_at d name e other) differ) ∙ has) comes number_is
+        others e other theirs refl (hand-is past d name (Some (of_copy hand)) e other ∙ ap (λ b. if b then Some hand else copy_in_hand past e other) (isnt (is_at d name e other) differ) ∙ has) comes number_is
 
 -- ---- moves
 
-abbrev pub MoveHeld : Past → (p d : ℕ) → List ℕ → CopyMove → Type 0
-MoveHeld past p d name move = AllHeld (on_top past (move_facts (world_of past) p d name move))
+abbrev pub MoveHeld : {H : Type 0} → Past → (p d : ℕ) → (Option H → Fact) → Move H → Type 0
+MoveHeld past p d handed move = AllHeld (on_top past (move_facts (world_of past) p d handed move))
 
-pub move-held : (past : Past) (p d : ℕ) (name : List ℕ) (move : CopyMove) → AllHeld (in_hand d name move.hand ∷ after_calls (after_calls past p move.provider) d move.replica) → MoveHeld past p d name move
-move-held past p d name move held = subst AllHeld (sym (on-move past p d name move)) held
+pub move-held : {H : Type 0} (past : Past) (p d : ℕ) (handed : Option H → Fact) (move : Move H) → AllHeld (handed move.hand ∷ after_calls (after_calls past p move.provider) d move.replica) → MoveHeld past p d handed move
+move-held past p d handed move held = subst AllHeld (sym (on-move past p d handed move)) held
 
 -- the provider's database stays the same
 still-calls : (past : Past) (e : ℕ) (calls : List NodeCall) (d p : ℕ) → (AllLegal past → StillFrom past d p) → AllLegal (after_calls past e calls) → StillFrom (after_calls past e calls) d p
@@ -347,7 +347,7 @@ lets-go-for d p name past None kept = kept
 lets-go-for d p name past (Some hand) kept = lets-held (other_than d name) p hand.hold past kept
 
 -- one after which the worker has nothing in hand
-pub down-held : (past : Past) (d p : ℕ) (name : List ℕ) (o : Option CopyHand) (more replica : List NodeCall) → AreOther more → AreOther replica → hands past d name ≡ o → source_of past d ≡ Some p → AllHeld past
+pub down-held : (past : Past) (d p : ℕ) (name : List ℕ) (o : Option CopyHand) (more replica : List NodeCall) → AreOther more → AreOther replica → copy_in_hand past d name ≡ o → source_of past d ≡ Some p → AllHeld past
     → AllHeld (in_hand d name None ∷ after_calls (after_calls (after_calls past p (lets_go_for o)) p more) d replica)
 down-held past d p name o more replica more_are replica_are has from held =
     let first : Past = after_calls past p (lets_go_for o) in
@@ -357,13 +357,13 @@ down-held past d p name o more replica more_are replica_are has from held =
     (held-calls (other_than d name) p None first p more more_are (lets-go-for d p name past o (own-held d p name past from o has held))))
 
 -- a copy that is in hand goes on
-continue-held : (past : Past) (d p : ℕ) (name : List ℕ) (hand : CopyHand) (under : SnapshotView) (piece : Entries (List Val)) → hands past d name ≡ Some hand → source_of past d ≡ Some p → AllHeld past
-    → MoveHeld past p d name (copies_piece name under hand piece)
+continue-held : (past : Past) (d p : ℕ) (name : List ℕ) (hand : CopyHand) (under : SnapshotView) (piece : Entries (List Val)) → copy_in_hand past d name ≡ Some hand → source_of past d ≡ Some p → AllHeld past
+    → MoveHeld past p d (copy_handed d name) (copies_piece name under hand piece)
 continue-held past d p name hand under piece has from held =
-    by_test (λ b. MoveHeld past p d name (if b then last_move name under hand piece else next_move name hand piece)) (nat_lt (length piece) piece_size)
-    (λ _. move-held past p d name (last_move name under hand piece)
+    by_test (λ b. MoveHeld past p d (copy_handed d name) (if b then last_move name under hand piece else next_move name hand piece)) (nat_lt (length piece) piece_size)
+    (λ _. move-held past p d (copy_handed d name) (last_move name under hand piece)
     (down-held past d p name (Some hand) [] (copying_rows name (rows_of piece) ∷ ending_copy name under hand.tick ∷ []) tt (tt, (tt, tt)) has from held))
-    (λ _. move-held past p d name (next_move name hand piece)
+    (λ _. move-held past p d (copy_handed d name) (next_move name hand piece)
     (takes-held d p name (record hand { last = last_key hand.last piece }) (called past d (copying_rows name (rows_of piece)))
     (λ after. (still-called past d (copying_rows name (rows_of piece)) d p (still-from past d p from held) after).from)
     (held-call (other_than d name) p (Some hand.hold) past d (copying_rows name (rows_of piece)) tt (own-held d p name past from (Some hand) has held))))
@@ -381,7 +381,7 @@ module _ (past : Past) (d p : ℕ) (name consumer : List ℕ) (legal : AllLegal 
   abbrev third : Past
   third = called second p holding
 
-  nothing : (o : Option CopyHand) → hands past d name ≡ o → o ≡ None
+  nothing : (o : Option CopyHand) → copy_in_hand past d name ≡ o → o ≡ None
   nothing None has = refl
   nothing (Some x) has =
       let c : Copying past d name x = k.copying d name x refl has in
@@ -393,21 +393,21 @@ module _ (past : Past) (d p : ℕ) (name consumer : List ℕ) (legal : AllLegal 
   held-third =
       subst (λ n. KeptHeld (other_than d name) p (Some n) third) (number-is past d p name consumer legal k alike may none unspent)
       (begins-held (other_than d name) p second
-      (held-calls (other_than d name) p None past p (parting consumer ∷ joining consumer ∷ []) (tt, (tt, tt)) (own-held d p name past alike.source.from None (nothing (hands past d name) refl) held)))
+      (held-calls (other_than d name) p None past p (parting consumer ∷ joining consumer ∷ []) (tt, (tt, tt)) (own-held d p name past alike.source.from None (nothing (copy_in_hand past d name) refl) held)))
 
   from-third : AllLegal third → StillFrom third d p
   from-third = still-calls past p (parting consumer ∷ joining consumer ∷ holding ∷ []) d p (still-from past d p alike.source.from held)
 
   begin-held : (under : SnapshotView) (piece : Entries (List Val))
-      → MoveHeld past p d name (behind_calls (parting consumer ∷ joining consumer ∷ holding ∷ []) (beginning_copy name ∷ []) (copies_piece name under hand piece))
+      → MoveHeld past p d (copy_handed d name) (behind_calls (parting consumer ∷ joining consumer ∷ holding ∷ []) (beginning_copy name ∷ []) (copies_piece name under hand piece))
   begin-held under piece =
-      by_test (λ b. MoveHeld past p d name (behind_calls (parting consumer ∷ joining consumer ∷ holding ∷ []) (beginning_copy name ∷ []) (if b then last_move name under hand piece else next_move name hand piece)))
+      by_test (λ b. MoveHeld past p d (copy_handed d name) (behind_calls (parting consumer ∷ joining consumer ∷ holding ∷ []) (beginning_copy name ∷ []) (if b then last_move name under hand piece else next_move name hand piece)))
       (nat_lt (length piece) piece_size)
-      (λ _. move-held past p d name (behind_calls (parting consumer ∷ joining consumer ∷ holding ∷ []) (beginning_copy name ∷ []) (last_move name under hand piece))
+      (λ _. move-held past p d (copy_handed d name) (behind_calls (parting consumer ∷ joining consumer ∷ holding ∷ []) (beginning_copy name ∷ []) (last_move name under hand piece))
       (let ending : List NodeCall = beginning_copy name ∷ copying_rows name (rows_of piece) ∷ ending_copy name under hand.tick ∷ [] in
       puts-held d p name (after_calls (called third p (letting_go hand.hold)) d ending)
       (held-calls (other_than d name) p None (called third p (letting_go hand.hold)) d ending (tt, (tt, (tt, tt))) (lets-held (other_than d name) p hand.hold third held-third))))
-      (λ _. move-held past p d name (behind_calls (parting consumer ∷ joining consumer ∷ holding ∷ []) (beginning_copy name ∷ []) (next_move name hand piece))
+      (λ _. move-held past p d (copy_handed d name) (behind_calls (parting consumer ∷ joining consumer ∷ holding ∷ []) (beginning_copy name ∷ []) (next_move name hand piece))
       (let going : List NodeCall = beginning_copy name ∷ copying_rows name (rows_of piece) ∷ [] in
       takes-held d p name (record hand { last = last_key hand.last piece }) (after_calls third d going) (λ after. (still-calls third d going d p from-third after).from)
       (held-calls (other_than d name) p (Some hand.hold) third d going (tt, (tt, tt)) held-third)))
@@ -415,12 +415,12 @@ module _ (past : Past) (d p : ℕ) (name consumer : List ℕ) (legal : AllLegal 
 -- ---- the statement
 
 -- what holds if it isn't refused
-abbrev IfHeld : Past → (p d : ℕ) → List ℕ → Checked CopyMove → Type 0
-IfHeld past p d name c = IfOk c (λ move. MoveHeld past p d name move)
+abbrev IfHeld : Past → (p d : ℕ) → List ℕ → Checked (Move CopyHand) → Type 0
+IfHeld past p d name c = IfOk c (λ move. MoveHeld past p d (copy_handed d name) move)
 
 -- nothing but what is printed
-prints-held : (past : Past) (p d : ℕ) (name : List ℕ) (hand : Option CopyHand) → hands past d name ≡ hand → AllHeld past → AllHeld (in_hand d name hand ∷ past)
-prints-held past p d name hand same held = held-step past (in_hand d name hand) same held
+prints-held : (past : Past) (p d : ℕ) (name : List ℕ) (hand : Option CopyHand) → copy_in_hand past d name ≡ hand → AllHeld past → AllHeld (copy_handed d name hand ∷ past)
+prints-held past p d name hand same held = held-step past (copy_handed d name hand) (same ∙ sym (copy-again hand)) held
 
 starts-held : (past : Past) (d p : ℕ) (name : List ℕ) → Kept each_table past → AllHeld past → (alike : IsAlike past d p name) → may_copy name (node (history_in past d)) ≡ true
     → copy_txid alike.table (copies (history_in past d)) ≡ None → IfHeld past p d name (starts_copy (database_of (history_in past p)) (database_of (history_in past d)) name)
@@ -436,7 +436,7 @@ starts-held past d p name kept held alike may none =
     under : SnapshotView
     under = snapshot_now (part_of (history_in past p))
 
-    move : CopyMove
+    move : Move CopyHand
     move = behind_calls (parting consumer ∷ joining consumer ∷ holding ∷ []) (beginning_copy name ∷ []) (next_piece there name under (first_hand there))
 
     of : (full spent last : Bool) → nat_le (2 ^ 62) (next_txid (history_in past d)) ≡ last
@@ -445,35 +445,29 @@ starts-held past d p name kept held alike may none =
     of false true last is = tt
     of false false true is = tt
     of false false false is = λ after.
-        let legal : AllLegal past = legal-under past (move_facts (world_of past) p d name move) after in
+        let legal : AllLegal past = legal-under past (move_facts (world_of past) p d (copy_handed d name) move) after in
         begin-held past d p name consumer legal (kept legal) held alike may none is under (rows_from there name under (first_hand there).last piece_size) after
 
-pub copy-held : (past : Past) (d p : ℕ) (name : List ℕ) → Kept each_table past → AllHeld past → IsAlike past d p name
-    → IfHeld past p d name (copy_move (database_of (history_in past p)) (database_of (history_in past d)) name (hands past d name))
-copy-held past d p name kept all alike = in-state (leaf_state name (node (history_in past d))) refl
+pub copy-held : (past : Past) (d p : ℕ) (name : List ℕ) → Kept each_table past → AllHeld past → IsAlike past d p name → may_copy name (node (history_in past d)) ≡ true
+    → IfHeld past p d name (goes_on (database_of (history_in past p)) (database_of (history_in past d)) name (copy_in_hand past d name) (copy_running (database_of (history_in past d)) name))
+copy-held past d p name kept all alike may = running may (copy_running (database_of (history_in past d)) name) refl
   where
     there : Database
     there = database_of (history_in past p)
 
-    going : (hand : Option CopyHand) → hands past d name ≡ hand → (o : Option (CopyHand × SnapshotView)) → under_way there hand ≡ o → IfHeld past p d name (continues there name hand o)
+    going : (hand : Option CopyHand) → copy_in_hand past d name ≡ hand → (o : Option (CopyHand × SnapshotView)) → under_way there hand ≡ o → IfHeld past p d name (continues there name hand o)
     going hand has None way = prints-held past p d name hand has all
     going None has (Some x) way = absurd (cc way)
     going (Some hand) has (Some x) way = held (held_snapshot there hand.hold) way
       where
-        held : (o : Option SnapshotView) → option_map (λ snapshot. (hand, snapshot)) o ≡ Some x → MoveHeld past p d name (next_piece there name x.1 x.0)
+        held : (o : Option SnapshotView) → option_map (λ snapshot. (hand, snapshot)) o ≡ Some x → MoveHeld past p d (copy_handed d name) (next_piece there name x.1 x.0)
         held None e = absurd (cc e)
         held (Some under) e =
             let one : (hand, under) ≡ x = cc e in
-            subst (λ (y : CopyHand × SnapshotView). MoveHeld past p d name (next_piece there name y.1 y.0)) one
+            subst (λ (y : CopyHand × SnapshotView). MoveHeld past p d (copy_handed d name) (next_piece there name y.1 y.0)) one
             (continue-held past d p name hand under (rows_from there name under hand.last piece_size) has alike.source.from all)
 
     running : may_copy name (node (history_in past d)) ≡ true → (o : Option ℕ) → copy_running (database_of (history_in past d)) name ≡ o
-        → IfHeld past p d name (goes_on there (database_of (history_in past d)) name (hands past d name) o)
+        → IfHeld past p d name (goes_on there (database_of (history_in past d)) name (copy_in_hand past d name) o)
     running may None is = starts-held past d p name kept all alike may (sym (ap (λ o. option_and_then (λ t. copy_txid t (copies (history_in past d))) o) alike.here) ∙ is)
-    running may (Some t) is = going (hands past d name) refl (under_way there (hands past d name)) refl
-
-    in-state : (state : TableState) → leaf_state name (node (history_in past d)) ≡ state
-        → IfHeld past p d name (moves_in state there (database_of (history_in past d)) name (hands past d name))
-    in-state InCopy is = running (to-copy name (node (history_in past d)) is) (copy_running (database_of (history_in past d)) name) refl
-    in-state Synced is = prints-held past p d name (hands past d name) refl all
-    in-state state is = prints-held past p d name (hands past d name) refl all
+    running may (Some t) is = going (copy_in_hand past d name) refl (under_way there (copy_in_hand past d name)) refl

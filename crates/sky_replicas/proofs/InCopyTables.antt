@@ -1,6 +1,7 @@
 -- The state of a leaf's table, as marks of the node leave it: a table that is being copied stays so until its copy ends or it leaves; one that has been
 -- copied is copied no more until it leaves.
-use Rattle.std.proofs.Common.{◌≡◌, List, [], ◌∷◌, ◌++◌, map, filter, find, Bool, true, false, not, Option, Some, None, option_map, unwrap_or, bytes_eq, refl, sym, ap, ◌∙◌, if◌then◌else◌, ℕ}
+use Rattle.std.proofs.Common.{◌≡◌, List, [], ◌∷◌, ◌++◌, map, filter, find, Bool, true, false, not, ◌||◌, Option, Some, None, option_map, unwrap_or, bytes_eq, refl, sym, ap, ◌∙◌, if◌then◌else◌, ℕ}
+use Rattle.std.proofs.lemmas.Bool.{false_from_ne_true}
 use Rattle.sky_names.proofs.PlaceLemmas.{bytes_eq_sym, same_name}
 use Rattle.londiste_state.specs.declared.state.TableState.{TableState}
 use Rattle.londiste_state.specs.declared.state.TableState.TheVariants.{Absent, InCopy, CatchingUp, WannaSync, DoSync, Synced}
@@ -10,7 +11,10 @@ use Rattle.sky_txid.specs.Snapshot.{SnapshotView}
 use Rattle.sky_model.specs.History.{NodeMark, root_made, leaf_made, leaf_added, leaf_removed, state_set, copied, applied, of_synced, copy_of, noded, History}
 use Rattle.sky_model.specs.Nodes.{node, after_node}
 use Rattle.sky_model.specs.StepNode.{may_move, is_in_copy, may_copy}
-use Rattle.sky_model.specs.CopyMoves.{leaf_state}
+use Rattle.sky_model.specs.State.{Database}
+use Rattle.sky_model.specs.Hands.{Hand, of_copy, copy_in}
+use Rattle.sky_model.specs.WorkerMoves.{handing}
+use Rattle.sky_model.specs.CopyMoves.{copy_running, goes_on, moves_in, table_move, table_at, copy_move}
 use Rattle.sky_model.proofs.Legal.{NodeFits}
 use Rattle.sky_model.proofs.Cases.{by_test}
 use Rattle.sky_replicas.specs.LawsOfReplicas.{takes_out}
@@ -85,7 +89,7 @@ module _ (such : TableState → Bool) (name other : List ℕ) (g : LeafTable →
 -- whether a mark leaves the table of a name being copied
 abbrev pub keeps_in_copy : List ℕ → NodeMark → Bool
 keeps_in_copy name (leaf_removed other) = not (bytes_eq name other)
-keeps_in_copy name (state_set other state) = is_in_copy state
+keeps_in_copy name (state_set other state) = is_in_copy state || not (bytes_eq name other)
 keeps_in_copy name (copied other under tick) = not (bytes_eq name other)
 keeps_in_copy name mark = true
 
@@ -100,7 +104,10 @@ may-after h (leaf_made other provider tick) name l is fits keeps may = absurd (c
 may-after h (leaf_added other) name l is fits keeps may = in-more is_in_copy name l.tables (new_table other ∷ []) may
 may-after h (leaf_removed other) name l is fits keeps may = in-less is_in_copy name other l.tables (differs (bytes_eq name other) keeps) may
 may-after h (state_set other state) name l is fits keeps may =
-    in-changed is_in_copy is_in_copy name (λ t. if bytes_eq other t.name then in_state state t else t) l.tables (into-changes is_in_copy name other (in_state state) (λ t. refl) (λ t _. keeps)) may
+    in-changed is_in_copy is_in_copy name (λ t. if bytes_eq other t.name then in_state state t else t) l.tables
+    (by_test (λ b. (b || not (bytes_eq name other)) ≡ true → is_in_copy state ≡ b → Changes is_in_copy is_in_copy name (λ t. if bytes_eq other t.name then in_state state t else t)) (is_in_copy state)
+    (λ _ _ into. into-changes is_in_copy name other (in_state state) (λ t. refl) (λ t _. into))
+    (λ _ apart _. other-changes is_in_copy name other (in_state state) (λ t. refl) (differs (bytes_eq name other) apart)) keeps refl) may
 may-after h (copied other under tick) name l is fits keeps may =
     in-changed is_in_copy is_in_copy name (λ t. if bytes_eq other t.name then with_copy under tick t else t) l.tables
     (other-changes is_in_copy name other (with_copy under tick) (λ t. refl) (differs (bytes_eq name other) keeps)) may
@@ -126,28 +133,75 @@ in-copy (WannaSync tick) e = absurd (cc e)
 in-copy (DoSync tick) e = absurd (cc e)
 in-copy Synced e = absurd (cc e)
 
-pub in-copy-state : (name : List ℕ) (n : Option Node) → may_copy name n ≡ true → leaf_state name n ≡ InCopy
+pub in-copy-state : (name : List ℕ) (n : Option Node) → may_copy name n ≡ true → option_map LeafTable.state (table_at name n) ≡ Some InCopy
 in-copy-state name None e = absurd (cc e)
 in-copy-state name (Some (of_root r)) e = absurd (cc e)
 in-copy-state name (Some (of_leaf l)) e = of (table_of name l) e
   where
-    of : (o : Option LeafTable) → unwrap_or (option_map (λ t. is_in_copy t.state) o) false ≡ true → unwrap_or (option_map LeafTable.state o) Absent ≡ InCopy
+    of : (o : Option LeafTable) → unwrap_or (option_map (λ t. is_in_copy t.state) o) false ≡ true → option_map LeafTable.state o ≡ Some InCopy
     of None e = absurd (cc e)
-    of (Some t) e = in-copy t.state e
+    of (Some t) e = ap Some (in-copy t.state e)
 
--- it doesn't go into that state again
-pub not-again : (name : List ℕ) (n : Option Node) → may_move name InCopy n ≡ true → may_copy name n ≡ false
-not-again name None e = refl
-not-again name (Some (of_root r)) e = refl
-not-again name (Some (of_leaf l)) e = of (table_of name l) e
+-- the table of a name has that name, and is being copied if it is in that state
+pub table-named : (name : List ℕ) (n : Option Node) (t : LeafTable) → table_at name n ≡ Some t → t.name ≡ name
+table-named name None t is = absurd (cc is)
+table-named name (Some (of_root r)) t is = absurd (cc is)
+table-named name (Some (of_leaf l)) t is = of l.tables is
   where
-    from : (state : TableState) → is_allowed state InCopy ≡ true → is_in_copy state ≡ false
-    from InCopy e = absurd (cc e)
-    from state e = refl
+    of : (ts : List LeafTable) → find (λ (x : LeafTable). bytes_eq name x.name) ts ≡ Some t → t.name ≡ name
+    of [] e = absurd (cc e)
+    of (x ∷ ts) e =
+        by_test (λ b. bytes_eq name x.name ≡ b → (if b then Some x else find (λ (y : LeafTable). bytes_eq name y.name) ts) ≡ Some t → t.name ≡ name) (bytes_eq name x.name)
+        (λ _ same here. let one : x ≡ t = cc here in sym (same_name name x.name same ∙ ap LeafTable.name one)) (λ _ _ there. of ts there) refl e
 
-    of : (o : Option LeafTable) → unwrap_or (option_map (λ t. is_allowed t.state InCopy) o) false ≡ true → unwrap_or (option_map (λ t. is_in_copy t.state) o) false ≡ false
-    of None e = refl
-    of (Some t) e = from t.state e
+pub may-as : (name : List ℕ) (n : Option Node) (t : LeafTable) → table_at name n ≡ Some t → may_copy name n ≡ is_in_copy t.state
+may-as name None t is = absurd (cc is)
+may-as name (Some (of_root r)) t is = absurd (cc is)
+may-as name (Some (of_leaf l)) t is = ap (λ o. unwrap_or (option_map (λ (x : LeafTable). is_in_copy x.state) o) false) is
+
+-- so its worker's move is one that copies
+pub copies-in : (p r : Database) (name : List ℕ) (hand : Option Hand) → option_map LeafTable.state (table_at name r.node) ≡ Some InCopy
+    → copy_move p r name hand ≡ handing of_copy (goes_on p r name (copy_in hand) (copy_running r name))
+copies-in p r name hand state = of (table_at name r.node) refl state
+  where
+    of : (o : Option LeafTable) → table_at name r.node ≡ o → option_map LeafTable.state o ≡ Some InCopy → table_move p r name o hand ≡ handing of_copy (goes_on p r name (copy_in hand) (copy_running r name))
+    of None is e = absurd (cc e)
+    of (Some t) is e =
+        let in_copy : t.state ≡ InCopy = cc e in
+        ap (λ s. moves_in s p r t hand) in_copy ∙ ap (λ x. handing of_copy (goes_on p r x (copy_in hand) (copy_running r x))) (table-named name r.node t is)
+
+-- whether a table goes into a state from being copied
+abbrev pub ends_copying : TableState → Bool
+ends_copying CatchingUp = true
+ends_copying state = false
+
+from-in-copy : (state : TableState) → is_allowed InCopy state ≡ true → ends_copying state ≡ true
+from-in-copy CatchingUp e = refl
+from-in-copy Absent e = absurd (cc e)
+from-in-copy InCopy e = absurd (cc e)
+from-in-copy (WannaSync tick) e = absurd (cc e)
+from-in-copy (DoSync tick) e = absurd (cc e)
+from-in-copy Synced e = absurd (cc e)
+
+-- one that goes into another state isn't being copied
+pub not-copied : (name : List ℕ) (state : TableState) (n : Option Node) → ends_copying state ≡ false → may_move name state n ≡ true → may_copy name n ≡ false
+not-copied name state None ends moves = refl
+not-copied name state (Some (of_root r)) ends moves = refl
+not-copied name state (Some (of_leaf l)) ends moves = false_from_ne_true (may_copy name (Some (of_leaf l))) (λ may. of (table_of name l) may moves)
+  where
+    of : (o : Option LeafTable) → unwrap_or (option_map (λ t. is_in_copy t.state) o) false ≡ true → unwrap_or (option_map (λ t. is_allowed t.state state) o) false ≡ true → ⊥
+    of None e allowed = cc e
+    of (Some t) e allowed = cc (sym ends ∙ from-in-copy state (ap (λ x. is_allowed x state) (sym (in-copy t.state e)) ∙ allowed))
+
+-- so another one stays so
+pub other-moved : (name other : List ℕ) (state : TableState) (n : Option Node) → ends_copying state ≡ false → may_move other state n ≡ true → may_copy name n ≡ true → keeps_in_copy name (state_set other state) ≡ true
+other-moved name other state n ends moves may =
+    by_test (λ b. bytes_eq name other ≡ b → (is_in_copy state || not b) ≡ true) (bytes_eq name other)
+    (λ _ same. absurd (cc (sym may ∙ ap (λ x. may_copy x n) (same_name name other same) ∙ not-copied other state n ends moves))) (λ _ _. either (is_in_copy state)) refl
+  where
+    either : (b : Bool) → (b || true) ≡ true
+    either true = refl
+    either false = refl
 
 -- ---- a table that has been copied
 

@@ -1,27 +1,29 @@
 -- What holds of all copies in hand, and of all tables that have been copied, fact by fact.
-use Rattle.std.proofs.Common.{arith, ◌≡◌, ℕ, ◌==◌, List, [], ◌∷◌, ◌++◌, Bool, true, false, ◌||◌, Option, Some, None, is_some, option_map, refl, sym, ap, subst, ◌∙◌, if◌then◌else◌}
+use Rattle.std.proofs.Common.{arith, ◌≡◌, ℕ, ◌==◌, List, [], ◌∷◌, ◌++◌, Bool, true, false, not, ◌||◌, Option, Some, None, is_some, option_map, refl, sym, ap, subst, ◌∙◌, if◌then◌else◌}
 use Rattle.std.specs.Option.{option_and_then}
 use Rattle.sky_val.specs.declared.val.Val.{Val}
 use Rattle.sky_val.specs.Entries.{Entries}
 use Rattle.sky_names.specs.Places.{place_of}
 use Rattle.sky_txid.specs.Ids.{contains}
 use Rattle.sky_txid.specs.Snapshot.{SnapshotView}
+use Rattle.londiste_state.specs.declared.state.TableState.{TableState}
 use Rattle.londiste_state.specs.Nodes.{Node, node_name}
 use Rattle.sky_model.specs.History.{Mark, of_copy, began, ended, tabled, wrote, noded, copied, leaf_removed, state_set, hold_begun, hold_ended, History, Fact, within, node_made, in_hand, Past}
 use Rattle.sky_model.specs.Transactions.{snapshot}
 use Rattle.sky_model.specs.Rows.{table_names, rows, writes as writes_of, put_all}
 use Rattle.sky_model.specs.Nodes.{node}
 use Rattle.sky_model.specs.State.{database_of}
-use Rattle.sky_model.specs.Hands.{CopyHand}
+use Rattle.sky_model.specs.Hands.{CopyHand, Hand, copy_in}
 use Rattle.sky_model.specs.CopyMoves.{newest_of, last_key}
-use Rattle.sky_model.specs.StepNode.{is_in_copy}
-use Rattle.sky_model.specs.World.{history_in, nodes, hands, on_top}
-use Rattle.sky_model.proofs.Legal.{Fine, Legal, legal-below_mark, fine_mark}
+use Rattle.sky_model.specs.StepNode.{may_move, may_copy}
+use Rattle.sky_model.specs.World.{history_in, nodes, on_top}
+use Rattle.sky_model.proofs.Legal.{Fine, nodes as noding, Legal, legal-below_mark, fine_mark}
 use Rattle.sky_model.proofs.Histories.{AllLegal}
 use Rattle.sky_model.proofs.Good.{same-session}
 use Rattle.sky_model.proofs.Cases.{by_test, by_same}
-use Rattle.sky_replicas.specs.LawsOfReplicas.{CopyBegan}
+use Rattle.sky_replicas.specs.LawsOfReplicas.{CopyBegan, copy_in_hand}
 use Rattle.sky_replicas.proofs.NodeNames.{provider_of, IsNamedAs, named-stays, database_among, names_in, source_of, among-same, among-more}
+use Rattle.sky_replicas.proofs.InCopyTables.{ends_copying, other-moved}
 use Rattle.sky_replicas.proofs.Copying.{Runs, spares, runs-step, Holds, leaves_held, holds-step}
 use Rattle.sky_model.proofs.Snapshots.{contains-push}
 use Rattle.sky_replicas.proofs.HandsAt.{is_at, AreOne, one-at, hand-is}
@@ -192,17 +194,17 @@ copied-within past e mark there fine tells all d later p name under tick is =
 -- of two tables with one provider's database the workers have different numbers of holds in hand
 abbrev pub Apart : (ℕ → List ℕ → Bool) → Past → Type 0
 Apart among past = (d : ℕ) (name : List ℕ) (e : ℕ) (other : List ℕ) (one two : CopyHand) (p : ℕ) → among d name ≡ true → among e other ≡ true → is_at d name e other ≡ false
-    → hands past d name ≡ Some one → hands past e other ≡ Some two → source_of past d ≡ Some p → source_of past e ≡ Some p → (one.hold == two.hold) ≡ false
+    → copy_in_hand past d name ≡ Some one → copy_in_hand past e other ≡ Some two → source_of past d ≡ Some p → source_of past e ≡ Some p → (one.hold == two.hold) ≡ false
 
 -- each copy that runs, of one of these tables, is in hand
 abbrev pub AllInHand : (ℕ → List ℕ → Bool) → Past → Type 0
-AllInHand among past = (d : ℕ) (name : List ℕ) (table : ℕ) → among d name ≡ true → IsCopied (history_in past d) name table → is_some (hands past d name) ≡ true
+AllInHand among past = (d : ℕ) (name : List ℕ) (table : ℕ) → among d name ≡ true → IsCopied (history_in past d) name table → is_some (copy_in_hand past d name) ≡ true
 
 -- what holds of what is in hand for some tables, and of all copied tables
 pub record Keeps (among : ℕ → List ℕ → Bool) (past : Past) : Type 0 where
   pub all_noded : Noded past
   pub all_copied : AllCopied past
-  pub copying : (d : ℕ) (name : List ℕ) (hand : CopyHand) → among d name ≡ true → hands past d name ≡ Some hand → Copying past d name hand
+  pub copying : (d : ℕ) (name : List ℕ) (hand : CopyHand) → among d name ≡ true → copy_in_hand past d name ≡ Some hand → Copying past d name hand
   pub apart : Apart among past
   pub running : AllInHand among past
 
@@ -246,7 +248,7 @@ BeginsNone among past e mark = (name : List ℕ) (table : ℕ) → among e name 
 
 running-within : (among : ℕ → List ℕ → Bool) (past : Past) (e : ℕ) (mark : Mark) → AllLegal past → BeginsNone among past e mark → AllInHand among past → AllInHand among (within e mark ∷ past)
 running-within among past e mark legal none all d name table is =
-    in-history (λ h. IsCopied h name table → is_some (hands past d name) ≡ true) past e mark d
+    in-history (λ h. IsCopied h name table → is_some (copy_in_hand past d name) ≡ true) past e mark d
     (λ same before c. before (copied-before (history_in past d) (legal d) mark name table
     (λ at. none name table (subst (λ k. among k name ≡ true) (sym same) is) (ap (λ k. place_of name (table_names (history_in past k))) same ∙ at)) c)) (all d name table is)
 
@@ -259,7 +261,7 @@ pub was-source : (past now : Past) (d : ℕ) (name : List ℕ) (hand : CopyHand)
 was-source past now d name hand c still p is = c.from ∙ sym still ∙ is
 
 pub keeps-within : (among : ℕ → List ℕ → Bool) (past : Past) (e : ℕ) (mark : Mark) → (AllLegal past → Keeps among past → TellsOfCopied past e mark)
-    → (AllLegal past → Keeps among past → (d : ℕ) (name : List ℕ) (hand : CopyHand) → among d name ≡ true → hands past d name ≡ Some hand → (c : Copying past d name hand) → Passes past e mark d name hand c)
+    → (AllLegal past → Keeps among past → (d : ℕ) (name : List ℕ) (hand : CopyHand) → among d name ≡ true → copy_in_hand past d name ≡ Some hand → (c : Copying past d name hand) → Passes past e mark d name hand c)
     → BeginsNone among past e mark → Kept among past → Kept among (within e mark ∷ past)
 keeps-within among past e mark tells passes none kept after =
     let legal : AllLegal past = legal-before past (within e mark) after in
@@ -290,16 +292,23 @@ is_quiet (noded (copied name under tick)) = false
 is_quiet (noded (hold_begun hold)) = false
 is_quiet (noded (hold_ended hold)) = false
 is_quiet (noded (leaf_removed name)) = false
-is_quiet (noded (state_set name state)) = is_in_copy state
+is_quiet (noded (state_set name state)) = not (ends_copying state)
 is_quiet mark = true
 
-pub quiet-spares : (name : List ℕ) (table : ℕ) (mark : Mark) → is_quiet mark ≡ true → spares name table mark ≡ true
-quiet-spares name table (ended (of_copy n) t c) e = absurd (cc e)
-quiet-spares name table (tabled (wrote (of_copy n) t m key old new)) e = absurd (cc e)
-quiet-spares name table (noded (copied other under tick)) e = absurd (cc e)
-quiet-spares name table (noded (leaf_removed other)) e = absurd (cc e)
-quiet-spares name table (noded (state_set other state)) e = e
-quiet-spares name table mark e = refl
+moves-as : {h : History} {name : List ℕ} {state : TableState} → Fine h (noded (state_set name state)) → may_move name state (node h) ≡ true
+moves-as (noding _ fits) = fits.may
+
+pub quiet-spares : (h : History) (name : List ℕ) (table : ℕ) (mark : Mark) → Fine h mark → may_copy name (node h) ≡ true → is_quiet mark ≡ true → spares name table mark ≡ true
+quiet-spares h name table (ended (of_copy n) t c) fine may e = absurd (cc e)
+quiet-spares h name table (tabled (wrote (of_copy n) t m key old new)) fine may e = absurd (cc e)
+quiet-spares h name table (noded (copied other under tick)) fine may e = absurd (cc e)
+quiet-spares h name table (noded (leaf_removed other)) fine may e = absurd (cc e)
+quiet-spares h name table (noded (state_set other state)) fine may e = other-moved name other state (node h) (goes-not (ends_copying state) e) (moves-as fine) may
+  where
+    goes-not : (b : Bool) → not b ≡ true → b ≡ false
+    goes-not true e = absurd (cc e)
+    goes-not false e = refl
+quiet-spares h name table mark fine may e = refl
 
 pub quiet-held : (number : ℕ) (mark : Mark) → is_quiet mark ≡ true → leaves_held number mark ≡ true
 quiet-held number (noded (hold_ended hold)) e = absurd (cc e)
@@ -317,7 +326,7 @@ quiet-tells past e mark is = tt
 abbrev pub FactFits : Past → Fact → Type 0
 FactFits past (within d mark) = is_quiet mark ≡ true
 FactFits past (node_made d) = is_some (node (history_in past d)) ≡ true
-FactFits past (in_hand d name hand) = hands past d name ≡ hand
+FactFits past (in_hand d name hand) = copy_in_hand past d name ≡ copy_in hand
 FactFits past fact = Unit {0}
 
 -- facts are, one after another
@@ -330,22 +339,25 @@ made-noded past e has all d there =
     by_same (λ b. (contains d (nodes past) || b) ≡ true → is_some (node (history_in past d)) ≡ true) d e
     (λ same _. subst (λ k. is_some (node (history_in past k)) ≡ true) (sym same) has) (λ _ is. all d (grind (arith, is))) (sym (contains-push d e (nodes past)) ∙ there)
 
-pub copying-handed : (past : Past) (e : ℕ) (other : List ℕ) (new : Option CopyHand) (d : ℕ) (name : List ℕ) (hand : CopyHand) → Copying past d name hand → Copying (in_hand e other new ∷ past) d name hand
+pub copying-handed : (past : Past) (e : ℕ) (other : List ℕ) (new : Option Hand) (d : ℕ) (name : List ℕ) (hand : CopyHand) → Copying past d name hand → Copying (in_hand e other new ∷ past) d name hand
 copying-handed past e other new d name hand c = copying-on past (in_hand e other new) d name hand c c.from c.there c.here
 
 pub copied-beside : (past : Past) (fact : Fact) → ((d : ℕ) → history_in (fact ∷ past) d ≡ history_in past d) → ((d : ℕ) → StillFound past fact d) → AllCopied past → AllCopied (fact ∷ past)
 copied-beside past fact same still all d later p name under tick is = copied-still past fact d p name under tick (still d) (all d later p name under tick (sym (same d) ∙ is))
 
-pub handed-same : (past : Past) (e : ℕ) (other : List ℕ) (hand : Option CopyHand) → hands past e other ≡ hand → (d : ℕ) (name : List ℕ) → hands (in_hand e other hand ∷ past) d name ≡ hands past d name
+pub handed-same : (past : Past) (e : ℕ) (other : List ℕ) (hand : Option Hand) → copy_in_hand past e other ≡ copy_in hand → (d : ℕ) (name : List ℕ) → copy_in_hand (in_hand e other hand ∷ past) d name ≡ copy_in_hand past d name
 handed-same past e other hand is d name =
     hand-is past e other hand d name
-    ∙ by_test (λ b. is_at e other d name ≡ b → (if b then hand else hands past d name) ≡ hands past d name) (is_at e other d name)
-    (λ _ at. let one : AreOne e other d name = one-at e other d name at in sym is ∙ ap (λ k. hands past k other) one.database ∙ ap (hands past d) one.table) (λ _ _. refl) refl
+    ∙ by_test (λ b. is_at e other d name ≡ b → (if b then copy_in hand else copy_in_hand past d name) ≡ copy_in_hand past d name) (is_at e other d name)
+    (λ _ at. let one : AreOne e other d name = one-at e other d name at in sym is ∙ ap (λ k. copy_in_hand past k other) one.database ∙ ap (copy_in_hand past d) one.table) (λ _ _. refl) refl
 
 pub fits-step : (among : ℕ → List ℕ → Bool) (past : Past) (fact : Fact) → FactFits past fact → Kept among past → Kept among (fact ∷ past)
 fits-step among past (within e mark) quiet kept after =
     keeps-within among past e mark (λ _ _. quiet-tells past e mark quiet)
-    (λ _ _ d name hand is has c. record { replica = λ _. quiet-spares name c.table mark quiet; provider = λ _. quiet-held hand.hold mark quiet }) (λ name table is at. quiet-begins table mark quiet) kept after
+    (λ _ _ d name hand is has c. record {
+      replica = λ same. quiet-spares (history_in past d) name c.table mark (subst (λ k. Fine (history_in past k) mark) same (fine-within past e mark after)) c.here.may quiet;
+      provider = λ _. quiet-held hand.hold mark quiet;
+    }) (λ name table is at. quiet-begins table mark quiet) kept after
 fits-step among past (node_made e) has kept after =
     let k : Keeps among past = kept (legal-before past (node_made e) after) in
     record {

@@ -3,7 +3,7 @@ use Rattle.std.proofs.Common.{◌≡◌, ℕ, ℤ, List, [], ◌∷◌, ◌++◌
 use Rattle.std.proofs.lemmas.Bool.{and_parts}
 use Rattle.sky_names.specs.Places.{place_of}
 use Rattle.londiste_state.specs.declared.state.TableState.{TableState}
-use Rattle.londiste_state.specs.declared.state.TableState.TheVariants.{InCopy}
+use Rattle.londiste_state.specs.declared.state.TableState.TheVariants.{InCopy, CatchingUp, DoSync, Synced}
 use Rattle.londiste_state.specs.Nodes.{Node, of_root, of_leaf, Leaf, LeafTable, is_among, table_of, tables_of}
 use Rattle.sky_model.specs.declared.stmt.Stmt.{Stmt}
 use Rattle.sky_model.specs.declared.stmt.Stmt.TheVariants.{CreateRoot, Node as OnNodes, Clock, PgqdOn, PgqdOff}
@@ -11,27 +11,29 @@ use Rattle.sky_model.specs.declared.stmt.NodeStmt.{NodeStmt}
 use Rattle.sky_model.specs.declared.stmt.NodeStmt.TheVariants.{CreateLeaf, AddTable, RemoveTable, TableState as ShowState, CopyStep, Restart, RestartTable, LondisteStep}
 use Rattle.sky_model.specs.declared.daemon.DaemonPart.{DaemonPart}
 use Rattle.sky_model.specs.declared.reply.Reply.{Reply}
-use Rattle.sky_model.specs.declared.reply.Reply.TheVariants.{Done, Null, TableMoved}
+use Rattle.sky_model.specs.declared.reply.Reply.TheVariants.{Done, AwaitsTable}
 use Rattle.sky_model.specs.declared.reply.Refusal.{Refusal}
 use Rattle.sky_model.specs.declared.reply.Refusal.TheVariants.{AlreadyInSet, NodeExists, NoNode, NoTable, NotInSet, NotProvider, SchemaDiffers, TableInUse}
-use Rattle.sky_model.specs.History.{Mark, of_copy, ended, tabled, read_only, noded, leaf_made, leaf_removed, state_set, copied, History, Fact, appeared, founded, entered, within, clock_at, node_made, in_hand, Past}
-use Rattle.sky_model.specs.Hands.{CopyHand}
+use Rattle.sky_model.specs.History.{Mark, of_copy, ended, tabled, read_only, noded, leaf_made, leaf_removed, copied, History, Fact, appeared, founded, entered, within, clock_at, node_made, in_hand, batch_in_hand, Past}
+use Rattle.sky_model.specs.Hands.{CopyHand, BatchHand, of_copy, of_batch, copy_in, batch_in}
 use Rattle.sky_model.specs.Transactions.{snapshot}
 use Rattle.sky_model.specs.Copies.{copies, copy_txid}
 use Rattle.sky_model.specs.Rows.{table_names, writes as writes_of, put_all, rows}
 use Rattle.sky_model.specs.Nodes.{node, leaf_tables}
 use Rattle.sky_model.specs.State.{Database, database_of, after_marks}
-use Rattle.sky_model.specs.Outcome.{Outcome, Checked, ◌>>=◌, ◌>>◌, refused_if, refused_by, found_or, answers, does_marks}
+use Rattle.sky_model.specs.Outcome.{Outcome, Checked, ◌>>=◌, ◌>>◌, refused_if, refused_by, found_or}
 use Rattle.sky_model.specs.Reader.{by_past, within_database, Deed, appears}
 use Rattle.sky_model.specs.Settling.{Turn, marked}
 use Rattle.sky_model.specs.Daemon.{daemon_does}
 use Rattle.sky_model.specs.Clock.{deed_in, waits_at}
 use Rattle.sky_model.specs.StepQueue.{newest_id}
 use Rattle.sky_model.specs.StepCopy.{given_up}
-use Rattle.sky_model.specs.StepNode.{NodeCall, joining, parting, removing, moving, letting_go, giving_up_copy, if_there, set_queue, joins, lists, adds, unlists, moves_table, may_move, call_form, node_does}
-use Rattle.sky_model.specs.CopyMoves.{CopyMove, newest_of, copy_move, copy_consumer, lets_go_for}
+use Rattle.sky_model.specs.StepNode.{NodeCall, joining, parting, removing, letting_go, giving_up_copy, if_there, set_queue, joins, lists, adds, unlists, is_in_copy, may_copy, node_does}
+use Rattle.sky_model.specs.WorkerMoves.{Move, only_prints, handing}
+use Rattle.sky_model.specs.CopyMoves.{newest_of, copy_move, copy_consumer, lets_go_for, copy_running, goes_on, moves_in, table_move, table_at, with_batch, if_copied, catches_up, hands_over}
+use Rattle.sky_model.specs.ReplayMoves.{is_on_way, replay_move}
 use Rattle.sky_model.specs.NodesOfWorld.{WorldOutcome, node_called, done_in, leaf_of, create_leaf, provides, are_columns, columns_called, adds_to, first_user, shows_state, Located}
-use Rattle.sky_model.specs.WorkersOfWorld.{move_facts, moves, source, source_alike, leaf_table, restarts, restarting, is_on_way, next_to_copy, starts_next, leaf_steps, parts_for, leaves_leaf, removes_from, node_form}
+use Rattle.sky_model.specs.WorkersOfWorld.{move_facts, moves, source, source_alike, leaf_table, restarts, restarting, provider_of as providers_database, leaf_steps, parts_for, leaves_leaf, removes_from, node_form}
 use Rattle.sky_model.specs.World.{World, world_of, session_names, database_names, home, history_in, hands, on_top, nodes}
 use Rattle.sky_model.specs.Calls.{opening, opens, outside_does, left_if, is_leaving, may_make, of_daemon_if, beside, database_turn, gets_node, node_if, world_does, does_at, session_does, turn, Call, called as call_does, past_of}
 use Rattle.sky_keys.specs.Waits.{is_waiting}
@@ -45,19 +47,21 @@ use Rattle.sky_model.proofs.Good.{same-session}
 use Rattle.sky_model.proofs.CopyLaws.{copies_leave_their_rows}
 use Rattle.sky_model.proofs.StatementMarks.{EachMark, each-rest, each-given, when-true, Gives, AnyReply, after}
 use Rattle.sky_model.proofs.Cases.{by_test}
-use Rattle.sky_replicas.specs.LawsOfReplicas.{CopyBegan, CopiedTablesHaveProvidersRows}
+use Rattle.sky_replicas.specs.LawsOfReplicas.{CopyBegan, copy_in_hand, CopiedTablesHaveProvidersRows}
+use Rattle.sky_replicas.proofs.HandsAt.{hands-marks}
+use Rattle.sky_replicas.proofs.InCopyTables.{table-named, may-as}
 use Rattle.std.specs.Option.{option_and_then}
 use Rattle.sky_replicas.proofs.NodeNames.{provider_of, database_among, names_in, source_of, called-database}
-use Rattle.sky_replicas.proofs.RunningCopies.{Uncopied, uncopied-txid}
-use Rattle.sky_replicas.proofs.InCopyTables.{not-again}
+use Rattle.sky_replicas.proofs.RunningCopies.{Uncopied}
 use Rattle.sky_replicas.proofs.QuietStatements.{quiet-turn, quiet-daemon}
 use Rattle.sky_replicas.proofs.Keeping.{CopiedFrom, Copying, Keeps, Kept, is_quiet, FactFits, FactsFit, fits-step, fits-steps}
 use Rattle.sky_replicas.proofs.Others.{each_table, other_than, legal-under, by-before, fewer, idle-hand, own-free, own-marks, quiet-marks, puts-down}
-use Rattle.sky_replicas.proofs.CallPasts.{call_marks, called, after_calls, history-called, history-elsewhere, histories-elsewhere, quiet-consumer, lets-go, own-call, removing-marks}
+use Rattle.sky_replicas.proofs.CallPasts.{call_marks, called, after_calls, on-move, history-called, history-elsewhere, histories-elsewhere, quiet-consumer, lets-go, own-call, removing-marks}
 use Rattle.sky_replicas.proofs.Sources.{IsSource, source-is, IsAlike, alike-is}
-use Rattle.sky_replicas.proofs.CopySteps.{MoveKept, move-kept, uncopied-removed, nothing-given_up, uncopied-given_up}
+use Rattle.sky_replicas.proofs.CopySteps.{copy_handed, MoveKept, move-kept, uncopied-removed, nothing-given_up, uncopied-given_up}
 use Rattle.sky_replicas.proofs.KeptMoves.{copy-kept}
 use Rattle.sky_replicas.proofs.HoldsInHand.{AllHeld, held-steps, AreOther, MoveHeld, move-held, down-held, copy-held}
+use Rattle.sky_replicas.proofs.QuietMoves.{CopiesOnlyInCopy, IsQuietCall, AllQuiet, IsQuietMove, QuietIfOk, quiet-catches_up, quiet-hands_over, quiet-replay}
 
 -- ---- what is kept
 
@@ -71,11 +75,11 @@ all-step past fact fit kept = (fits-step each_table past fact fit kept.0, held-s
 all-steps : (past : Past) (facts : List Fact) → FactsFit past facts → AllKept past → AllKept (on_top past facts)
 all-steps past facts fit kept = (fits-steps each_table past facts fit kept.0, held-steps past facts fit kept.1)
 
--- that they fit may be proved by what holds before them
-all-before : (past : Past) (facts : List Fact) → (AllLegal past → Keeps each_table past → FactsFit past facts) → AllKept past → AllKept (on_top past facts)
-all-before past facts fit kept = (
-  by-before past facts (λ legal k. fits-steps each_table past facts (fit legal k) kept.0) kept.0,
-  λ after. let legal : AllLegal past = legal-under past facts after in held-steps past facts (fit legal (kept.0 legal)) kept.1 after,
+-- so it may be proved by what holds before some facts
+all-before : (past : Past) (facts : List Fact) → (AllLegal past → Keeps each_table past → AllKept (on_top past facts)) → AllKept past → AllKept (on_top past facts)
+all-before past facts so kept = (
+  λ after. let legal : AllLegal past = legal-under past facts after in (so legal (kept.0 legal)).0 after,
+  λ after. let legal : AllLegal past = legal-under past facts after in (so legal (kept.0 legal)).1 after,
 )
 
 -- ---- facts that fit
@@ -105,6 +109,45 @@ fit-beside past w who stmt d =
     let leaves : List Fact = left_if who (is_leaving (is_waiting who (w.database d).part.waiting) stmt) in
     fit-append past leaves (of_daemon_if (may_make (w.database d) who stmt) d (w.daemons d) stmt) (fit-left past who (is_leaving (is_waiting who (w.database d).part.waiting) stmt))
     (fit-daemon (on_top past leaves) (may_make (w.database d) who stmt) d (w.daemons d) stmt)
+
+-- ---- moves that leave such facts
+
+-- a table that isn't being copied has no copy in hand, and none of it runs
+no-copy : (past : Past) (d : ℕ) (name : List ℕ) → Keeps each_table past → may_copy name (node (history_in past d)) ≡ false → copy_in_hand past d name ≡ None
+no-copy past d name k isnt = of (copy_in_hand past d name) refl
+  where
+    of : (o : Option CopyHand) → copy_in_hand past d name ≡ o → o ≡ None
+    of None is = refl
+    of (Some hand) is = absurd (cc (sym isnt ∙ (k.copying d name hand refl is).here.may))
+
+only-in-copy : (past : Past) (d : ℕ) → Keeps each_table past → CopiesOnlyInCopy (history_in past d)
+only-in-copy past d k name isnt = idle-hand past d name k (no-copy past d name k isnt)
+
+quiet-called : (past : Past) (e : ℕ) (call : NodeCall) → IsQuietCall call → AllKept past → AllKept (called past e call)
+quiet-called past e call quiet kept =
+    let h : History = history_in past e in
+    let marks : List Mark = call_marks h call in
+    all-before past (map (within e) marks)
+    (λ _ k. all-steps past (map (within e) marks) (fit-marks past e marks (each-given AnyReply is_quiet (node_does (database_of h) call) (quiet h (only-in-copy past e k)))) kept) kept
+
+quiet-calls : (past : Past) (e : ℕ) (calls : List NodeCall) → AllQuiet calls → AllKept past → AllKept (after_calls past e calls)
+quiet-calls past e [] quiet kept = kept
+quiet-calls past e (call ∷ calls) quiet kept = quiet-calls (called past e call) e calls quiet.1 (quiet-called past e call quiet.0 kept)
+
+hands-calls : (past : Past) (e : ℕ) (calls : List NodeCall) → hands (after_calls past e calls) ≡ hands past
+hands-calls past e [] = refl
+hands-calls past e (call ∷ calls) = hands-calls (called past e call) e calls ∙ hands-marks past e (call_marks (history_in past e) call)
+
+quiet-move : {H : Type 0} (past : Past) (p d : ℕ) (handed : Option H → Fact) (move : Move H) → IsQuietMove move
+    → FactFits (after_calls (after_calls past p move.provider) d move.replica) (handed move.hand) → AllKept past → AllKept (on_top past (move_facts (world_of past) p d handed move))
+quiet-move past p d handed move quiet fits kept =
+    subst AllKept (sym (on-move past p d handed move))
+    (all-step (after_calls (after_calls past p move.provider) d move.replica) (handed move.hand) fits
+    (quiet-calls (after_calls past p move.provider) d move.replica quiet.replica (quiet-calls past p move.provider quiet.provider kept)))
+
+no-copy-in : (o : Option BatchHand) → copy_in (option_map of_batch o) ≡ None
+no-copy-in None = refl
+no-copy-in (Some batch) = refl
 
 -- ---- statements of sessions
 
@@ -172,12 +215,9 @@ module _ (past : Past) (kept : AllKept past) where
   if-checked (Ok a) next holds = holds a refl
   if-checked (Err refusal) next holds = tt
 
-  kept-before : (d : ℕ) (reply : Reply) (c : Checked Outcome) → (AllLegal past → Keeps each_table past → Gives AnyReply is_quiet c) → KeptIfOk (done_in d reply c)
-  kept-before d reply (Ok o) given = all-before past (map (within d) o.marks) (λ legal k. fit-marks past d o.marks (given legal k).1) kept
-  kept-before d reply (Err refusal) given = tt
-
   kept-done : (d : ℕ) (reply : Reply) (c : Checked Outcome) → Gives AnyReply is_quiet c → KeptIfOk (done_in d reply c)
-  kept-done d reply c given = kept-before d reply c (λ _ _. given)
+  kept-done d reply (Ok o) given = all-steps past (map (within d) o.marks) (fit-marks past d o.marks given.1) kept
+  kept-done d reply (Err refusal) given = tt
 
   kept-leaf : (d p : ℕ) (name provider : List ℕ) (tick : ℕ) (c : Checked Outcome) → Gives AnyReply is_quiet c → KeptIfOk (leaf_of d p name provider tick c)
   kept-leaf d p name provider tick (Err refusal) given = tt
@@ -210,7 +250,7 @@ module _ (past : Past) (kept : AllKept past) where
       (kept-done d Done (adds (w.database d) table name) (quiet-adds (w.database d) table name)))
 
   -- the worker's hold is let go
-  kept-lets : (d p : ℕ) (name : List ℕ) (hand : Option CopyHand) → AllLegal past → Keeps each_table past → hands past d name ≡ hand → IsSource past d p → Kept (other_than d name) (after_calls past p (lets_go_for hand))
+  kept-lets : (d p : ℕ) (name : List ℕ) (hand : Option CopyHand) → AllLegal past → Keeps each_table past → copy_in_hand past d name ≡ hand → IsSource past d p → Kept (other_than d name) (after_calls past p (lets_go_for hand))
   kept-lets d p name None legal k has s = fewer d name past k
   kept-lets d p name (Some hand) legal k has s = lets-go p d name hand.hold past (λ l. (fewer d name past k l, own-free past p d name hand k has s.from))
 
@@ -222,11 +262,11 @@ module _ (past : Past) (kept : AllKept past) where
       (each-given AnyReply is_quiet (node_does (database_of (history_in q p)) (parting (copy_consumer n))) (quiet-consumer (database_of (history_in q p)) (parting (copy_consumer n)) refl)) holds) (λ _. holds)
 
   kept-remove : (d p table : ℕ) (name : List ℕ) (l : Leaf) → node (history_in past d) ≡ Some (of_leaf l) → is_among name (tables_of (of_leaf l)) ≡ true
-      → place_of name (table_names (history_in past d)) ≡ Some table → IsSource past d p → MoveKept past p d name (leaves_leaf l name (hands past d name))
-  kept-remove d p table name l leaf among named s = by-before past (move_facts w p d name (leaves_leaf l name (hands past d name))) so kept.0
+      → place_of name (table_names (history_in past d)) ≡ Some table → IsSource past d p → MoveKept past p d (in_hand d name) (leaves_leaf l name (hands past d name))
+  kept-remove d p table name l leaf among named s = by-before past (move_facts w p d (in_hand d name) (leaves_leaf l name (hands past d name))) so kept.0
     where
       lets : List NodeCall
-      lets = lets_go_for (hands past d name)
+      lets = lets_go_for (copy_in_hand past d name)
 
       parts : List NodeCall
       parts = parts_for (Some (of_leaf l)) (option_map LeafTable.state (table_of name l))
@@ -245,49 +285,50 @@ module _ (past : Past) (kept : AllKept past) where
           history-called q d (removing name) ∙ ap (λ g. marked g (call_marks g (removing name))) same
           ∙ ap (marked h) (removing-marks h name table (ap (λ n. is_among name (leaf_tables n)) leaf ∙ among) named)
 
-      so : AllLegal past → Keeps each_table past → MoveKept past p d name (leaves_leaf l name (hands past d name))
+      so : AllLegal past → Keeps each_table past → MoveKept past p d (in_hand d name) (leaves_leaf l name (hands past d name))
       so legal k =
           let there : place_of name (table_names (history_in q d)) ≡ Some table = ap (λ g. place_of name (table_names g)) same ∙ named in
-          move-kept past p d name (leaves_leaf l name (hands past d name))
+          move-kept past p d (in_hand d name) (leaves_leaf l name (hands past d name))
           (puts-down d name (called q d (removing name))
           (λ _. subst (λ g. Uncopied g name) (sym now-is) (uncopied-removed h (legal d) name table named (copy_txid table (copies h)) refl))
           (own-marks q d name table (call_marks (history_in q d) (removing name)) there (own-call (history_in q d) name table (removing name) there refl)
           (subst (Kept (other_than d name)) (sym (after-append past p lets parts))
-          (kept-parts (after_calls past p lets) d p name (Some (of_leaf l)) (option_map LeafTable.state (table_of name l)) (kept-lets d p name (hands past d name) legal k refl s)))))
+          (kept-parts (after_calls past p lets) d p name (Some (of_leaf l)) (option_map LeafTable.state (table_of name l)) (kept-lets d p name (copy_in_hand past d name) legal k refl s)))))
 
   -- a copy that is given up
-  kept-gives-up : (d p : ℕ) (name : List ℕ) (hand : Option CopyHand) → hands past d name ≡ hand → IsSource past d p → AllLegal past → Keeps each_table past → MoveKept past p d name (restarting name hand)
+  kept-gives-up : (d p : ℕ) (name : List ℕ) (hand : Option CopyHand) → copy_in_hand past d name ≡ hand → IsSource past d p → AllLegal past → Keeps each_table past
+      → Kept each_table (in_hand d name None ∷ called (after_calls past p (lets_go_for hand)) d (giving_up_copy name))
   kept-gives-up d p name None has s legal k =
-      move-kept past p d name (restarting name None)
-      (subst (λ q. Kept each_table (in_hand d name None ∷ q)) (sym (nothing-given_up past d name (idle-hand past d name k has))) (fits-step each_table past (in_hand d name None) has kept.0))
+      subst (λ q. Kept each_table (in_hand d name None ∷ q)) (sym (nothing-given_up past d name (idle-hand past d name k has))) (fits-step each_table past (in_hand d name None) has kept.0)
   kept-gives-up d p name (Some hand) has s legal k =
       let c : Copying past d name hand = k.copying d name hand refl has in
       let q : Past = called past p (letting_go hand.hold) in
       let there : place_of name (table_names (history_in q d)) ≡ Some c.table = ap (λ g. place_of name (table_names g)) (history-elsewhere past p (letting_go hand.hold) d s.other) ∙ c.here.named in
-      move-kept past p d name (restarting name (Some hand))
-      (puts-down d name (called q d (giving_up_copy name)) (λ _. uncopied-given_up past d p name (Some hand) has (legal d) s.other k)
+      puts-down d name (called q d (giving_up_copy name)) (λ _. uncopied-given_up past d p name (Some hand) has (legal d) s.other k)
       (own-marks q d name c.table (call_marks (history_in q d) (giving_up_copy name)) there (own-call (history_in q d) name c.table (giving_up_copy name) there refl)
-      (kept-lets d p name (Some hand) legal k has s)))
+      (kept-lets d p name (Some hand) legal k has s))
 
-  kept-restart : (d p : ℕ) (name : List ℕ) → IsSource past d p → MoveKept past p d name (restarting name (hands past d name))
-  kept-restart d p name s = by-before past (move_facts w p d name (restarting name (hands past d name))) (kept-gives-up d p name (hands past d name) refl s) kept.0
+  kept-restart : (d p : ℕ) (name : List ℕ) → IsSource past d p → MoveKept past p d (in_hand d name) (restarting name (hands past d name))
+  kept-restart d p name s =
+      by-before past (move_facts w p d (in_hand d name) (restarting name (hands past d name)))
+      (λ legal k. move-kept past p d (in_hand d name) (restarting name (hands past d name)) (kept-gives-up d p name (copy_in_hand past d name) refl s legal k)) kept.0
 
   -- the worker's hold ends
   parts-other : (n : Option Node) (o : Option TableState) → AreOther (parts_for n o)
   parts-other n None = tt
   parts-other n (Some state) = by_test (λ b. AreOther (if b then parting (copy_consumer n) ∷ [] else [])) (is_on_way state) (λ _. (tt, tt)) (λ _. tt)
 
-  held-remove : (d p : ℕ) (name : List ℕ) (l : Leaf) → IsSource past d p → MoveHeld past p d name (leaves_leaf l name (hands past d name))
+  held-remove : (d p : ℕ) (name : List ℕ) (l : Leaf) → IsSource past d p → MoveHeld past p d (in_hand d name) (leaves_leaf l name (hands past d name))
   held-remove d p name l s =
-      let lets : List NodeCall = lets_go_for (hands past d name) in
+      let lets : List NodeCall = lets_go_for (copy_in_hand past d name) in
       let parts : List NodeCall = parts_for (Some (of_leaf l)) (option_map LeafTable.state (table_of name l)) in
-      move-held past p d name (leaves_leaf l name (hands past d name))
+      move-held past p d (in_hand d name) (leaves_leaf l name (hands past d name))
       (subst (λ q. AllHeld (in_hand d name None ∷ called q d (removing name))) (sym (after-append past p lets parts))
-      (down-held past d p name (hands past d name) parts (removing name ∷ []) (parts-other (Some (of_leaf l)) (option_map LeafTable.state (table_of name l))) (tt, tt) refl s.from kept.1))
+      (down-held past d p name (copy_in_hand past d name) parts (removing name ∷ []) (parts-other (Some (of_leaf l)) (option_map LeafTable.state (table_of name l))) (tt, tt) refl s.from kept.1))
 
-  held-restart : (d p : ℕ) (name : List ℕ) → IsSource past d p → MoveHeld past p d name (restarting name (hands past d name))
+  held-restart : (d p : ℕ) (name : List ℕ) → IsSource past d p → MoveHeld past p d (in_hand d name) (restarting name (hands past d name))
   held-restart d p name s =
-      move-held past p d name (restarting name (hands past d name)) (down-held past d p name (hands past d name) [] (giving_up_copy name ∷ []) tt (tt, tt) refl s.from kept.1)
+      move-held past p d (in_hand d name) (restarting name (hands past d name)) (down-held past d p name (copy_in_hand past d name) [] (giving_up_copy name ∷ []) tt (tt, tt) refl s.from kept.1)
 
   kept-removes : (d table : ℕ) (name : List ℕ) (n : Node) → (w.database d).node ≡ Some n → is_among name (tables_of n) ≡ true → place_of name (w.database d).part.tables ≡ Some table
       → KeptIfOk (removes_from w d table name n)
@@ -300,40 +341,68 @@ module _ (past : Past) (kept : AllKept past) where
   kept-state name table (of_root r) = tt
   kept-state name table (of_leaf l) = if-found (table_of table l) (NotInSet table) _ (λ t _. kept)
 
-  kept-restarts : (name : List ℕ) (n : Node) → KeptIfOk (restarts name n)
-  kept-restarts name (of_root r) = tt
-  kept-restarts name (of_leaf l) = kept
+  kept-restarts : (d : ℕ) (name : List ℕ) (n : Node) → KeptIfOk (restarts d name n)
+  kept-restarts d name (of_root r) = tt
+  kept-restarts d name (of_leaf l) = all-step past (batch_in_hand d None) tt kept
 
-  -- no copy runs of a table that is to be copied
-  quiet-moves : (d : ℕ) (name : List ℕ) → AllLegal past → Keeps each_table past → Gives AnyReply is_quiet (node_does (w.database d) (moving name InCopy))
-  quiet-moves d name legal k =
-      by_test (λ b. may_move name InCopy (node h) ≡ b → Gives AnyReply is_quiet (if b then call_form (database_of h) (moving name InCopy) else answers Null)) (may_move name InCopy (node h))
-      (λ _ may. moves may (place_of name (table_names h)) refl) (λ _ _. (tt, tt)) refl
-    where
-      h : History
-      h = history_in past d
-
-      idle : may_move name InCopy (node h) ≡ true → (hand : Option CopyHand) → hands past d name ≡ hand → hand ≡ None
-      idle may None has = refl
-      idle may (Some hand) has = absurd (cc (sym (k.copying d name hand refl has).here.may ∙ not-again name (node h) may))
-
-      moves : may_move name InCopy (node h) ≡ true → (o : Option ℕ) → place_of name (table_names h) ≡ o → Gives AnyReply is_quiet (if_there o (λ n. moves_table (database_of h) n name InCopy))
-      moves may None there = (tt, tt)
-      moves may (Some n) there =
-          subst (λ t. Gives AnyReply is_quiet (does_marks Done (given_up n name t ++ noded (state_set name InCopy) ∷ [])))
-          (sym (uncopied-txid h name (idle-hand past d name k (idle may (hands past d name) refl)) n there)) (tt, tt)
-
-  kept-next : (d : ℕ) (o : Option (List ℕ)) → KeptIfOk (starts_next w d o)
-  kept-next d None = kept
-  kept-next d (Some table) = kept-before d (TableMoved table InCopy) (node_does (w.database d) (moving table InCopy)) (quiet-moves d table)
+  -- a move of a leaf's worker
+  kept-replay : (p d : ℕ) (c : Checked (Move BatchHand)) → QuietIfOk c → KeptIfOk (moves w p d (batch_in_hand d) c)
+  kept-replay p d (Ok move) quiet = quiet-move past p d (batch_in_hand d) move quiet tt kept
+  kept-replay p d (Err refusal) quiet = tt
 
   kept-steps : (d : ℕ) (name : List ℕ) (n : Node) → KeptIfOk (leaf_steps w d name n)
   kept-steps d name (of_root r) = tt
-  kept-steps d name (of_leaf l) = kept-next d (next_to_copy l)
+  kept-steps d name (of_leaf l) =
+      if-checked (providers_database w l) _ (λ p _. kept-replay p d (replay_move (w.database p) (w.database d) l (w.batches d)) (quiet-replay (w.database p) (w.database d) l (w.batches d)))
 
-  kept-moves : (p d : ℕ) (table : List ℕ) (c : Checked CopyMove) → IfOk c (λ move. MoveKept past p d table move) → IfOk c (λ move. MoveHeld past p d table move) → KeptIfOk (moves w p d table c)
-  kept-moves p d table (Ok move) holds also = (holds, also)
-  kept-moves p d table (Err refusal) holds also = tt
+  -- one of a table's worker: it copies, or goes through batches, or waits
+  kept-copies : (p d : ℕ) (name : List ℕ) (c : Checked (Move CopyHand)) → IfOk c (λ move. MoveKept past p d (copy_handed d name) move) → IfOk c (λ move. MoveHeld past p d (copy_handed d name) move)
+      → KeptIfOk (moves w p d (in_hand d name) (handing of_copy c))
+  kept-copies p d name (Ok move) holds also = (holds, also)
+  kept-copies p d name (Err refusal) holds also = tt
+
+  kept-batches : (p d : ℕ) (name : List ℕ) (c : Checked (Move BatchHand)) → QuietIfOk c → may_copy name (node (history_in past d)) ≡ false → KeptIfOk (moves w p d (in_hand d name) (handing of_batch c))
+  kept-batches p d name (Ok move) quiet isnt =
+      all-before past (move_facts w p d (λ batch. in_hand d name (option_map of_batch batch)) move)
+      (λ legal k. quiet-move past p d (λ batch. in_hand d name (option_map of_batch batch)) move quiet
+      (ap (λ f. copy_in (f d name)) (hands-calls (after_calls past p move.provider) d move.replica ∙ hands-calls past p move.provider) ∙ no-copy past d name k isnt ∙ sym (no-copy-in move.hand)) kept) kept
+  kept-batches p d name (Err refusal) quiet isnt = tt
+
+  kept-table : (p d : ℕ) (name : List ℕ) → IsAlike past d p name → KeptIfOk (moves w p d (in_hand d name) (copy_move (w.database p) (w.database d) name (w.hands d name)))
+  kept-table p d name alike = of (table_at name (node (history_in past d))) refl
+    where
+      prints : AllKept (in_hand d name (hands past d name) ∷ past)
+      prints = all-step past (in_hand d name (hands past d name)) refl kept
+
+      copied-or : (t : LeafTable) (c : Checked (Move BatchHand)) → KeptIfOk (moves w p d (in_hand d name) (handing of_batch c)) → KeptIfOk (moves w p d (in_hand d name) (if_copied t (w.hands d name) c))
+      copied-or t c so = of (is_some t.snapshot)
+        where
+          of : (b : Bool) → KeptIfOk (moves w p d (in_hand d name) (if b then handing of_batch c else only_prints (AwaitsTable t.name) (w.hands d name)))
+          of true = so
+          of false = prints
+
+      in-state : (t : LeafTable) → table_at name (node (history_in past d)) ≡ Some t → (state : TableState) → t.state ≡ state
+          → KeptIfOk (moves w p d (in_hand d name) (moves_in state (w.database p) (w.database d) t (w.hands d name)))
+      in-state t there InCopy is =
+          let may : may_copy name (node (history_in past d)) ≡ true = may-as name (node (history_in past d)) t there ∙ ap is_in_copy is in
+          subst (λ x. KeptIfOk (moves w p d (in_hand d name) (handing of_copy (goes_on (w.database p) (w.database d) x (copy_in_hand past d name) (copy_running (w.database d) x)))))
+          (sym (table-named name (node (history_in past d)) t there))
+          (kept-copies p d name (goes_on (w.database p) (w.database d) name (copy_in_hand past d name) (copy_running (w.database d) name)) (copy-kept past d p name kept.0 alike may)
+          (copy-held past d p name kept.0 kept.1 alike may))
+      in-state t there CatchingUp is =
+          copied-or t _
+          (kept-batches p d name (with_batch (w.database p) (w.database d) t (batch_in (hands past d name)) (catches_up (w.database p) (w.database d) t))
+          (quiet-catches_up (w.database p) (w.database d) t (batch_in (hands past d name))) (may-as name (node (history_in past d)) t there ∙ ap is_in_copy is))
+      in-state t there (DoSync tick) is =
+          copied-or t _
+          (kept-batches p d name (with_batch (w.database p) (w.database d) t (batch_in (hands past d name)) (hands_over (w.database p) (w.database d) tick t))
+          (quiet-hands_over (w.database p) (w.database d) tick t (batch_in (hands past d name))) (may-as name (node (history_in past d)) t there ∙ ap is_in_copy is))
+      in-state t there Synced is = prints
+      in-state t there state is = prints
+
+      of : (o : Option LeafTable) → table_at name (node (history_in past d)) ≡ o → KeptIfOk (moves w p d (in_hand d name) (table_move (w.database p) (w.database d) name o (w.hands d name)))
+      of None there = prints
+      of (Some t) there = in-state t there t.state refl
 
   kept-form : (d : ℕ) (s : NodeStmt) → KeptIfOk (node_form w d s)
   kept-form d (CreateLeaf name provider) = kept-create_leaf d name provider
@@ -352,9 +421,8 @@ module _ (past : Past) (kept : AllKept past) where
       if-checked (leaf_table name table n.node) _ (λ l leaf.
       if-checked (source_alike w n.database l table) _ (λ p alike.
       let both : IsAlike past n.database p table = alike-is past n.database p l table (called-there w name n found ∙ ap Some (leaf-is name table n.node l leaf)) alike in
-      kept-moves p n.database table (copy_move (w.database p) (w.database n.database) table (w.hands n.database table)) (copy-kept past n.database p table kept.0 both)
-      (copy-held past n.database p table kept.0 kept.1 both))))
-  kept-form d (Restart name) = if-found (node_called w name) (NoNode name) _ (λ n _. kept-restarts name n.node)
+      kept-table p n.database table both)))
+  kept-form d (Restart name) = if-found (node_called w name) (NoNode name) _ (λ n _. kept-restarts n.database name n.node)
   kept-form d (RestartTable name table) =
       if-found (node_called w name) (NoNode name) _ (λ n found.
       if-checked (leaf_table name table n.node) _ (λ l leaf.

@@ -7,10 +7,8 @@ use Rattle.sky_val.specs.Entries.{Entries, is_in_order}
 use Rattle.sky_names.specs.Places.{place_of}
 use Rattle.sky_txid.specs.Ids.{contains}
 use Rattle.sky_txid.specs.Snapshot.{SnapshotView}
-use Rattle.londiste_state.specs.declared.state.TableState.{TableState}
-use Rattle.londiste_state.specs.declared.state.TableState.TheVariants.{Absent, InCopy, CatchingUp, Synced}
-use Rattle.londiste_state.specs.Nodes.{Node, of_root, of_leaf, LeafTable, table_of}
-use Rattle.sky_model.specs.declared.reply.Reply.TheVariants.{Done, Null, TableMoved, RowsCopied, AwaitsTable, Idle}
+use Rattle.londiste_state.specs.declared.state.TableState.TheVariants.{CatchingUp}
+use Rattle.sky_model.specs.declared.reply.Reply.TheVariants.{Done, Null, TableMoved, RowsCopied, AwaitsTable}
 use Rattle.sky_model.specs.declared.reply.Refusal.TheVariants.{IdsSpent, TooMany, TxidsSpent}
 use Rattle.sky_model.specs.declared.reply.Limit.TheVariants.{Consumers}
 use Rattle.sky_model.specs.History.{Mark, of_copy, began, queued, registered, unregistered, opened, closed, NodeMark, noded, joined, parted, hold_begun, hold_ended, History, within, Past}
@@ -26,11 +24,12 @@ use Rattle.sky_model.specs.ShownRows.{snapshot_now}
 use Rattle.sky_model.specs.Outcome.{Checked, ◌>>=◌, ◌>>◌, refused_if, answers, does_marks, marks_of}
 use Rattle.sky_model.specs.StepCopy.{copy_writes, deletions, rows_now}
 use Rattle.sky_model.specs.StepConsumer.{sub_ids_spent}
-use Rattle.sky_model.specs.StepNode.{NodeCall, joining, parting, holding, letting_go, beginning_copy, copying_rows, ending_copy, is_full, is_in_copy, may_copy, node_does}
-use Rattle.sky_model.specs.CopyMoves.{CopyMove, newest_of, piece_size, held_snapshot, rows_from, rows_of, last_key, copies_piece, next_piece, behind_calls, copy_consumer, first_hand, starts_copy, copy_running, under_way, continues, goes_on, leaf_state, moves_in, copy_move}
+use Rattle.sky_model.specs.StepNode.{NodeCall, joining, parting, holding, letting_go, beginning_copy, copying_rows, ending_copy, is_full, may_copy, node_does}
+use Rattle.sky_model.specs.WorkerMoves.{Move, behind_calls}
+use Rattle.sky_model.specs.CopyMoves.{newest_of, piece_size, held_snapshot, rows_from, rows_of, last_key, copies_piece, next_piece, copy_consumer, first_hand, starts_copy, copy_running, under_way, continues, goes_on}
 use Rattle.sky_model.specs.WorkersOfWorld.{move_facts}
 use Rattle.sky_model.specs.Settling.{marked}
-use Rattle.sky_model.specs.World.{world_of, history_in, hands, on_top}
+use Rattle.sky_model.specs.World.{world_of, history_in, on_top}
 use Rattle.sky_model.proofs.Histories.{AllLegal}
 use Rattle.sky_model.proofs.Good.{same-session}
 use Rattle.sky_model.proofs.LeastNumbers.{least-free}
@@ -39,7 +38,7 @@ use Rattle.sky_model.proofs.Legal.{queue_of_set}
 use Rattle.sky_model.proofs.NodeReadings.{set-number, is_change, same-node}
 use Rattle.sky_model.proofs.StatementMarks.{EachMark, each-given, each-rest, when-true, Gives, AnyReply}
 use Rattle.sky_model.proofs.Cases.{by_test, by_same}
-use Rattle.sky_replicas.specs.LawsOfReplicas.{let_go_if, CopyBegan}
+use Rattle.sky_replicas.specs.LawsOfReplicas.{let_go_if, CopyBegan, copy_in_hand}
 use Rattle.sky_replicas.proofs.Pieces.{last_key-append, all-taken}
 use Rattle.sky_replicas.proofs.FittingRows.{AllFit, fit-front, fit-back}
 use Rattle.sky_replicas.proofs.HeldRows.{piece-is, held-fit, rows-in-order}
@@ -48,7 +47,7 @@ use Rattle.sky_replicas.proofs.Copying.{Holds, held_at}
 use Rattle.sky_replicas.proofs.Keeping.{began-under, Copying, Keeps, Kept, is_quiet}
 use Rattle.sky_replicas.proofs.Others.{each_table, other_than, by-before, legal-under, fewer, Free, own-free, KeptFree, is_own, own-marks, own-marks-free, quiet-marks, begins-hold}
 use Rattle.sky_replicas.proofs.CallPasts.{call_marks, called, history-called, history-elsewhere, quiet-consumer, lets-go, own-call, beginning-marks}
-use Rattle.sky_replicas.proofs.CopySteps.{StillFrom, still-marks, MoveKept, move-kept, prints-kept, AtCopy, at-copy, Begins, begins, Source, ends, goes}
+use Rattle.sky_replicas.proofs.CopySteps.{StillFrom, still-marks, copy_handed, MoveKept, move-kept, prints-kept, AtCopy, at-copy, Begins, begins, Source, ends, goes}
 
 -- the first rows of some, and the others
 record Cut (n : ℕ) (es : Entries (List Val)) : Type 0 where
@@ -62,7 +61,7 @@ cut : (n : ℕ) (es : Entries (List Val)) → Cut n es
 cut n es = record { piece = take n es; others = drop n es; is = sym (take-append-drop n es); taken = refl; all = all-taken n es }
 
 -- the two ends of a piece
-abbrev pub last_move : List ℕ → SnapshotView → CopyHand → Entries (List Val) → CopyMove
+abbrev pub last_move : List ℕ → SnapshotView → CopyHand → Entries (List Val) → Move CopyHand
 last_move name under hand piece = record {
   provider = letting_go hand.hold ∷ [];
   replica = copying_rows name (rows_of piece) ∷ ending_copy name under hand.tick ∷ [];
@@ -70,7 +69,7 @@ last_move name under hand piece = record {
   hand = None;
 }
 
-abbrev pub next_move : List ℕ → CopyHand → Entries (List Val) → CopyMove
+abbrev pub next_move : List ℕ → CopyHand → Entries (List Val) → Move CopyHand
 next_move name hand piece = record {
   provider = [];
   replica = copying_rows name (rows_of piece) ∷ [];
@@ -85,7 +84,7 @@ still-called past e call d p from after =
 
 -- ---- a copy that is in hand goes on
 
-module _ (past : Past) (d p : ℕ) (name : List ℕ) (hand : CopyHand) (under : SnapshotView) (legal : AllLegal past) (k : Keeps each_table past) (has : hands past d name ≡ Some hand)
+module _ (past : Past) (d p : ℕ) (name : List ℕ) (hand : CopyHand) (under : SnapshotView) (legal : AllLegal past) (k : Keeps each_table past) (has : copy_in_hand past d name ≡ Some hand)
     (alike : IsAlike past d p name) (may : may_copy name (node (history_in past d)) ≡ true) (is_held : held_snapshot (database_of (history_in past p)) hand.hold ≡ Some under) where
   abbrev c : Copying past d name hand
   c = k.copying d name hand refl has
@@ -126,9 +125,9 @@ module _ (past : Past) (d p : ℕ) (name : List ℕ) (hand : CopyHand) (under : 
   free : KeptFree p d name hand.hold past
   free l = (fewer d name past k l, own-free past p d name hand k has alike.source.from)
 
-  continue-piece : (piece others : Entries (List Val)) → c.rest ≡ piece ++ others → (nat_lt (length piece) piece_size ≡ true → others ≡ []) → MoveKept past p d name (copies_piece name under hand piece)
+  continue-piece : (piece others : Entries (List Val)) → c.rest ≡ piece ++ others → (nat_lt (length piece) piece_size ≡ true → others ≡ []) → MoveKept past p d (copy_handed d name) (copies_piece name under hand piece)
   continue-piece piece others cut_is all =
-      by_test (λ b. nat_lt (length piece) piece_size ≡ b → MoveKept past p d name (if b then last_move name under hand piece else next_move name hand piece)) (nat_lt (length piece) piece_size)
+      by_test (λ b. nat_lt (length piece) piece_size ≡ b → MoveKept past p d (copy_handed d name) (if b then last_move name under hand piece else next_move name hand piece)) (nat_lt (length piece) piece_size)
       (λ _ less. last-piece (all less)) (λ _ _. next-piece) refl
     where
       rows-are : rows c.source held ≡ c.made ++ (piece ++ others)
@@ -150,9 +149,9 @@ module _ (past : Past) (d p : ℕ) (name : List ℕ) (hand : CopyHand) (under : 
       still-here : history_in past d ≡ history_in first d
       still-here = sym (history-elsewhere past p (letting_go hand.hold) d alike.source.other)
 
-      last-piece : others ≡ [] → MoveKept past p d name (last_move name under hand piece)
+      last-piece : others ≡ [] → MoveKept past p d (copy_handed d name) (last_move name under hand piece)
       last-piece none =
-          move-kept past p d name (last_move name under hand piece)
+          move-kept past p d (copy_handed d name) (last_move name under hand piece)
           (ends first d p name c.table c.t hand.hold false c.made piece c.before c.source under hand.tick
           (subst (λ g. AtCopy g name c.table c.t c.made) still-here at) (subst (λ g. AllFit (columns_of c.table g) piece) still-here fits)
           (subst (λ x. is_in_order (c.made ++ (piece ++ x)) ≡ true) none order)
@@ -160,16 +159,16 @@ module _ (past : Past) (d p : ℕ) (name : List ℕ) (hand : CopyHand) (under : 
           (sym under-is) (rows-are ∙ ap (λ x. c.made ++ x) (ap (λ x. piece ++ x) none ∙ append-nil piece))
           (still-called past p (letting_go hand.hold) d p (λ _. record { all = k.all_noded; from = alike.source.from })) (lets-go p d name hand.hold past free))
 
-      next-piece : MoveKept past p d name (next_move name hand piece)
+      next-piece : MoveKept past p d (copy_handed d name) (next_move name hand piece)
       next-piece =
-          move-kept past p d name (next_move name hand piece)
+          move-kept past p d (copy_handed d name) (next_move name hand piece)
           (goes past d p name c.table c.t c.made piece others c.before c.source (record hand { last = last_key hand.last piece }) alike.source.other at fits order there source rows-are
           (ap (λ o. last_key o piece) c.last ∙ sym (last_key-append None c.made piece)) (λ _. record { all = k.all_noded; from = alike.source.from }) free)
 
-  pub continue-kept : MoveKept past p d name (next_piece (database_of (history_in past p)) name under hand)
+  pub continue-kept : MoveKept past p d (copy_handed d name) (next_piece (database_of (history_in past p)) name under hand)
   continue-kept =
       let x : Cut piece_size c.rest = cut piece_size c.rest in
-      subst (λ rs. MoveKept past p d name (copies_piece name under hand rs))
+      subst (λ rs. MoveKept past p d (copy_handed d name) (copies_piece name under hand rs))
       (sym (ap (λ s. rows_from (database_of (history_in past p)) name s hand.last piece_size) under-is
       ∙ piece-is (history_in past p) (legal p) there.later held there.place name c.source source.named c.made c.rest rows-held hand.last c.last piece_size ∙ x.taken))
       (continue-piece x.piece x.others x.is x.all)
@@ -356,10 +355,10 @@ module _ (past : Past) (d p : ℕ) (name consumer : List ℕ) (legal : AllLegal 
   all-fit = subst (λ cs. AllFit cs (rows alike.number (history_in past p))) (sym alike.columns) (held-fit (history_in past p) (legal p) [] (history_in past p) refl name alike.number alike.there).1
 
   begin-piece : (piece others : Entries (List Val)) → rows alike.number (history_in past p) ≡ piece ++ others → (nat_lt (length piece) piece_size ≡ true → others ≡ [])
-      → MoveKept past p d name (behind_calls (parting consumer ∷ joining consumer ∷ holding ∷ []) (beginning_copy name ∷ []) (copies_piece name (snapshot (history_in past p)) hand piece))
+      → MoveKept past p d (copy_handed d name) (behind_calls (parting consumer ∷ joining consumer ∷ holding ∷ []) (beginning_copy name ∷ []) (copies_piece name (snapshot (history_in past p)) hand piece))
   begin-piece piece others rows-are all =
       by_test (λ b. nat_lt (length piece) piece_size ≡ b
-      → MoveKept past p d name (behind_calls (parting consumer ∷ joining consumer ∷ holding ∷ []) (beginning_copy name ∷ []) (if b then last_move name under hand piece else next_move name hand piece)))
+      → MoveKept past p d (copy_handed d name) (behind_calls (parting consumer ∷ joining consumer ∷ holding ∷ []) (beginning_copy name ∷ []) (if b then last_move name under hand piece else next_move name hand piece)))
       (nat_lt (length piece) piece_size) (λ _ less. last-piece (all less)) (λ _ _. next-piece) refl
     where
       under : SnapshotView
@@ -374,9 +373,9 @@ module _ (past : Past) (d p : ℕ) (name consumer : List ℕ) (legal : AllLegal 
       own : (g : History) → place_of name (table_names g) ≡ Some alike.table → EachMark (is_own name alike.table) (call_marks g (beginning_copy name))
       own g at = own-call g name alike.table (beginning_copy name) at refl
 
-      last-piece : others ≡ [] → MoveKept past p d name (behind_calls (parting consumer ∷ joining consumer ∷ holding ∷ []) (beginning_copy name ∷ []) (last_move name under hand piece))
+      last-piece : others ≡ [] → MoveKept past p d (copy_handed d name) (behind_calls (parting consumer ∷ joining consumer ∷ holding ∷ []) (beginning_copy name ∷ []) (last_move name under hand piece))
       last-piece no_more =
-          move-kept past p d name (behind_calls (parting consumer ∷ joining consumer ∷ holding ∷ []) (beginning_copy name ∷ []) (last_move name under hand piece))
+          move-kept past p d (copy_handed d name) (behind_calls (parting consumer ∷ joining consumer ∷ holding ∷ []) (beginning_copy name ∷ []) (last_move name under hand piece))
           (ends fifth d p name alike.table t hand.hold true [] piece second alike.number under hand.tick start.at
           (subst (λ cs. AllFit cs piece) (sym start.columns) fits) (subst (λ x. is_in_order (piece ++ x) ≡ true) no_more order)
           (record { copy_began = began-at fourth true fourth-d (let-go ∙ ap (λ q. within p (noded (hold_ended hand.hold)) ∷ q) third-is); named = named-held; newest = as-read.newest_is })
@@ -400,9 +399,9 @@ module _ (past : Past) (d p : ℕ) (name consumer : List ℕ) (legal : AllLegal 
               let at : place_of name (table_names (history_in fourth d)) ≡ Some alike.table = ap (λ g. place_of name (table_names g)) fourth-d ∙ alike.here in
               own-marks fourth d name alike.table (call_marks (history_in fourth d) (beginning_copy name)) at (own (history_in fourth d) at) (lets-go p d name hand.hold third free-third)
 
-      next-piece : MoveKept past p d name (behind_calls (parting consumer ∷ joining consumer ∷ holding ∷ []) (beginning_copy name ∷ []) (next_move name hand piece))
+      next-piece : MoveKept past p d (copy_handed d name) (behind_calls (parting consumer ∷ joining consumer ∷ holding ∷ []) (beginning_copy name ∷ []) (next_move name hand piece))
       next-piece =
-          move-kept past p d name (behind_calls (parting consumer ∷ joining consumer ∷ holding ∷ []) (beginning_copy name ∷ []) (next_move name hand piece))
+          move-kept past p d (copy_handed d name) (behind_calls (parting consumer ∷ joining consumer ∷ holding ∷ []) (beginning_copy name ∷ []) (next_move name hand piece))
           (goes fourth d p name alike.table t [] piece others second alike.number (record hand { last = last_key hand.last piece }) alike.source.other start.at
           (subst (λ cs. AllFit cs piece) (sym start.columns) fits) order
           (subst (λ g. Holds g hand.hold taken_at) (sym (history-elsewhere third d (beginning_copy name) p apart)) held-there)
@@ -420,19 +419,19 @@ module _ (past : Past) (d p : ℕ) (name consumer : List ℕ) (legal : AllLegal 
               let at : place_of name (table_names (history_in third d)) ≡ Some alike.table = ap (λ g. place_of name (table_names g)) third-d ∙ alike.here in
               own-marks-free p hand.hold third d name alike.table (call_marks (history_in third d) (beginning_copy name)) at (own (history_in third d) at) free-third
 
-  pub begin-kept : MoveKept past p d name (behind_calls (parting consumer ∷ joining consumer ∷ holding ∷ []) (beginning_copy name ∷ [])
+  pub begin-kept : MoveKept past p d (copy_handed d name) (behind_calls (parting consumer ∷ joining consumer ∷ holding ∷ []) (beginning_copy name ∷ [])
       (next_piece (database_of (history_in past p)) name (snapshot_now (part_of (history_in past p))) (first_hand (database_of (history_in past p)))))
   begin-kept =
       let x : Cut piece_size (rows alike.number (history_in past p)) = cut piece_size (rows alike.number (history_in past p)) in
-      subst (λ rs. MoveKept past p d name (behind_calls (parting consumer ∷ joining consumer ∷ holding ∷ []) (beginning_copy name ∷ []) (copies_piece name (snapshot (history_in past p)) hand rs)))
+      subst (λ rs. MoveKept past p d (copy_handed d name) (behind_calls (parting consumer ∷ joining consumer ∷ holding ∷ []) (beginning_copy name ∷ []) (copies_piece name (snapshot (history_in past p)) hand rs)))
       (sym (piece-is (history_in past p) (legal p) [] (history_in past p) refl name alike.number alike.there [] (rows alike.number (history_in past p)) refl None refl piece_size ∙ x.taken))
       (begin-piece x.piece x.others x.is x.all)
 
 -- ---- the statement
 
 -- what is kept if it isn't refused
-abbrev IfKept : Past → (p d : ℕ) → List ℕ → Checked CopyMove → Type 0
-IfKept past p d name c = IfOk c (λ move. MoveKept past p d name move)
+abbrev IfKept : Past → (p d : ℕ) → List ℕ → Checked (Move CopyHand) → Type 0
+IfKept past p d name c = IfOk c (λ move. MoveKept past p d (copy_handed d name) move)
 
 -- what may be assumed of a past in which a move is made
 abbrev Assumed : Past → Type 0
@@ -449,7 +448,7 @@ starts-kept past d p name assumed alike may none =
     consumer : List ℕ
     consumer = copy_consumer (node (history_in past d))
 
-    move : CopyMove
+    move : Move CopyHand
     move = behind_calls (parting consumer ∷ joining consumer ∷ holding ∷ []) (beginning_copy name ∷ []) (next_piece there name (snapshot_now (part_of (history_in past p))) (first_hand there))
 
     of : (full spent last : Bool) → nat_le (2 ^ 62) (next_txid (history_in past d)) ≡ last
@@ -457,47 +456,32 @@ starts-kept past d p name assumed alike may none =
     of true spent last is = tt
     of false true last is = tt
     of false false true is = tt
-    of false false false is = assumed (move_facts (world_of past) p d name move) (λ legal k. begin-kept past d p name consumer legal k alike may none is)
+    of false false false is = assumed (move_facts (world_of past) p d (copy_handed d name) move) (λ legal k. begin-kept past d p name consumer legal k alike may none is)
 
 -- a table that is to be copied
-pub to-copy : (name : List ℕ) (n : Option Node) → leaf_state name n ≡ InCopy → may_copy name n ≡ true
-to-copy name None e = absurd (cc e)
-to-copy name (Some (of_root r)) e = absurd (cc e)
-to-copy name (Some (of_leaf l)) e = of (table_of name l) e
-  where
-    of : (o : Option LeafTable) → unwrap_or (option_map LeafTable.state o) Absent ≡ InCopy → unwrap_or (option_map (λ t. is_in_copy t.state) o) false ≡ true
-    of None e = absurd (cc e)
-    of (Some t) e = ap is_in_copy e
-
-pub copy-kept : (past : Past) (d p : ℕ) (name : List ℕ) → Kept each_table past → IsAlike past d p name
-    → IfKept past p d name (copy_move (database_of (history_in past p)) (database_of (history_in past d)) name (hands past d name))
-copy-kept past d p name kept alike = in-state (leaf_state name (node (history_in past d))) refl
+pub copy-kept : (past : Past) (d p : ℕ) (name : List ℕ) → Kept each_table past → IsAlike past d p name → may_copy name (node (history_in past d)) ≡ true
+    → IfKept past p d name (goes_on (database_of (history_in past p)) (database_of (history_in past d)) name (copy_in_hand past d name) (copy_running (database_of (history_in past d)) name))
+copy-kept past d p name kept alike may = running may (copy_running (database_of (history_in past d)) name) refl
   where
     assumed : Assumed past
     assumed facts so = by-before past facts so kept
 
-    going : (hand : Option CopyHand) → hands past d name ≡ hand → may_copy name (node (history_in past d)) ≡ true
+    going : (hand : Option CopyHand) → copy_in_hand past d name ≡ hand → may_copy name (node (history_in past d)) ≡ true
         → (o : Option (CopyHand × SnapshotView)) → under_way (database_of (history_in past p)) hand ≡ o → IfKept past p d name (continues (database_of (history_in past p)) name hand o)
     going hand has may None way = prints-kept past p d name (AwaitsTable name) hand has kept
     going None has may (Some x) way = absurd (cc way)
     going (Some hand) has may (Some x) way = held (held_snapshot (database_of (history_in past p)) hand.hold) refl way
       where
         held : (o : Option SnapshotView) → held_snapshot (database_of (history_in past p)) hand.hold ≡ o → option_map (λ snapshot. (hand, snapshot)) o ≡ Some x
-            → MoveKept past p d name (next_piece (database_of (history_in past p)) name x.1 x.0)
+            → MoveKept past p d (copy_handed d name) (next_piece (database_of (history_in past p)) name x.1 x.0)
         held None is e = absurd (cc e)
         held (Some under) is e =
             let one : (hand, under) ≡ x = cc e in
-            subst (λ (y : CopyHand × SnapshotView). MoveKept past p d name (next_piece (database_of (history_in past p)) name y.1 y.0)) one
-            (assumed (move_facts (world_of past) p d name (next_piece (database_of (history_in past p)) name under hand)) (λ legal k. continue-kept past d p name hand under legal k has alike may is))
+            subst (λ (y : CopyHand × SnapshotView). MoveKept past p d (copy_handed d name) (next_piece (database_of (history_in past p)) name y.1 y.0)) one
+            (assumed (move_facts (world_of past) p d (copy_handed d name) (next_piece (database_of (history_in past p)) name under hand)) (λ legal k. continue-kept past d p name hand under legal k has alike may is))
 
     running : may_copy name (node (history_in past d)) ≡ true → (o : Option ℕ) → copy_running (database_of (history_in past d)) name ≡ o
-        → IfKept past p d name (goes_on (database_of (history_in past p)) (database_of (history_in past d)) name (hands past d name) o)
+        → IfKept past p d name (goes_on (database_of (history_in past p)) (database_of (history_in past d)) name (copy_in_hand past d name) o)
     running may None is =
         starts-kept past d p name assumed alike may (sym (ap (λ o. option_and_then (λ t. copy_txid t (copies (history_in past d))) o) alike.here) ∙ is)
-    running may (Some t) is = going (hands past d name) refl may (under_way (database_of (history_in past p)) (hands past d name)) refl
-
-    in-state : (state : TableState) → leaf_state name (node (history_in past d)) ≡ state
-        → IfKept past p d name (moves_in state (database_of (history_in past p)) (database_of (history_in past d)) name (hands past d name))
-    in-state InCopy is = running (to-copy name (node (history_in past d)) is) (copy_running (database_of (history_in past d)) name) refl
-    in-state Synced is = prints-kept past p d name Idle (hands past d name) refl kept
-    in-state state is = prints-kept past p d name (AwaitsTable name) (hands past d name) refl kept
+    running may (Some t) is = going (copy_in_hand past d name) refl may (under_way (database_of (history_in past p)) (copy_in_hand past d name)) refl

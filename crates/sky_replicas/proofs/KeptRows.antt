@@ -1,4 +1,4 @@
--- A table that was copied keeps its rows until it leaves its leaf.
+-- A table that was copied keeps its rows until it leaves its leaf, or a batch writes it.
 use Rattle.std.proofs.Common.{arith, ◌≡◌, ℕ, ◌==◌, List, [], ◌∷◌, ◌++◌, Bool, true, false, not, ◌&&◌, ◌||◌, Option, Some, None, is_some, append_assoc, refl, sym, ap, subst, ◌∙◌, if◌then◌else◌}
 use Rattle.std.specs.List.{list_any}
 use Rattle.std.proofs.lemmas.Bool.Decides.{nat_tests}
@@ -9,7 +9,7 @@ use Rattle.sky_val.specs.Entries.{at}
 use Rattle.sky_val.proofs.EntryLemmas.{same_entries}
 use Rattle.sky_names.specs.Places.{place_of}
 use Rattle.sky_txid.specs.Snapshot.{SnapshotView}
-use Rattle.sky_model.specs.History.{Mark, Whose, of_session, of_copy, ended, tabled, wrote, noded, leaf_removed, copied, History}
+use Rattle.sky_model.specs.History.{Mark, Whose, of_session, of_worker, of_copy, ended, tabled, wrote, noded, leaf_removed, copied, History}
 use Rattle.sky_model.specs.Transactions.{next_txid, has_ended}
 use Rattle.sky_model.specs.Copies.{Copy, copies, is_copied, is_copied_by, without_copy}
 use Rattle.sky_model.specs.Rows.{table_names, is_read_only, committed, writes as writes_of, rows, has_written}
@@ -27,13 +27,13 @@ use Rattle.sky_model.proofs.KeyVersions.{same-writes}
 use Rattle.sky_model.proofs.NodeTables.{one-place}
 use Rattle.sky_model.proofs.Histories.{legal_past}
 use Rattle.sky_model.proofs.Cases.{by_test, by_same}
-use Rattle.sky_replicas.specs.LawsOfReplicas.{HasProvidersRows, CopiedTablesHaveProvidersRows, takes_out, ReplicasKeepProvidersRows}
+use Rattle.sky_replicas.specs.LawsOfReplicas.{HasProvidersRows, CopiedTablesHaveProvidersRows, takes_out, applies_to, ReplicasKeepProvidersRows}
 use Rattle.sky_replicas.proofs.Copying.{place-stays}
 use Rattle.sky_replicas.proofs.HeldRows.{rows-in-order}
 use Rattle.sky_replicas.proofs.InCopyTables.{has_copy, copy-stays, has-copied, copied-no-more, not-left}
 use Rattle.sky_replicas.proofs.CopiesBegin.{MarkInCopy, AllInCopy, in-copy-below, in-copy-past}
 
--- the table of a name has been copied, and nothing writes it
+-- the table of a name has been copied, and no transaction that runs has written it
 record Rests (h : History) (name : List ℕ) (table : ℕ) : Type 0 where
   has : has_copy name (node h) ≡ true
   named : place_of name (table_names h) ≡ Some table
@@ -78,12 +78,12 @@ rests-ended h name table whose t c none r = record {
   unwritten = λ u key unended. r.unwritten u key (or_parts (u == t) (has_ended h u) unended).1;
 }
 
-rests-step : (h : History) (mark : Mark) → Fine h mark → MarkInCopy h mark → (name : List ℕ) (table : ℕ) → takes_out name mark ≡ false → Rests h name table → Rests (mark ∷ h) name table
-rests-step h _ (nodes mark fits) in_copy name table stays r =
+rests-step : (h : History) (mark : Mark) → Fine h mark → MarkInCopy h mark → (name : List ℕ) (table : ℕ) → takes_out name mark ≡ false → applies_to table mark ≡ false → Rests h name table → Rests (mark ∷ h) name table
+rests-step h _ (nodes mark fits) in_copy name table stays apart r =
     record { has = copy-stays h mark name fits stays r.has; named = r.named; guarded = r.guarded; none = r.none; unwritten = r.unwritten }
-rests-step h _ (makes_table last columns new) in_copy name table stays r =
+rests-step h _ (makes_table last columns new) in_copy name table stays apart r =
     record { has = r.has; named = place-stays name (table_names h) last table r.named; guarded = r.guarded; none = r.none; unwritten = r.unwritten }
-rests-step h _ (begins_copy n may) in_copy name table stays r = record {
+rests-step h _ (begins_copy n may) in_copy name table stays apart r = record {
   has = r.has;
   named = r.named;
   guarded = r.guarded;
@@ -94,27 +94,27 @@ rests-step h _ (begins_copy n may) in_copy name table stays r = record {
       absurd (cc (sym (copied-no-more name (node h) r.has) ∙ ap (λ x. may_copy x (node h)) one ∙ in_copy.may))) (λ _. refl)) r.none;
   unwritten = r.unwritten;
 }
-rests-step h _ (writes who t n key old new mine free stands) in_copy name table stays r =
+rests-step h _ (writes who t n key old new mine free stands) in_copy name table stays apart r =
     unwritten-other h name table (of_session who) t n key old new
     (by_same (λ b. b ≡ false) n table
     (λ same. absurd (cc (sym (stands.writable (copy-leaf name (node h) r.has)) ∙ ap (λ k. is_read_only k h) same ∙ r.guarded))) (λ _. refl)) r
-rests-step h _ (copies_row n t key old new may) in_copy name table stays r =
+rests-step h _ (copies_row n t key old new may) in_copy name table stays apart r =
     unwritten-other h name table (of_copy n) t n key old new
     (by_same (λ b. b ≡ false) n table
     (λ same. absurd (cc (sym r.none ∙ ap (λ k. is_copied k (copies h)) (sym same) ∙ copied-by n t (copies h) may.runs))) (λ _. refl)) r
-rests-step h _ (applies_row n t key old new is) in_copy name table stays r = absurd in_copy
-rests-step h _ (ends who t c mine) in_copy name table stays r = rests-ended h name table _ t c r.none r
-rests-step h _ (ends_work t c work) in_copy name table stays r = rests-ended h name table _ t c r.none r
-rests-step h _ (ends_copy n t c may) in_copy name table stays r = rests-ended h name table (of_copy n) t c (uncopied-less table t (copies h) r.none) r
-rests-step h _ (guards _ _ (without_node n on bare)) in_copy name table stays r = absurd (cc (sym r.has ∙ ap (has_copy name) bare))
-rests-step h _ (guards _ _ (at_joining n last unused)) in_copy name table stays r = record {
+rests-step h _ (applies_row n t key old new is) in_copy name table stays apart r = unwritten-other h name table of_worker t n key old new apart r
+rests-step h _ (ends who t c mine) in_copy name table stays apart r = rests-ended h name table _ t c r.none r
+rests-step h _ (ends_work t c work) in_copy name table stays apart r = rests-ended h name table _ t c r.none r
+rests-step h _ (ends_copy n t c may) in_copy name table stays apart r = rests-ended h name table (of_copy n) t c (uncopied-less table t (copies h) r.none) r
+rests-step h _ (guards _ _ (without_node n on bare)) in_copy name table stays apart r = absurd (cc (sym r.has ∙ ap (has_copy name) bare))
+rests-step h _ (guards _ _ (at_joining n last unused)) in_copy name table stays apart r = record {
   has = r.has;
   named = r.named;
   guarded = by_test (λ b. (if b then true else is_read_only table h) ≡ true) (n == table) (λ _. refl) (λ _. r.guarded);
   none = r.none;
   unwritten = r.unwritten;
 }
-rests-step h _ (guards _ _ (at_leaving n last uncopied unwritten)) in_copy name table stays r = record {
+rests-step h _ (guards _ _ (at_leaving n last uncopied unwritten)) in_copy name table stays apart r = record {
   has = r.has;
   named = r.named;
   guarded = by_same (λ b. (if b then false else is_read_only table h) ≡ true) n table
@@ -125,7 +125,7 @@ rests-step h _ (guards _ _ (at_leaving n last uncopied unwritten)) in_copy name 
   none = r.none;
   unwritten = r.unwritten;
 }
-rests-step h _ _ in_copy name table stays r = record { has = r.has; named = r.named; guarded = r.guarded; none = r.none; unwritten = r.unwritten }
+rests-step h _ _ in_copy name table stays apart r = record { has = r.has; named = r.named; guarded = r.guarded; none = r.none; unwritten = r.unwritten }
 
 -- ---- its rows
 
@@ -151,14 +151,15 @@ record StillRests (g p : History) (name : List ℕ) (table : ℕ) : Type 0 where
   rests : Rests g name table
   rows_are : rows table g ≡ rows table p
 
-still-rests : (later : List Mark) (p : History) → Legal (later ++ p) → AllInCopy (later ++ p) → (name : List ℕ) (table : ℕ) → list_any (takes_out name) later ≡ false → Rests p name table
-    → StillRests (later ++ p) p name table
-still-rests [] p l all name table stays r = record { rests = r; rows_are = refl }
-still-rests (mark ∷ later) p l all name table stays r =
+still-rests : (later : List Mark) (p : History) → Legal (later ++ p) → AllInCopy (later ++ p) → (name : List ℕ) (table : ℕ) → list_any (takes_out name) later ≡ false → list_any (applies_to table) later ≡ false
+    → Rests p name table → StillRests (later ++ p) p name table
+still-rests [] p l all name table stays apart r = record { rests = r; rows_are = refl }
+still-rests (mark ∷ later) p l all name table stays apart r =
     let parts = or_parts (takes_out name mark) (list_any (takes_out name) later) stays in
+    let others = or_parts (applies_to table mark) (list_any (applies_to table) later) apart in
     let below : Legal (later ++ p) = legal-below_mark l in
-    let s : StillRests (later ++ p) p name table = still-rests later p below all.1 name table parts.1 r in
-    record { rests = rests-step (later ++ p) mark (fine_mark l) all.0 name table parts.0 s.rests; rows_are = rows-step (later ++ p) below mark (fine_mark l) name table s.rests ∙ s.rows_are }
+    let s : StillRests (later ++ p) p name table = still-rests later p below all.1 name table parts.1 others.1 r in
+    record { rests = rests-step (later ++ p) mark (fine_mark l) all.0 name table parts.0 others.0 s.rests; rows_are = rows-step (later ++ p) below mark (fine_mark l) name table s.rests ∙ s.rows_are }
 
 -- ---- where it was copied
 
@@ -192,4 +193,4 @@ replicas_keep_providers_rows copies_have calls in_form database above later p na
     let start : Rests place name c.table = subst (λ h. Rests h name c.table) (sym here)
     (rests-copied c.below name under tick c.table c.t (subst Legal here (legal-below later place legal)) (ap (λ h. may_copy name (node h)) (sym same) ∙ copied_here)
     (sym (ap (λ h. place_of name (table_names h)) here) ∙ c.named)) in
-    record { copy = c; kept = (still-rests later place legal all name c.table stays start).rows_are ∙ c.same }
+    record { copy = c; kept = λ none. (still-rests later place legal all name c.table stays none start).rows_are ∙ c.same }

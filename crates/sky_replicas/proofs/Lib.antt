@@ -14,6 +14,7 @@ pub mod Sources
 pub mod CopySteps
 pub mod KeptMoves
 pub mod HoldsInHand
+pub mod QuietMoves
 pub mod KeptCalls
 pub mod CopiesInHand
 pub mod LaterRows

@@ -1,17 +1,19 @@
 -- What a move of one worker leaves to the others: the marks of its own copy, the end of its hold, and what it then has in hand.
-use Rattle.std.proofs.Common.{arith, ◌≡◌, ℕ, ◌==◌, List, [], ◌∷◌, Bool, true, false, not, ◌&&◌, Some, None, is_some, map, bytes_eq, refl, sym, ap, subst, ◌∙◌, if◌then◌else◌}
+use Rattle.std.proofs.Common.{arith, ◌≡◌, ℕ, ◌==◌, List, [], ◌∷◌, Bool, true, false, not, ◌&&◌, ◌||◌, Some, None, is_some, map, bytes_eq, refl, sym, ap, subst, ◌∙◌, if◌then◌else◌}
 use Rattle.std.proofs.lemmas.Bool.Decides.{nat_tests}
 use Rattle.sky_names.specs.Places.{place_of}
 use Rattle.sky_names.proofs.PlaceLemmas.{same_name}
 use Rattle.sky_model.specs.History.{Mark, of_copy, began, ended, tabled, table_made, wrote, noded, copied, leaf_removed, state_set, hold_begun, hold_ended, History, Fact, within, in_hand, Past}
 use Rattle.sky_model.specs.Rows.{table_names}
-use Rattle.sky_model.specs.Hands.{CopyHand}
-use Rattle.sky_model.specs.World.{history_in, hands, on_top}
+use Rattle.sky_model.specs.Hands.{CopyHand, of_copy}
+use Rattle.sky_model.specs.StepNode.{is_in_copy}
+use Rattle.sky_model.specs.World.{history_in, on_top}
 use Rattle.sky_model.proofs.Histories.{AllLegal}
 use Rattle.sky_model.proofs.StatementMarks.{EachMark, each-rest, when-true}
 use Rattle.sky_model.proofs.NodeTables.{one-place}
 use Rattle.sky_model.proofs.Good.{same-session}
 use Rattle.sky_model.proofs.Cases.{by_test, by_same}
+use Rattle.sky_replicas.specs.LawsOfReplicas.{copy_in_hand}
 use Rattle.sky_replicas.proofs.NodeNames.{source_of}
 use Rattle.sky_replicas.proofs.Copying.{spares, leaves_held, place-stays}
 use Rattle.sky_replicas.proofs.HandsAt.{is_at, AreOne, one-at, at-itself, hand-is}
@@ -47,14 +49,14 @@ fewer d name past k legal = record {
 }
 
 -- where there is nothing in hand, no copy runs
-pub idle-hand : (past : Past) (d : ℕ) (name : List ℕ) → Keeps each_table past → hands past d name ≡ None → Uncopied (history_in past d) name
+pub idle-hand : (past : Past) (d : ℕ) (name : List ℕ) → Keeps each_table past → copy_in_hand past d name ≡ None → Uncopied (history_in past d) name
 idle-hand past d name k nothing n c = absurd (cc (sym (k.running d name n refl c) ∙ ap is_some nothing))
 
 -- the workers of other tables with this provider's database have other numbers of holds in hand
 abbrev pub Free : Past → (p d : ℕ) → List ℕ → ℕ → Type 0
-Free past p d name hold = (e : ℕ) (other : List ℕ) (hand : CopyHand) → other_than d name e other ≡ true → hands past e other ≡ Some hand → source_of past e ≡ Some p → (hold == hand.hold) ≡ false
+Free past p d name hold = (e : ℕ) (other : List ℕ) (hand : CopyHand) → other_than d name e other ≡ true → copy_in_hand past e other ≡ Some hand → source_of past e ≡ Some p → (hold == hand.hold) ≡ false
 
-pub own-free : (past : Past) (p d : ℕ) (name : List ℕ) (hand : CopyHand) → Keeps each_table past → hands past d name ≡ Some hand → source_of past d ≡ Some p → Free past p d name hand.hold
+pub own-free : (past : Past) (p d : ℕ) (name : List ℕ) (hand : CopyHand) → Keeps each_table past → copy_in_hand past d name ≡ Some hand → source_of past d ≡ Some p → Free past p d name hand.hold
 own-free past p d name hand k has from e other two differ have comes = k.apart d name e other hand two p refl refl (not-false-back (is_at d name e other) differ) has have from comes
   where
     not-false-back : (b : Bool) → not b ≡ true → b ≡ false
@@ -85,6 +87,7 @@ is_own name table (began (of_copy n) t) = n == table
 is_own name table (ended (of_copy n) t c) = n == table
 is_own name table (tabled (wrote (of_copy n) t m key old new)) = n == table
 is_own name table (noded (leaf_removed other)) = bytes_eq name other
+is_own name table (noded (state_set other state)) = is_in_copy state
 is_own name table mark = is_quiet mark
 
 own-tells : (past : Past) (e : ℕ) (name : List ℕ) (table : ℕ) (mark : Mark) → is_own name table mark ≡ true → TellsOfCopied past e mark
@@ -100,7 +103,7 @@ own-spares name table third other (ended (of_copy n) t c) apart differ e = grind
 own-spares name table third other (tabled (wrote (of_copy n) t m key old new)) apart differ e = grind (arith, nat_tests, apart, e)
 own-spares name table third other (noded (copied x under tick)) apart differ e = absurd (cc e)
 own-spares name table third other (noded (leaf_removed x)) apart differ e = ap (λ y. not (bytes_eq third y)) (sym (same_name name x e)) ∙ ap not differ
-own-spares name table third other (noded (state_set x state)) apart differ e = e
+own-spares name table third other (noded (state_set x state)) apart differ e = ap (λ b. b || not (bytes_eq third x)) e
 own-spares name table third other mark apart differ e = refl
 
 own-begins : (name : List ℕ) (table other : ℕ) (mark : Mark) → (table == other) ≡ false → is_own name table mark ≡ true → begins_no_copy other mark ≡ true
@@ -191,43 +194,43 @@ puts-down d name past none kept after =
           let x = others e other one has in let y = others f third two have in k.apart e other f third one two p x.0 y.0 differ x.1 y.1;
       running = λ e other table _ c.
           ap is_some (hand-is past d name None e other)
-          ∙ by_test (λ b. is_at d name e other ≡ b → is_some (if b then None else hands past e other) ≡ true) (is_at d name e other)
+          ∙ by_test (λ b. is_at d name e other ≡ b → is_some (if b then None else copy_in_hand past e other) ≡ true) (is_at d name e other)
           (λ _ at. let one : AreOne d name e other = one-at d name e other at in
           absurd (none legal table (subst (λ x. IsCopied (history_in past d) x table) (sym one.table) (subst (λ n. IsCopied (history_in past n) other table) (sym one.database) c))))
           (λ _ no. k.running e other table (ap not no) c) refl;
     }
   where
-    others : (e : ℕ) (other : List ℕ) (hand : CopyHand) → hands (in_hand d name None ∷ past) e other ≡ Some hand → (other_than d name e other ≡ true) × (hands past e other ≡ Some hand)
+    others : (e : ℕ) (other : List ℕ) (hand : CopyHand) → copy_in_hand (in_hand d name None ∷ past) e other ≡ Some hand → (other_than d name e other ≡ true) × (copy_in_hand past e other ≡ Some hand)
     others e other hand has =
-        by_test (λ b. (if b then None else hands past e other) ≡ Some hand → (not b ≡ true) × (hands past e other ≡ Some hand)) (is_at d name e other)
+        by_test (λ b. (if b then None else copy_in_hand past e other) ≡ Some hand → (not b ≡ true) × (copy_in_hand past e other ≡ Some hand)) (is_at d name e other)
         (λ _ none. absurd (cc none)) (λ _ some. (refl, some)) (sym (hand-is past d name None e other) ∙ has)
 
 -- this table, or another one with what it has in hand
 data Whom (d : ℕ) (name : List ℕ) (hand : CopyHand) (past : Past) (e : ℕ) (other : List ℕ) (held : CopyHand) : Type 0 where
   itself : d ≡ e → name ≡ other → hand ≡ held → Whom d name hand past e other held
-  another : other_than d name e other ≡ true → hands past e other ≡ Some held → Whom d name hand past e other held
+  another : other_than d name e other ≡ true → copy_in_hand past e other ≡ Some held → Whom d name hand past e other held
 
 pub takes-up : (p d : ℕ) (name : List ℕ) (hand : CopyHand) (past : Past) → KeptFree p d name hand.hold past → (AllLegal past → Copying past d name hand) → (AllLegal past → source_of past d ≡ Some p)
-    → Kept each_table (in_hand d name (Some hand) ∷ past)
+    → Kept each_table (in_hand d name (Some (of_copy hand)) ∷ past)
 takes-up p d name hand past kept copy from after =
-    let legal : AllLegal past = legal-before past (in_hand d name (Some hand)) after in
+    let legal : AllLegal past = legal-before past (in_hand d name (Some (of_copy hand))) after in
     let both = kept legal in
     let k = both.0 in
     record {
       all_noded = k.all_noded;
-      all_copied = copied-beside past (in_hand d name (Some hand)) (λ e. refl) (λ e q found. found) k.all_copied;
-      copying = λ e other held _ has. copying-handed past d name (Some hand) e other held (of k (copy legal) e other held (whom e other held has));
+      all_copied = copied-beside past (in_hand d name (Some (of_copy hand))) (λ e. refl) (λ e q found. found) k.all_copied;
+      copying = λ e other held _ has. copying-handed past d name (Some (of_copy hand)) e other held (of k (copy legal) e other held (whom e other held has));
       apart = λ e other f third one two q _ _ differ has have comes goes. apart (from legal) k both.1 e other f third one two q differ comes goes (whom e other one has) (whom f third two have);
       running = λ e other table _ c.
-          ap is_some (hand-is past d name (Some hand) e other)
-          ∙ by_test (λ b. is_at d name e other ≡ b → is_some (if b then Some hand else hands past e other) ≡ true) (is_at d name e other) (λ _ _. refl) (λ _ no. k.running e other table (ap not no) c) refl;
+          ap is_some (hand-is past d name (Some (of_copy hand)) e other)
+          ∙ by_test (λ b. is_at d name e other ≡ b → is_some (if b then Some hand else copy_in_hand past e other) ≡ true) (is_at d name e other) (λ _ _. refl) (λ _ no. k.running e other table (ap not no) c) refl;
     }
   where
-    whom : (e : ℕ) (other : List ℕ) (held : CopyHand) → hands (in_hand d name (Some hand) ∷ past) e other ≡ Some held → Whom d name hand past e other held
+    whom : (e : ℕ) (other : List ℕ) (held : CopyHand) → copy_in_hand (in_hand d name (Some (of_copy hand)) ∷ past) e other ≡ Some held → Whom d name hand past e other held
     whom e other held has =
-        by_test (λ b. is_at d name e other ≡ b → (if b then Some hand else hands past e other) ≡ Some held → Whom d name hand past e other held) (is_at d name e other)
+        by_test (λ b. is_at d name e other ≡ b → (if b then Some hand else copy_in_hand past e other) ≡ Some held → Whom d name hand past e other held) (is_at d name e other)
         (λ _ at some. let one : AreOne d name e other = one-at d name e other at in itself one.database one.table (cc some)) (λ _ no some. another (ap not no) some) refl
-        (sym (hand-is past d name (Some hand) e other) ∙ has)
+        (sym (hand-is past d name (Some (of_copy hand)) e other) ∙ has)
 
     of : Keeps (other_than d name) past → Copying past d name hand → (e : ℕ) (other : List ℕ) (held : CopyHand) → Whom d name hand past e other held → Copying past e other held
     of k c e other held (itself one table is) = subst (Copying past e other) is (subst (λ x. Copying past e x hand) table (subst (λ n. Copying past n name hand) one c))

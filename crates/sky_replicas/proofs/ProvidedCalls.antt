@@ -9,35 +9,39 @@ use Rattle.sky_names.proofs.PlaceLemmas.{bytes_eq_refl}
 use Rattle.sky_txid.specs.Ids.{contains}
 use Rattle.sky_txid.specs.Snapshot.{SnapshotView}
 use Rattle.londiste_state.specs.declared.state.TableState.{TableState}
-use Rattle.londiste_state.specs.declared.state.TableState.TheVariants.{InCopy, Synced}
+use Rattle.londiste_state.specs.declared.state.TableState.TheVariants.{InCopy, CatchingUp, DoSync, Synced}
 use Rattle.londiste_state.specs.Nodes.{Node, of_root, of_leaf, Leaf, LeafTable, node_name, is_among, table_of, tables_of}
 use Rattle.sky_model.specs.declared.stmt.NodeStmt.{NodeStmt}
 use Rattle.sky_model.specs.declared.stmt.NodeStmt.TheVariants.{CreateLeaf, AddTable, RemoveTable, TableState as ShowState, CopyStep, Restart, RestartTable, LondisteStep}
 use Rattle.sky_model.specs.declared.reply.Reply.{Reply}
-use Rattle.sky_model.specs.declared.reply.Reply.TheVariants.{Done, Null, TableMoved}
+use Rattle.sky_model.specs.declared.reply.Reply.TheVariants.{Done, Null}
 use Rattle.sky_model.specs.declared.reply.Refusal.{Refusal}
 use Rattle.sky_model.specs.declared.reply.Limit.TheVariants.{Consumers}
 use Rattle.sky_model.specs.declared.reply.Refusal.TheVariants.{AlreadyInSet, IdsSpent, NodeExists, NoNode, NoTable, NotInSet, NotProvider, SchemaDiffers, TableBusy, TableInUse, TooMany}
-use Rattle.sky_model.specs.History.{Mark, noded, leaf_made, leaf_added, unlisted, root_made, tabled, read_only, Fact, within, node_made, in_hand, Past}
-use Rattle.sky_model.specs.Hands.{CopyHand}
+use Rattle.sky_val.specs.declared.event.Event.{Event}
+use Rattle.sky_model.specs.History.{Mark, noded, leaf_made, leaf_added, unlisted, root_made, tabled, read_only, Batch, Pick, Fact, within, node_made, in_hand, batch_in_hand, Past}
+use Rattle.sky_model.specs.Hands.{CopyHand, BatchHand, Hand, of_copy, of_batch, copy_in, batch_in}
 use Rattle.sky_model.specs.Copies.{copy_txid}
 use Rattle.sky_model.specs.Rows.{table_names, columns_of}
 use Rattle.sky_model.specs.Nodes.{node, is_root, is_leaf, set_tables, leaf_tables}
 use Rattle.sky_model.specs.ShownRows.{least_writer, snapshot_now}
-use Rattle.sky_model.specs.State.{Database, database_of}
+use Rattle.sky_model.specs.State.{Database, database_of, after_marks}
 use Rattle.sky_model.specs.Outcome.{Outcome, Checked, ◌>>=◌, ◌>>◌, refused_if, refused_by, found_or, answers, does_marks, marks_of}
 use Rattle.sky_model.specs.OwnTransaction.{next_id}
 use Rattle.sky_model.specs.StepQueue.{newest_id}
 use Rattle.sky_model.specs.StepConsumer.{sub_ids_spent}
 use Rattle.sky_model.specs.StepCopy.{given_up}
 use Rattle.sky_model.specs.StepNode.{NodeCall, joining, parting, fetching, finishing, making_leaf, adding, removing, moving, listing, unlisting, beginning_copy, applying, holding, if_there, set_queue, is_full, joins, lists, adds, unlists, table_number, may_serve, call_form, node_does}
-use Rattle.sky_model.specs.CopyMoves.{CopyMove, piece_size, rows_from, copies_piece, next_piece, behind_calls, copy_consumer, first_hand, starts_copy, under_way, continues, goes_on, leaf_state, moves_in, copy_running, copy_move, lets_go_for}
+use Rattle.sky_model.specs.WorkerMoves.{Move, behind_calls, handing}
+use Rattle.sky_model.specs.BatchMoves.{Follower, events_in, has_applied, applies_in_hand, skips_in_hand, finishes_in_hand, taken, takes, takes_next, goes_through}
+use Rattle.sky_model.specs.CopyMoves.{piece_size, rows_from, copies_piece, next_piece, copy_consumer, first_hand, starts_copy, under_way, continues, goes_on, moves_in, table_move, table_at, copier, with_batch, if_copied, has_caught_up, catches_up, hands_over, copy_running, copy_move, lets_go_for}
+use Rattle.sky_model.specs.ReplayMoves.{replayer, is_on_way, is_handed_over, is_met, first_in, next_to_copy, for_table, replay_move}
 use Rattle.sky_model.specs.NodesOfWorld.{WorldOutcome, Located, node_called, done_in, leaf_of, create_leaf, provides, are_columns, columns_called, adds_to, uses, name_in, first_user, shows_state}
-use Rattle.sky_model.specs.WorkersOfWorld.{move_facts, moves, source, source_alike, leaf_table, restarts, restarting, is_on_way, next_to_copy, starts_next, leaf_steps, parts_for, leaves_leaf, removes_from, node_form}
+use Rattle.sky_model.specs.WorkersOfWorld.{move_facts, moves, source, source_alike, leaf_table, restarts, restarting, provider_of as providers_database, leaf_steps, parts_for, leaves_leaf, removes_from, node_form}
 use Rattle.sky_model.specs.World.{World, world_of, history_in, nodes, on_top}
 use Rattle.sky_model.specs.Calls.{Call, past_of}
 use Rattle.sky_model.proofs.Histories.{AllLegal}
-use Rattle.sky_model.specs.StepApply.{applies_batch}
+use Rattle.sky_model.specs.StepApply.{picked, bad_event, applies_batch}
 use Rattle.sky_model.proofs.ApplyCalls.{is_for_applying, gives-applies}
 use Rattle.sky_model.proofs.NodeDeeds.{called-there}
 use Rattle.sky_model.proofs.NodeCalls.{is_for_consumers, is_consumers, gives-consumers}
@@ -53,7 +57,7 @@ use Rattle.sky_replicas.proofs.FittingRows.{same-columns}
 use Rattle.sky_replicas.proofs.Sources.{root-has}
 use Rattle.sky_replicas.proofs.SessionsMarks.{is_sessions}
 use Rattle.sky_replicas.proofs.EachCall.{is_beside, after-calls as each-call}
-use Rattle.sky_replicas.proofs.ProvidedTables.{IsOffered, HasProvider, AllProvided, IsRootCalled, IsUnused, called-within, MarkSuits, KeptProvided, FactsSuit, suits-step, suits-steps}
+use Rattle.sky_replicas.proofs.ProvidedTables.{IsOffered, HasProvider, AllProvided, IsRootCalled, IsUnused, called-within, MarkSuits, KeptProvided, FactSuits, FactsSuit, suits-step, suits-steps}
 
 -- ---- marks by which no leaf is made, no table joins one, and none leaves a set
 
@@ -162,14 +166,67 @@ kept-calls past d (call ∷ calls) all kept =
 
 -- ---- moves of workers
 
-record IsWorkers (move : CopyMove) : Type 0 where
+record IsWorkers {H : Type 0} (move : Move H) : Type 0 where
   provider : AreWorkers move.provider
   replica : AreWorkers move.replica
 
-either-workers : (b : Bool) (x y : CopyMove) → IsWorkers x → IsWorkers y → IsWorkers (if b then x else y)
+abbrev WorkersIfOk : {H : Type 0} → Checked (Move H) → Type 0
+WorkersIfOk c = IfOk c IsWorkers
+
+either-workers : {H : Type 0} (b : Bool) (x y : Move H) → IsWorkers x → IsWorkers y → IsWorkers (if b then x else y)
 either-workers true x y all also = all
 either-workers false x y all also = also
 
+if-either : {H : Type 0} (b : Bool) (x y : Checked (Move H)) → WorkersIfOk x → WorkersIfOk y → WorkersIfOk (if b then x else y)
+if-either true x y all also = all
+if-either false x y all also = also
+
+if-unrefused : {H : Type 0} (b : Bool) (refusal : Refusal) (c : Checked (Move H)) → WorkersIfOk c → WorkersIfOk (refused_if b refusal >> c)
+if-unrefused true refusal c all = tt
+if-unrefused false refusal c all = all
+
+if-given : {A H : Type 0} (c : Checked A) (next : A → Checked (Move H)) → ((a : A) → WorkersIfOk (next a)) → WorkersIfOk (c >>= next)
+if-given (Ok a) next all = all a
+if-given (Err refusal) next all = tt
+
+if-handing : {H I : Type 0} (kind : H → I) (c : Checked (Move H)) → WorkersIfOk c → WorkersIfOk (handing kind c)
+if-handing kind (Ok move) all = record { provider = all.provider; replica = all.replica }
+if-handing kind (Err refusal) all = tt
+
+-- with batches
+workers-takes : (f : Follower) (o : Option Batch) → WorkersIfOk (takes f o)
+workers-takes f None = record { provider = tt; replica = tt }
+workers-takes f (Some batch) = record { provider = (refl, tt); replica = tt }
+
+workers-takes_next : (p : Database) (f : Follower) → WorkersIfOk (takes_next p f)
+workers-takes_next p f = if-given (node_does p (fetching f.consumer)) _ (λ asked. workers-takes f (taken (after_marks p asked.marks) asked.reply))
+
+workers-applied : (events : List Event) (pick : Pick) (tick : ℕ) (batch : BatchHand) (many : ℕ) (bad : Option ℕ) → IsWorkers (has_applied (applying events pick tick) batch many bad)
+workers-applied events pick tick batch many None = record { provider = tt; replica = (refl, tt) }
+workers-applied events pick tick batch many (Some id) = record { provider = tt; replica = (refl, tt) }
+
+workers-through : (p r : Database) (f : Follower) (batch : BatchHand) → WorkersIfOk (goes_through p r f batch)
+workers-through p r f batch =
+    if-either batch.is_done (finishes_in_hand batch) _ (record { provider = (refl, tt); replica = tt })
+    (if-either (nat_lt f.tick batch.cur) (applies_in_hand p r f batch) (skips_in_hand batch) (if-given (next_id r.part) _ (λ t. workers-applied (events_in p batch) f.pick batch.cur batch (length (picked r.node f.pick (events_in p batch))) (bad_event r f.pick (events_in p batch))))
+    (record { provider = tt; replica = tt }))
+
+workers-with_batch : (p r : Database) (t : LeafTable) (o : Option BatchHand) (other : Checked (Move BatchHand)) → WorkersIfOk other → WorkersIfOk (with_batch p r t o other)
+workers-with_batch p r t (Some batch) other all = workers-through p r (copier r.node t) batch
+workers-with_batch p r t None other all = all
+
+workers-for_table : (o : Option (List ℕ)) (move : List ℕ → Checked (Move BatchHand)) (other : Checked (Move BatchHand)) → ((table : List ℕ) → WorkersIfOk (move table)) → WorkersIfOk other → WorkersIfOk (for_table o move other)
+workers-for_table None move other all also = also
+workers-for_table (Some table) move other all also = all table
+
+workers-replay : (p r : Database) (l : Leaf) (o : Option BatchHand) → WorkersIfOk (replay_move p r l o)
+workers-replay p r l (Some batch) = workers-through p r (replayer l) batch
+workers-replay p r l None =
+    workers-for_table (first_in is_handed_over l) _ _ (λ table. record { provider = tt; replica = tt })
+    (workers-for_table (first_in (is_met l.tick) l) _ _ (λ table. record { provider = tt; replica = (refl, tt) })
+    (workers-for_table (next_to_copy l) _ _ (λ table. record { provider = tt; replica = (refl, tt) }) (workers-takes_next p (replayer l))))
+
+-- with copies
 workers-piece : (table : List ℕ) (snapshot : SnapshotView) (hand : CopyHand) (rows : Entries (List Val)) → IsWorkers (copies_piece table snapshot hand rows)
 workers-piece table snapshot hand rows =
     either-workers (nat_lt (length rows) piece_size) _ _ (record { provider = (refl, tt); replica = (refl, (refl, tt)) }) (record { provider = tt; replica = (refl, tt) })
@@ -178,18 +235,7 @@ workers-next : (p : Database) (table : List ℕ) (snapshot : SnapshotView) (hand
 workers-next p table snapshot hand = workers-piece table snapshot hand (rows_from p table snapshot hand.last piece_size)
 
 module _ (p r : Database) (table : List ℕ) where
-  abbrev WorkersIfOk : Checked CopyMove → Type 0
-  WorkersIfOk c = IfOk c IsWorkers
-
-  if-unrefused : (b : Bool) (refusal : Refusal) (c : Checked CopyMove) → WorkersIfOk c → WorkersIfOk (refused_if b refusal >> c)
-  if-unrefused true refusal c all = tt
-  if-unrefused false refusal c all = all
-
-  if-given : {A : Type 0} (c : Checked A) (next : A → Checked CopyMove) → ((a : A) → WorkersIfOk (next a)) → WorkersIfOk (c >>= next)
-  if-given (Ok a) next all = all a
-  if-given (Err refusal) next all = tt
-
-  abbrev first : CopyMove
+  abbrev first : Move CopyHand
   first = next_piece p table (snapshot_now p.part) (first_hand p)
 
   workers-first : IsWorkers (behind_calls (parting (copy_consumer r.node) ∷ joining (copy_consumer r.node) ∷ holding ∷ []) (beginning_copy table ∷ []) first)
@@ -207,13 +253,26 @@ module _ (p r : Database) (table : List ℕ) where
       of None = record { provider = tt; replica = tt }
       of (Some x) = workers-next p table x.1 x.0
 
-  workers-in : (state : TableState) (hand : Option CopyHand) → WorkersIfOk (moves_in state p r table hand)
-  workers-in InCopy hand = workers-goes_on hand (copy_running r table)
-  workers-in Synced hand = record { provider = tt; replica = tt }
-  workers-in _ hand = record { provider = tt; replica = tt }
+workers-copied : (t : LeafTable) (hand : Option Hand) (c : Checked (Move BatchHand)) → WorkersIfOk c → WorkersIfOk (if_copied t hand c)
+workers-copied t hand c all = if-either (is_some t.snapshot) (handing of_batch c) _ (if-handing of_batch c all) (record { provider = tt; replica = tt })
 
-  workers-move : (hand : Option CopyHand) → WorkersIfOk (copy_move p r table hand)
-  workers-move hand = workers-in (leaf_state table r.node) hand
+workers-in : (p r : Database) (t : LeafTable) (state : TableState) (hand : Option Hand) → WorkersIfOk (moves_in state p r t hand)
+workers-in p r t InCopy hand = if-handing of_copy (goes_on p r t.name (copy_in hand) (copy_running r t.name)) (workers-goes_on p r t.name (copy_in hand) (copy_running r t.name))
+workers-in p r t CatchingUp hand =
+    workers-copied t hand (with_batch p r t (batch_in hand) (catches_up p r t))
+    (workers-with_batch p r t (batch_in hand) (catches_up p r t) (if-either (has_caught_up p t) _ _ (record { provider = tt; replica = (refl, tt) }) (workers-takes_next p (copier r.node t))))
+workers-in p r t (DoSync tick) hand =
+    workers-copied t hand (with_batch p r t (batch_in hand) (hands_over p r tick t))
+    (workers-with_batch p r t (batch_in hand) (hands_over p r tick t) (if-either (t.tick == tick) _ _ (record { provider = (refl, tt); replica = (refl, tt) }) (workers-takes_next p (copier r.node t))))
+workers-in p r t Synced hand = record { provider = tt; replica = tt }
+workers-in p r t state hand = record { provider = tt; replica = tt }
+
+workers-move : (p r : Database) (table : List ℕ) (hand : Option Hand) → WorkersIfOk (copy_move p r table hand)
+workers-move p r table hand = of (table_at table r.node)
+  where
+    of : (o : Option LeafTable) → WorkersIfOk (table_move p r table o hand)
+    of None = record { provider = tt; replica = tt }
+    of (Some t) = workers-in p r t t.state hand
 
 workers-lets : (hand : Option CopyHand) → AreWorkers (lets_go_for hand)
 workers-lets None = tt
@@ -379,10 +438,11 @@ module _ (past : Past) (kept : KeptProvided past) where
           offered past d table q name l m a is_listed stands there found has (not-false (are_columns ((w.database d).part.columns table) (columns_called name (w.database m.database))) alike) from)))
           (λ _ _. tt) refl
 
-  kept-move : (p d : ℕ) (name : List ℕ) (move : CopyMove) → IsWorkers move → KeptProvided (on_top past (move_facts w p d name move))
-  kept-move p d name move all =
-      subst KeptProvided (sym (on-move past p d name move))
-      (suits-step _ (in_hand d name move.hand) tt (kept-calls (after_calls past p move.provider) d move.replica all.replica (kept-calls past p move.provider all.provider kept)))
+  kept-move : {H : Type 0} (p d : ℕ) (handed : Option H → Fact) (move : Move H) → IsWorkers move → ((q : Past) → FactSuits q (handed move.hand)) → KeptProvided (on_top past (move_facts w p d handed move))
+  kept-move p d handed move all suits =
+      let after : Past = after_calls (after_calls past p move.provider) d move.replica in
+      subst KeptProvided (sym (on-move past p d handed move))
+      (suits-step after (handed move.hand) (suits after) (kept-calls (after_calls past p move.provider) d move.replica all.replica (kept-calls past p move.provider all.provider kept)))
 
   kept-removes : (d table : ℕ) (name : List ℕ) (n : Node) → (w.database d).node ≡ Some n → KeptIfOk (removes_from w d table name n)
   kept-removes d table name (of_root r) stands =
@@ -394,31 +454,29 @@ module _ (past : Past) (kept : KeptProvided past) where
       none f None e = refl
       none f (Some e) some = absurd (cc some)
   kept-removes d table name (of_leaf l) stands = if-checked (source w l name) _ (λ p.
-      kept-move p d name (leaves_leaf l name (w.hands d name)) (record {
-        provider = workers-append (lets_go_for (w.hands d name)) (parts_for (Some (of_leaf l)) (option_map LeafTable.state (table_of name l))) (workers-lets (w.hands d name))
+      kept-move p d (in_hand d name) (leaves_leaf l name (w.hands d name)) (record {
+        provider = workers-append (lets_go_for (copy_in (w.hands d name))) (parts_for (Some (of_leaf l)) (option_map LeafTable.state (table_of name l))) (workers-lets (copy_in (w.hands d name)))
             (workers-parts (Some (of_leaf l)) (option_map LeafTable.state (table_of name l)));
         replica = (refl, tt);
-      }))
+      }) (λ q. tt))
 
   kept-state : (name table : List ℕ) (n : Node) → KeptIfOk (shows_state name table n)
   kept-state name table (of_root r) = tt
   kept-state name table (of_leaf l) = if-found (table_of table l) (NotInSet table) _ (λ t _. kept)
 
-  kept-restarts : (name : List ℕ) (n : Node) → KeptIfOk (restarts name n)
-  kept-restarts name (of_root r) = tt
-  kept-restarts name (of_leaf l) = kept
+  kept-restarts : (d : ℕ) (name : List ℕ) (n : Node) → KeptIfOk (restarts d name n)
+  kept-restarts d name (of_root r) = tt
+  kept-restarts d name (of_leaf l) = suits-step past (batch_in_hand d None) tt kept
 
-  kept-next : (d : ℕ) (o : Option (List ℕ)) → KeptIfOk (starts_next w d o)
-  kept-next d None = kept
-  kept-next d (Some table) = kept-done d (TableMoved table InCopy) (node_does (w.database d) (moving table InCopy)) (settled-does (w.database d) (moving table InCopy) refl)
+  kept-moves : {H : Type 0} (p d : ℕ) (handed : Option H → Fact) (c : Checked (Move H)) → WorkersIfOk c → ((q : Past) (hand : Option H) → FactSuits q (handed hand)) → KeptIfOk (moves w p d handed c)
+  kept-moves p d handed (Ok move) all suits = kept-move p d handed move all (λ q. suits q move.hand)
+  kept-moves p d handed (Err refusal) all suits = tt
 
   kept-steps : (d : ℕ) (name : List ℕ) (n : Node) → KeptIfOk (leaf_steps w d name n)
   kept-steps d name (of_root r) = tt
-  kept-steps d name (of_leaf l) = kept-next d (next_to_copy l)
-
-  kept-moves : (p d : ℕ) (name : List ℕ) (c : Checked CopyMove) → IfOk c IsWorkers → KeptIfOk (moves w p d name c)
-  kept-moves p d name (Ok move) all = kept-move p d name move all
-  kept-moves p d name (Err refusal) all = tt
+  kept-steps d name (of_leaf l) =
+      if-checked (providers_database w l) _ (λ p.
+      kept-moves p d (batch_in_hand d) (replay_move (w.database p) (w.database d) l (w.batches d)) (workers-replay (w.database p) (w.database d) l (w.batches d)) (λ q batch. tt))
 
   kept-form : (d : ℕ) (s : NodeStmt) → KeptIfOk (node_form w d s)
   kept-form d (CreateLeaf name provider) = kept-create_leaf d name provider
@@ -437,13 +495,14 @@ module _ (past : Past) (kept : KeptProvided past) where
       if-found (node_called w name) (NoNode name) _ (λ n _.
       if-checked (leaf_table name table n.node) _ (λ l.
       if-checked (source_alike w n.database l table) _ (λ p.
-      kept-moves p n.database table (copy_move (w.database p) (w.database n.database) table (w.hands n.database table)) (workers-move (w.database p) (w.database n.database) table (w.hands n.database table)))))
-  kept-form d (Restart name) = if-found (node_called w name) (NoNode name) _ (λ n _. kept-restarts name n.node)
+      kept-moves p n.database (in_hand n.database table) (copy_move (w.database p) (w.database n.database) table (w.hands n.database table))
+      (workers-move (w.database p) (w.database n.database) table (w.hands n.database table)) (λ q hand. tt))))
+  kept-form d (Restart name) = if-found (node_called w name) (NoNode name) _ (λ n _. kept-restarts n.database name n.node)
   kept-form d (RestartTable name table) =
       if-found (node_called w name) (NoNode name) _ (λ n _.
       if-checked (leaf_table name table n.node) _ (λ l.
       if-checked (source w l table) _ (λ p.
-      kept-move p n.database table (restarting table (w.hands n.database table)) (record { provider = workers-lets (w.hands n.database table); replica = (refl, tt) }))))
+      kept-move p n.database (in_hand n.database table) (restarting table (w.hands n.database table)) (record { provider = workers-lets (copy_in (w.hands n.database table)); replica = (refl, tt) }) (λ q. tt))))
   kept-form d (LondisteStep name) = if-found (node_called w name) (NoNode name) _ (λ n _. kept-steps n.database name n.node)
 
 -- ---- after all calls

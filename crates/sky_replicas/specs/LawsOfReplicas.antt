@@ -1,13 +1,13 @@
 -- The laws on tables that are copied from one database to another, after all calls of the world.
-use Rattle.std.specs.Prelude.{◌≡◌, ℕ, ◌==◌, Bool, true, false, List, [], ◌∷◌, ◌++◌, Option, Some, None, is_some, IfSome, Ok, All, bytes_eq}
+use Rattle.std.specs.Prelude.{◌≡◌, ℕ, ◌==◌, Bool, true, false, List, [], ◌∷◌, ◌++◌, Option, Some, None, is_some, IfSome, Ok, All, bytes_eq, option_map}
 use Rattle.std.specs.List.{list_any}
 use Rattle.sky_val.specs.declared.val.Val.{Val}
 use Rattle.sky_val.specs.Entries.{Entries}
 use Rattle.sky_names.specs.Places.{place_of}
 use Rattle.sky_txid.specs.Snapshot.{SnapshotView}
 use Rattle.londiste_state.specs.declared.state.TableState.TheVariants.{InCopy}
-use Rattle.londiste_state.specs.Nodes.{of_leaf, Leaf, is_among, tables_of}
-use Rattle.sky_model.specs.History.{Mark, of_copy, began, ended, noded, leaf_removed, copied, hold_begun, hold_ended, History, Fact, within, Past, of_session}
+use Rattle.londiste_state.specs.Nodes.{of_leaf, Leaf, LeafTable, is_among, table_of, tables_of}
+use Rattle.sky_model.specs.History.{Mark, of_copy, began, ended, noded, leaf_removed, copied, hold_begun, hold_ended, History, Fact, within, Past, of_session, of_worker, tabled, wrote}
 use Rattle.sky_model.specs.Transactions.{snapshot}
 use Rattle.sky_model.specs.Copies.{copies, is_copied, is_copied_by, Hold, holds}
 use Rattle.sky_model.specs.Rows.{table_names, committed, writes, put_all, in_turn, rows, own_writes, rows_shown}
@@ -15,8 +15,9 @@ use Rattle.sky_model.specs.Sessions.{own_txid, sight, place_of_sight}
 use Rattle.sky_model.specs.HistoryPlaces.{IsPlace}
 use Rattle.sky_model.specs.Versions.{versions}
 use Rattle.sky_model.specs.State.{Database, database_of}
-use Rattle.sky_model.specs.Hands.{CopyHand}
-use Rattle.sky_model.specs.CopyMoves.{newest_of, held_snapshot, next_piece, copy_move, leaf_state, starts_copy}
+use Rattle.sky_model.specs.Hands.{CopyHand, Hand, of_copy, copy_in}
+use Rattle.sky_model.specs.WorkerMoves.{handing}
+use Rattle.sky_model.specs.CopyMoves.{newest_of, held_snapshot, next_piece, copy_move, table_at, starts_copy}
 use Rattle.sky_model.specs.NodesOfWorld.{Located, WorldOutcome, node_called}
 use Rattle.sky_model.specs.WorkersOfWorld.{source_alike, restart_table}
 use Rattle.sky_model.specs.Nodes.{node}
@@ -94,10 +95,16 @@ abbrev pub takes_out : List ℕ → Mark → Bool
 takes_out name (noded (leaf_removed other)) = bytes_eq name other
 takes_out name mark = false
 
--- above the place at which a table was copied, it has the rows of its provider's table at the place of the snapshot, and no others
+-- whether a worker writes a row of a table by a mark, as a batch is applied
+abbrev pub applies_to : ℕ → Mark → Bool
+applies_to table (tabled (wrote of_worker t n key old new)) = n == table
+applies_to table mark = false
+
+-- above the place at which a table was copied, and until a batch writes it, it has the rows of its provider's table at the place of the snapshot, and no
+-- others
 pub record KeepsProvidersRows (past : Past) (d : ℕ) (later : List Mark) (p : History) (name : List ℕ) (under : SnapshotView) : Type 0 where
   pub copy : HasProvidersRows past d p name under
-  pub kept : rows copy.table (later ++ p) ≡ copied_rows past d p name under copy
+  pub kept : list_any (applies_to copy.table) later ≡ false → rows copy.table (later ++ p) ≡ copied_rows past d p name under copy
 
 -- so it is until the table leaves its leaf
 abbrev pub ReplicasKeepProvidersRows : Type 0
@@ -116,10 +123,11 @@ committed_by_sessions [] = []
 committed_by_sessions (ended (of_session who) t true ∷ marks) = committed_by_sessions marks ++ t ∷ []
 committed_by_sessions (_ ∷ marks) = committed_by_sessions marks
 
--- above the place at which a table was copied, and until it is copied again, it has the rows of its provider's table with what sessions wrote since
+-- above the place at which a table was copied, and until a batch writes it or it is copied again, it has the rows of its provider's table with what
+-- sessions wrote since
 pub record ShowsSessionsWrites (past : Past) (d : ℕ) (later : List Mark) (p : History) (name : List ℕ) (under : SnapshotView) : Type 0 where
   pub copy : HasProvidersRows past d p name under
-  pub written : list_any (copies_again copy.table) later ≡ false
+  pub written : list_any (copies_again copy.table) later ≡ false → list_any (applies_to copy.table) later ≡ false
       → rows copy.table (later ++ p) ≡ in_turn (λ t. writes copy.table t (later ++ p)) (committed_by_sessions later) (copied_rows past d p name under copy)
 
 -- so it is at each place of each history
@@ -155,10 +163,14 @@ abbrev pub GivenUpCopiesLeaveNothing : Type 0
 GivenUpCopiesLeaveNothing = (later : List Mark) (q : History) (table t : ℕ) → IsPlace (ended (of_copy table) t false ∷ (later ++ began (of_copy table) t ∷ q))
     → IsUndone (ended (of_copy table) t false ∷ (later ++ began (of_copy table) t ∷ q)) q table
 
+-- the copy that the worker of the table of a name has in hand
+abbrev pub copy_in_hand : Past → (d : ℕ) → (name : List ℕ) → Option CopyHand
+copy_in_hand past d name = copy_in (hands past d name)
+
 -- the worker of the table of a name has a copy of it in hand, which runs by a transaction: the provider's database holds the snapshot that was taken as it
 -- began
 pub record InHand (past : Past) (d : ℕ) (name : List ℕ) (hand : CopyHand) : Type 0 where
-  pub is : hands past d name ≡ Some hand
+  pub is : copy_in_hand past d name ≡ Some hand
   -- the leaf, and its provider
   pub leaf : Leaf
   pub is_leaf : node (history_in past d) ≡ Some (of_leaf leaf)
@@ -173,16 +185,16 @@ pub record InHand (past : Past) (d : ℕ) (name : List ℕ) (hand : CopyHand) : 
   pub copy_began : CopyBegan past d provider.database table t hand.hold false before
   pub holds : held_snapshot (database_of (history_in past provider.database)) hand.hold ≡ Some (snapshot (history_in before provider.database))
   pub from_newest : newest_of (database_of (history_in before provider.database)) ≡ hand.tick
-  pub in_copy : leaf_state name (Some (of_leaf leaf)) ≡ InCopy
+  pub in_copy : option_map LeafTable.state (table_of name leaf) ≡ Some InCopy
 
--- a worker of a leaf's table has something in hand
+-- a worker of a leaf's table has a copy in hand
 pub record HasInHand (past : Past) (d : ℕ) (name : List ℕ) : Type 0 where
   pub hand : CopyHand
   pub in_hand : InHand past d name hand
 
--- what a worker has in hand is of a copy that runs
+-- a copy that a worker has in hand runs
 abbrev pub HandsAreOfRunningCopies : Type 0
-HandsAreOfRunningCopies = (calls : List Call) → All IsCallInForm calls → (database : ℕ) (name : List ℕ) (hand : CopyHand) → hands (past_of calls) database name ≡ Some hand
+HandsAreOfRunningCopies = (calls : List Call) → All IsCallInForm calls → (database : ℕ) (name : List ℕ) (hand : CopyHand) → copy_in_hand (past_of calls) database name ≡ Some hand
     → InHand (past_of calls) database name hand
 
 -- a copy that runs is in hand
@@ -204,16 +216,17 @@ abbrev pub HoldsAreInHand : Type 0
 HoldsAreInHand = (calls : List Call) → All IsCallInForm calls → (database number : ℕ) → list_any (λ (x : Hold). x.number == number) (holds (history_in (past_of calls) database)) ≡ true
     → IsHandsHold (past_of calls) database number
 
--- the next move of the worker of a table that is being copied begins a copy, if nothing is in hand; else the copy goes on with the next rows, under the
+-- the next move of the worker of a table that is being copied begins a copy, if it has none in hand; else the copy goes on with the next rows, under the
 -- snapshot that is held for it. So no copy is waited for
-pub record GoesOn (provider replica : Database) (name : List ℕ) (hand : Option CopyHand) : Type 0 where
-  pub begins : hand ≡ None → copy_move provider replica name hand ≡ starts_copy provider replica name
-  pub goes_on : (x : CopyHand) → hand ≡ Some x → IfSome (held_snapshot provider x.hold) (λ snapshot. copy_move provider replica name hand ≡ Ok (next_piece provider name snapshot x))
-  pub holds : (x : CopyHand) → hand ≡ Some x → is_some (held_snapshot provider x.hold) ≡ true
+pub record GoesOn (provider replica : Database) (name : List ℕ) (hand : Option Hand) : Type 0 where
+  pub begins : copy_in hand ≡ None → copy_move provider replica name hand ≡ handing of_copy (starts_copy provider replica name)
+  pub goes_on : (x : CopyHand) → copy_in hand ≡ Some x
+      → IfSome (held_snapshot provider x.hold) (λ snapshot. copy_move provider replica name hand ≡ handing of_copy (Ok (next_piece provider name snapshot x)))
+  pub holds : (x : CopyHand) → copy_in hand ≡ Some x → is_some (held_snapshot provider x.hold) ≡ true
 
 abbrev pub CopiesGoOn : Type 0
 CopiesGoOn = (calls : List Call) → All IsCallInForm calls → (database : ℕ) (leaf : Leaf) (provider : Located) (name : List ℕ) → node (history_in (past_of calls) database) ≡ Some (of_leaf leaf)
-    → node_called (world_of (past_of calls)) leaf.provider ≡ Some provider → leaf_state name (Some (of_leaf leaf)) ≡ InCopy
+    → node_called (world_of (past_of calls)) leaf.provider ≡ Some provider → option_map LeafTable.state (table_of name leaf) ≡ Some InCopy
     → GoesOn (database_of (history_in (past_of calls) provider.database)) (database_of (history_in (past_of calls) database)) name (hands (past_of calls) database name)
 
 -- ---- tables of leaves
@@ -239,19 +252,19 @@ pub record IsGivenUp (past now : Past) (d : ℕ) (name : List ℕ) (hand : CopyH
   pub ran : history_in past d ≡ later ++ began (of_copy was.table) was.t ∷ before
   pub undone : IsUndone (history_in now d) before was.table
 
--- `restart NAME TABLE` is done: the table's worker has nothing in hand, and what it had is given up; if it had nothing, no database has changed; the node is
--- as it was, so the table has the state that it had; and if this is the state in which a table is copied, the worker's next move begins a copy, whichever
+-- `restart NAME TABLE` is done: the table's worker has nothing in hand, and a copy that it had is given up; if it had none, no database has changed; the node
+-- is as it was, so the table has the state that it had; and if this is the state in which a table is copied, the worker's next move begins a copy, whichever
 -- database it is from
 pub record IsRestarted (past : Past) (d : ℕ) (name table : List ℕ) : Type 0 where
   pub outcome : WorldOutcome
   pub done : restart_table (world_of past) name table ≡ Ok outcome
   pub put_down : hands (on_top past outcome.facts) d table ≡ None
-  pub given_up : (hand : CopyHand) → hands past d table ≡ Some hand → IsGivenUp past (on_top past outcome.facts) d table hand
-  pub unchanged : hands past d table ≡ None → (e : ℕ) → history_in (on_top past outcome.facts) e ≡ history_in past e
+  pub given_up : (hand : CopyHand) → copy_in_hand past d table ≡ Some hand → IsGivenUp past (on_top past outcome.facts) d table hand
+  pub unchanged : copy_in_hand past d table ≡ None → (e : ℕ) → history_in (on_top past outcome.facts) e ≡ history_in past e
   pub same_node : node (history_in (on_top past outcome.facts) d) ≡ node (history_in past d)
-  pub anew : (p : ℕ) → leaf_state table (node (history_in (on_top past outcome.facts) d)) ≡ InCopy
+  pub anew : (p : ℕ) → option_map LeafTable.state (table_at table (node (history_in (on_top past outcome.facts) d))) ≡ Some InCopy
       → copy_move (database_of (history_in (on_top past outcome.facts) p)) (database_of (history_in (on_top past outcome.facts) d)) table None
-      ≡ starts_copy (database_of (history_in (on_top past outcome.facts) p)) (database_of (history_in (on_top past outcome.facts) d)) table
+      ≡ handing of_copy (starts_copy (database_of (history_in (on_top past outcome.facts) p)) (database_of (history_in (on_top past outcome.facts) d)) table)
 
 -- so it is for each table of a leaf
 abbrev pub RestartsBeginAnew : Type 0
