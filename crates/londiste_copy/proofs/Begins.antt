@@ -1,5 +1,5 @@
 -- A copy begins: what its calls leave in the two databases.
-use Rattle.std.proofs.Common.{◌≡◌, ℕ, ◌+◌, ◌<◌, ◌^◌, Bool, true, false, not, ◌&&◌, ◌||◌, ◌==◌, nat_le, List, [], ◌∷◌, ◌++◌, map, length, find, bytes_eq, Option, Some, None, is_some, option_map, option_and_then, unwrap_or, Ok, Err, refl, sym, ◌∙◌, ap, subst, arith, if◌then◌else◌}
+use Rattle.std.proofs.Common.{◌≡◌, ℕ, ◌+◌, ◌<◌, ◌^◌, Bool, true, false, not, ◌&&◌, ◌==◌, nat_le, List, [], ◌∷◌, ◌++◌, map, length, find, Option, Some, None, is_some, option_map, option_and_then, unwrap_or, Ok, Err, refl, sym, ◌∙◌, ap, subst, arith, if◌then◌else◌}
 use Rattle.std.specs.Result.{is_ok}
 use Rattle.std.proofs.lemmas.Bool.Decides.{nat_tests}
 use Rattle.sky_names.specs.Places.{place_of}
@@ -9,7 +9,7 @@ use Rattle.sky_txid.specs.Snapshot.{SnapshotView}
 use Rattle.londiste_state.specs.Nodes.{Node, of_root, of_leaf}
 use Rattle.sky_model.specs.declared.reply.Limit.TheVariants.{Consumers}
 use Rattle.sky_model.specs.declared.reply.Refusal.{Refusal}
-use Rattle.sky_model.specs.declared.reply.Refusal.TheVariants.{ConsumerExists, IdsSpent, TooMany, TxidsSpent}
+use Rattle.sky_model.specs.declared.reply.Refusal.TheVariants.{ConsumerExists, IdsSpent, TooMany}
 use Rattle.sky_model.specs.declared.reply.Reply.TheVariants.{Done, Number}
 use Rattle.sky_model.specs.History.{of_copy, began, queued, registered, noded, joined, parted}
 use Rattle.sky_model.specs.Rows.{Write}
@@ -27,7 +27,8 @@ use Rattle.sky_model.specs.StepCopy.{copy_write, copy_writes, deletions, rows_no
 use Rattle.sky_model.specs.StepNode.{joining, parting, holding, beginning_copy, joins, parts, set_queue, set_queue_of, is_full, table_number, may_copy, if_there, node_does}
 use Rattle.sky_model.specs.NodesOfWorld.{columns_called}
 use Rattle.sky_model.specs.Hands.{CopyHand}
-use Rattle.sky_model.specs.CopyMoves.{CopyMove, copy_running, held_snapshot, newest_of, first_hand, copy_consumer, behind_calls, next_piece, starts_copy}
+use Rattle.sky_model.specs.WorkerMoves.{Move, behind_calls}
+use Rattle.sky_model.specs.CopyMoves.{copy_running, held_snapshot, newest_of, first_hand, copy_consumer, next_piece, starts_copy}
 use Rattle.sky_model.specs.DatabaseSteps.{IsMade}
 use Rattle.sky_model.proofs.LeastNumbers.{least-free}
 use Rattle.sky_model.proofs.NodeDeeds.{is-served}
@@ -36,8 +37,9 @@ use Rattle.pgq_db.specs.declared.faults.JoinFault.{JoinFault}
 use Rattle.pgq_db.specs.declared.faults.JoinFault.TheVariants as join
 use Rattle.pgq_db.specs.Served.{Serves, JoinRefused}
 use Rattle.pgq_db.proofs.CopySteps.{tabled-marks}
-use Rattle.londiste_copy.specs.Moved.{ServesAll, SameTable, Begun}
-use Rattle.londiste_copy.proofs.Calls.{serves-one, serves-then}
+use Rattle.londiste_batches.specs.Moved.{ServesAll}
+use Rattle.londiste_copy.specs.Copying.{SameTable, Begun}
+use Rattle.londiste_batches.proofs.Calls.{serves-one, serves-then}
 
 -- ---- the consumer leaves the set's queue
 
@@ -226,7 +228,7 @@ module _ (r : Database) (name : List ℕ) (may : may_copy name r.node ≡ true) 
 -- ---- all of this together
 
 module _ (p r : Database) (name : List ℕ) where
-  abbrev first_move : CopyHand → CopyMove
+  abbrev first_move : CopyHand → Move CopyHand
   first_move hand =
       behind_calls (parting (copy_consumer r.node) ∷ joining (copy_consumer r.node) ∷ holding ∷ []) (beginning_copy name ∷ []) (next_piece p name (snapshot_now p.part) hand)
 

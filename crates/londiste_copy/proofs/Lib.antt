@@ -1,4 +1,4 @@
-mod Calls
 mod Pieces
 mod Begins
 mod Moves
+mod CatchingUp

@@ -1,5 +1,5 @@
 -- A whole move, from what its parts did.
-use Rattle.std.proofs.Common.{◌≡◌, ℕ, ◌<◌, ◌≤◌, Bool, true, false, List, [], ◌∷◌, ◌++◌, take, length, nat_lt, Option, Some, None, IfSome, is_some, is_none, option_map, unwrap_or, refl, sym, ◌∙◌, ap, subst, arith, if◌then◌else◌}
+use Rattle.std.proofs.Common.{◌≡◌, ℕ, ◌<◌, ◌≤◌, Bool, true, false, List, [], ◌∷◌, take, length, nat_lt, Option, Some, None, IfSome, is_some, option_map, unwrap_or, refl, sym, ◌∙◌, ap, subst, arith, if◌then◌else◌}
 use Rattle.std.proofs.lemmas.Bool.Decides.{nat_tests}
 use Rattle.sky_val.specs.declared.val.Val.{Val}
 use Rattle.sky_val.specs.Entries.{Entries}
@@ -17,14 +17,15 @@ use Rattle.sky_model.specs.ShownRows.{snapshot_now}
 use Rattle.sky_model.specs.Outcome.{answers, does_marks, marks_of}
 use Rattle.sky_model.specs.StepCopy.{copy_writes, insertions, all_fit, copies_rows}
 use Rattle.sky_model.specs.StepNode.{NodeCall, copying_rows, ending_copy, letting_go, if_there, table_number, may_copy}
-use Rattle.sky_model.specs.NodesOfWorld.{columns_called}
 use Rattle.sky_model.specs.Hands.{CopyHand}
-use Rattle.sky_model.specs.CopyMoves.{CopyMove, behind_calls, columns_for, continues, copies_piece, goes_on, held_snapshot, last_key, next_piece, rows_from, rows_of, starts_copy, under_way}
+use Rattle.sky_model.specs.WorkerMoves.{Move, behind_calls}
+use Rattle.sky_model.specs.CopyMoves.{columns_for, continues, copies_piece, goes_on, held_snapshot, last_key, next_piece, rows_from, rows_of, starts_copy, under_way}
 use Rattle.sky_model.specs.DatabaseSteps.{IsMade}
 use Rattle.sky_model.proofs.NodeDeeds.{is-served}
 use Rattle.pgq_db.specs.Served.{Serves}
-use Rattle.londiste_copy.specs.Moved.{ServesAll, MovesAs, MovesBy, SameTable, Begun, last_row_key}
-use Rattle.londiste_copy.proofs.Calls.{serves-none, serves-one, serves-then, serves-append, made-served_all}
+use Rattle.londiste_batches.specs.Moved.{ServesAll, MovesAs, MovesBy}
+use Rattle.londiste_copy.specs.Copying.{SameTable, Begun, last_row_key}
+use Rattle.londiste_batches.proofs.Calls.{serves-none, serves-one, serves-then, serves-append, made-served_all}
 use Rattle.londiste_copy.proofs.Pieces.{piece-fits, piece-last, piece-count}
 use Rattle.londiste_copy.proofs.Begins.{written-node}
 
@@ -70,7 +71,7 @@ module _ (p r : Database) (made : IsMade p) (name : List ℕ) (v hand : CopyHand
     counts : (s : SnapshotView) → rows ≡ rows_of (rows_from p name s hand.last 1000) → count ≡ length (rows_from p name s hand.last 1000)
     counts s is = counted ∙ ap length is ∙ piece-count (rows_from p name s hand.last 1000)
 
-    abbrev more_to_come : Entries (List Val) → CopyMove
+    abbrev more_to_come : Entries (List Val) → Move CopyHand
     more_to_come es = record {
       provider = [];
       replica = copying_rows name (rows_of es) ∷ [];
@@ -78,7 +79,7 @@ module _ (p r : Database) (made : IsMade p) (name : List ℕ) (v hand : CopyHand
       hand = Some (record hand { last = last_key hand.last es });
     }
 
-    abbrev ends_here : SnapshotView → Entries (List Val) → CopyMove
+    abbrev ends_here : SnapshotView → Entries (List Val) → Move CopyHand
     ends_here s es = record {
       provider = letting_go hand.hold ∷ [];
       replica = copying_rows name (rows_of es) ∷ ending_copy name s hand.tick ∷ [];
@@ -136,7 +137,7 @@ module _ (p r : Database) (made : IsMade p) (name : List ℕ) (v hand : CopyHand
 
 -- ---- a copy begins or goes on
 
-behind : (ps rs : List NodeCall) (move : CopyMove) (p m p_new r n r_new : Database) (replies : List Reply) (hand : Option CopyHand) → ServesAll p m ps → ServesAll r n rs → MovesAs move m p_new n r_new replies hand
+behind : (ps rs : List NodeCall) (move : Move CopyHand) (p m p_new r n r_new : Database) (replies : List Reply) (hand : Option CopyHand) → ServesAll p m ps → ServesAll r n rs → MovesAs move m p_new n r_new replies hand
     → MovesAs (behind_calls ps rs move) p p_new r r_new replies hand
 behind ps rs move p m p_new r n r_new replies hand first also rest = record {
   provider = serves-append p m p_new ps move.provider first rest.provider;
@@ -202,10 +203,10 @@ moves-not p r name before now replies none same printed =
     })
 
 -- by whether a copy runs
-pub goes-first : (p r : Database) (name : List ℕ) (hand : Option CopyHand) (running : Option ℕ) → is_none running ≡ true → goes_on p r name hand running ≡ starts_copy p r name
+pub goes-first : (p r : Database) (name : List ℕ) (hand : Option CopyHand) (running : Option ℕ) → is_some running ≡ false → goes_on p r name hand running ≡ starts_copy p r name
 goes-first p r name hand None none = refl
 goes-first p r name hand (Some t) none = absurd (cc)
 
-pub goes-more : (p r : Database) (name : List ℕ) (hand : Option CopyHand) (running : Option ℕ) → is_none running ≡ false → goes_on p r name hand running ≡ continues p name hand (under_way p hand)
+pub goes-more : (p r : Database) (name : List ℕ) (hand : Option CopyHand) (running : Option ℕ) → is_some running ≡ true → goes_on p r name hand running ≡ continues p name hand (under_way p hand)
 goes-more p r name hand None some = absurd (cc)
 goes-more p r name hand (Some t) some = refl

@@ -9,7 +9,7 @@ use Rattle.sky_val.specs.declared.val.Val.{Val}
 use Rattle.sky_val.specs.declared.column.Column.{Column}
 use Rattle.sky_val.specs.Entries.{Entries, at, is_in_order}
 use Rattle.sky_val.specs.Order.{key_cmp}
-use Rattle.sky_val.specs.Schemas.{key_of, row_fault}
+use Rattle.sky_val.specs.Schemas.{key_of}
 use Rattle.sky_val.proofs.Orders.{key_cmp-IsTotalOrder}
 use Rattle.sky_txid.specs.Snapshot.{SnapshotView}
 use Rattle.sky_keys.specs.declared.version.Version.{Version}
@@ -26,7 +26,7 @@ use Rattle.sky_model.specs.DatabaseCalls.{database_part}
 use Rattle.sky_model.specs.DatabaseSteps.{IsMade}
 use Rattle.sky_model.proofs.RowKeys.{is_in_order-versions}
 use Rattle.sky_model.proofs.MadeCopies.{read-fits}
-use Rattle.londiste_copy.specs.Moved.{last_row_key}
+use Rattle.londiste_copy.specs.Copying.{last_row_key}
 
 -- each entry is a row of a table of these columns, under its key
 abbrev AreRows : List Column → Entries (List Val) → Type 0

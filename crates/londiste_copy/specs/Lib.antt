@@ -1,1 +1,3 @@
-pub mod Moved
+pub mod Hands
+pub mod Copying
+pub mod CatchingUp

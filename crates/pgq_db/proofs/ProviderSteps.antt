@@ -47,6 +47,18 @@ full-if v now q queue consumer count has same set there counted many is =
     let most : nat_le 256 (length queue.members) ≡ true = grind (arith, nat_tests) in
     ap not is ∙ ap (λ b. b && not (is_some (queue.sub consumer))) (sym most) ∙ full-as v now q queue consumer same set there
 
+-- whether a consumer has joined
+pub has-joined : (v now : DbView) (q : ℕ) (queue : Queue) (consumer : List ℕ) (has : Bool) → v ≡ now → set_queue (seen_database now) ≡ Some q → queue ≡ queue_at v.queues q → has ≡ is_some (queue.sub consumer)
+    → has ≡ has_joined (seen_database now) consumer
+has-joined v now q queue consumer has same set there is =
+    is ∙ ap (λ (x : Queue). is_some (x.sub consumer)) (there ∙ ap (λ (w : DbView). queue_at w.queues q) same)
+    ∙ ap (λ o. unwrap_or (option_map (λ n. is_some (((seen_database now).queue n).sub consumer)) o) false) (sym set)
+
+-- whether something is there, seen in another way
+pub is_some-seen : {A B : Type 0} (f : A → B) (o : Option A) → is_some o ≡ is_some (option_map f o)
+is_some-seen f None = refl
+is_some-seen f (Some a) = refl
+
 pub snapshot-as : (v now : DbView) (q id : ℕ) (queue : Queue) (ticks : List Tick) (o : Option SnapshotView) → v ≡ now → set_queue (seen_database now) ≡ Some q → queue ≡ queue_at v.queues q
     → ticks ≡ queue.tick_list → o ≡ option_map Tick.snapshot (tick id ticks) → o ≡ snapshot_of_tick (seen_database now) id
 snapshot-as v now q id queue ticks o same set there are is =

@@ -2,7 +2,6 @@
 //! of the events that are picked, one after another, and stores the tick.
 
 ghost use Rattle.std.specs.Prelude.{◌≡◌, [], ◌∷◌, true, false, Some, IfErr, IfOk, OnErr, OnOk, All, filter, option_copied};
-ghost use Rattle.std.specs.List.{list_any};
 ghost use Rattle.sky_txid.specs.Ids.{contains};
 ghost use Rattle.sky_val.specs.Schemas.{key_of};
 ghost use Rattle.sky_model.specs.declared.reply.Reply.TheVariants.{Number};
@@ -14,7 +13,7 @@ ghost use Rattle.sky_model.specs.Nodes.{after_node};
 ghost use Rattle.sky_model.specs.Outcome.{reply_of};
 ghost use Rattle.sky_model.specs.ShownRows.{snapshot_now};
 ghost use Rattle.sky_model.specs.State.{after_part, after_mark, after_marks};
-ghost use Rattle.sky_model.specs.StepApply.{picks, picked, changes_row, work_write, applies_event, is_of_copied};
+ghost use Rattle.sky_model.specs.StepApply.{picks, picked, changes_row, work_write, applies_event};
 ghost use Rattle.sky_model.specs.StepNode.{applying, may_serve, node_does};
 ghost use Rattle.sky_state.specs.Seen.{seen};
 ghost use Rattle.pgq_queues.specs.Views.{QueuesView};

@@ -38,6 +38,22 @@ impl Db {
         queue.consumer_count() >= Limit::Consumers.most() && !queue.has_consumer(consumer)
     }
 
+    /// Whether a consumer is registered at the set's queue.
+    pub fn has_joined(&self, consumer: &Text) -> bool
+        requires provider { is_some (set_queue (seen_database self.now)) ≡ true }
+        ensures { result ≡ has_joined (seen_database self.now) consumer.now }
+    {
+        let queue = self.queues.queue(self.provided_queue());
+        queue.has_consumer(consumer)
+    }
+
+    /// Whether a batch of this id is active.
+    pub fn has_batch(&self, id: u64) -> bool
+        ensures { result ≡ is_some ((seen_database self.now).batch id) }
+    {
+        self.queues.batch(id).is_some()
+    }
+
     /// Whether the last subscription id has been given.
     pub fn spent(&self) -> bool
         ensures { result ≡ sub_ids_spent (seen_database self.now) }
@@ -113,7 +129,7 @@ impl Db {
     }
 
     /// The events of the active batch of this id, if there is one. The same holds.
-    pub(crate) fn events_of(&mut self, id: u64) -> Result<Option<Vec<Event>>, NoMemory>
+    pub fn events_of(&mut self, id: u64) -> Result<Option<Vec<Event>>, NoMemory>
         ensures events { IfOk result (λ found. option_map (λ events. events.items) found ≡ (shown_by (seen_database self.old)).events id) }
         ensures moments { IfOk result (λ found. IfSome found (λ events. EventsHaveMoments events.items)) }
         ensures same { seen_database self.new ≡ seen_database self.old }

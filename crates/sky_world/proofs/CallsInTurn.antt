@@ -1,8 +1,8 @@
 -- What calls for nodes, one after another, leave in a database and in the world.
-use Rattle.std.proofs.Common.{◌≡◌, ℕ, ◌==◌, List, [], ◌∷◌, ◌++◌, Bool, true, false, map, refl, sym, ◌∙◌, ap, subst, if◌then◌else◌}
+use Rattle.std.proofs.Common.{◌≡◌, ℕ, ◌==◌, List, [], ◌∷◌, ◌++◌, false, map, refl, sym, ◌∙◌, ap, if◌then◌else◌}
 use Rattle.std.proofs.lemmas.List.{map-append}
-use Rattle.sky_model.specs.History.{Mark, Fact, within}
-use Rattle.sky_model.specs.State.{Database, after_marks, changed_at}
+use Rattle.sky_model.specs.History.{Mark, within}
+use Rattle.sky_model.specs.State.{Database, after_marks}
 use Rattle.sky_model.specs.Outcome.{marks_of}
 use Rattle.sky_model.specs.Settling.{ready}
 use Rattle.sky_model.specs.StepNode.{NodeCall, node_does}
@@ -10,7 +10,7 @@ use Rattle.sky_model.specs.World.{World, after_facts}
 use Rattle.sky_model.specs.WorkersOfWorld.{call_facts, calls_facts}
 use Rattle.sky_model.proofs.DatabaseStanding.{after_marks-append}
 use Rattle.sky_model.proofs.Good.{same-session}
-use Rattle.londiste_copy.specs.Moved.{after_call, after_calls}
+use Rattle.londiste_batches.specs.Moved.{after_call, after_calls}
 use Rattle.sky_world.proofs.Worlds.{after_facts-within}
 use Rattle.sky_world.proofs.Resting.{ready-call}
 use Rattle.sky_world.proofs.ServedNodes.{waits-call}

@@ -1,6 +1,5 @@
 -- What the world shows after the code switched a daemon on or off, or did a part of its work.
-use Rattle.std.proofs.Common.{◌≡◌, ℕ, ◌<◌, List, [], Bool, true, false, ◌==◌, Option, Some, None, map, length, append-nil, get_or, refl, sym, ◌∙◌, ap, subst, arith, cond, nat_cmp, if◌then◌else◌, IfSome, ℤ, pos, ◌≤ℤ◌}
-use Rattle.std.proofs.lemmas.Bool.Decides.{nat_tests}
+use Rattle.std.proofs.Common.{◌≡◌, ℕ, ◌<◌, List, [], Bool, true, false, Option, Some, None, map, length, append-nil, get_or, refl, sym, ◌∙◌, ap, subst, arith, cond, nat_cmp, if◌then◌else◌, IfSome, ℤ, pos, ◌≤ℤ◌}
 use Rattle.std.proofs.lemmas.Int.{ints}
 use Rattle.std.specs.BTreeMap.{is_at}
 use Rattle.std.specs.Map.{lookup}
@@ -24,13 +23,9 @@ use Rattle.sky_world.specs.Views.{WorldView}
 use Rattle.sky_world.specs.Seen.{seen_world}
 use Rattle.sky_world.specs.Daemons.{StartedBy}
 use Rattle.sky_world.specs.Works.{Works}
-use Rattle.sky_world.proofs.Worlds.{after_facts-append, store-there, store-changed}
+use Rattle.sky_world.proofs.Worlds.{after_facts-append, entries-updated, store-there, store-changed}
 
 -- ---- the daemons that are on
-
--- the test on an entry's key is equality
-is_at-nat : (k n : ℕ) → is_at (nat_cmp k) n ≡ (k == n)
-is_at-nat k n = grind (arith, nat_tests)
 
 -- a daemon that was started by a moment was started by a later one
 pub started-later : (now later : ℤ) (daemons : List (ℕ × ℤ)) → now ≤ℤ later → StartedBy now daemons → StartedBy later daemons
@@ -49,24 +44,13 @@ started-updated now old new d o updates here all q = subst (λ x. IfSome x (λ s
     by true = here
     by false = all q
 
-daemons-updated : (old new : List (ℕ × ℤ)) (d : ℕ) (o : Option ℤ) → ((q : ℕ) → lookup (is_at (nat_cmp q)) new ≡ cond (is_at (nat_cmp d) q) o (lookup (is_at (nat_cmp q)) old))
-    → (λ n. lookup (is_at (nat_cmp n)) new) ≡ changed_at d (λ _. o) (λ n. lookup (is_at (nat_cmp n)) old)
-daemons-updated old new d o updates = λ i n. pointwise n i
-  where
-    by : (n : ℕ) (b : Bool) → cond b o (lookup (is_at (nat_cmp n)) old) ≡ (if b then o else lookup (is_at (nat_cmp n)) old)
-    by n true = refl
-    by n false = refl
-
-    pointwise : (n : ℕ) → lookup (is_at (nat_cmp n)) new ≡ (if d == n then o else lookup (is_at (nat_cmp n)) old)
-    pointwise n = updates n ∙ ap (λ b. cond b o (lookup (is_at (nat_cmp n)) old)) (is_at-nat d n) ∙ by n (d == n)
-
 -- one is on, from now on
 pub daemon-on-as : (v now : WorldView) (entries : List (ℕ × ℤ)) (d : ℕ) (t : ℤ) (start : Option ℤ) → v ≡ now
     → ((q : ℕ) → lookup (is_at (nat_cmp q)) entries ≡ cond (is_at (nat_cmp d) q) (Some t) (lookup (is_at (nat_cmp q)) v.daemons)) → t ≡ v.now
     → start ≡ (seen_world now).daemons d → None ≡ start
     → seen_world (record v { daemons = entries }) ≡ after_facts (seen_world now) (of_daemon_if true d ((seen_world now).daemons d) PgqdOn)
 daemon-on-as v now entries d t start same updates is at none =
-    (λ i. record (seen_world v) { daemons = daemons-updated v.daemons entries d (Some t) updates i })
+    (λ i. record (seen_world v) { daemons = entries-updated v.daemons entries d (Some t) updates i })
     ∙ ap (λ x. record (seen_world v) { daemons = changed_at d (λ _. Some x) (seen_world v).daemons }) is
     ∙ ap (λ (w : WorldView). after_fact (seen_world w) (daemon_on d)) same
     ∙ ap (λ o. after_facts (seen_world now) (of_daemon_if true d o PgqdOn)) (none ∙ at)
@@ -80,7 +64,7 @@ pub daemon-off-as : (v now : WorldView) (entries : List (ℕ × ℤ)) (d : ℕ) 
     → ((q : ℕ) → lookup (is_at (nat_cmp q)) entries ≡ cond (is_at (nat_cmp d) q) None (lookup (is_at (nat_cmp q)) v.daemons))
     → seen_world (record v { daemons = entries }) ≡ after_facts (seen_world now) (of_daemon_if true d ((seen_world now).daemons d) PgqdOff)
 daemon-off-as v now entries d same updates =
-    (λ i. record (seen_world v) { daemons = daemons-updated v.daemons entries d None updates i })
+    (λ i. record (seen_world v) { daemons = entries-updated v.daemons entries d None updates i })
     ∙ ap (λ (w : WorldView). after_fact (seen_world w) (daemon_off d)) same
     ∙ by ((seen_world now).daemons d)
   where

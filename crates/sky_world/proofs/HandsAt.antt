@@ -1,20 +1,23 @@
--- What the workers that copy tables have in hand, after the list that keeps it has changed.
-use Rattle.std.proofs.Common.{◌≡◌, ℕ, zero, suc, ◌<◌, ◌≤◌, ◌==◌, Bool, true, false, ◌&&◌, List, [], ◌∷◌, ◌++◌, length, get_or, slice_set, bytes_eq, find, position, Option, Some, None, option_and_then, refl, sym, ◌∙◌, ap, subst, arith, if◌then◌else◌}
+-- What the workers of leaves have in hand, after what keeps it has changed.
+use Rattle.std.proofs.Common.{◌≡◌, ℕ, zero, suc, ◌<◌, ◌≤◌, ◌==◌, Bool, true, false, ◌&&◌, List, [], ◌∷◌, ◌++◌, length, get_or, slice_set, bytes_eq, cond, nat_cmp, find, position, Option, Some, None, option_and_then, refl, sym, ◌∙◌, ap, arith, if◌then◌else◌}
 use Rattle.std.proofs.lemmas.Bool.Decides.{nat_tests}
 use Rattle.std.proofs.lemmas.Grind.{common_steps}
 use Rattle.std.proofs.lemmas.List.Quantifiers.{position-Some}
 use Rattle.std.proofs.lemmas.List.Sums.{fails_before_first}
 use Rattle.std.specs.List.{position_or_len}
+use Rattle.std.specs.BTreeMap.{is_at}
+use Rattle.std.specs.Map.{lookup}
 use Rattle.sky_names.proofs.PlaceLemmas.{bytes_eq_refl, same_name}
-use Rattle.sky_model.specs.Hands.{CopyHand}
+use Rattle.sky_model.specs.Hands.{BatchHand, Hand}
 use Rattle.sky_model.specs.State.{changed_at, changed_for}
-use Rattle.sky_model.specs.History.{in_hand}
+use Rattle.sky_model.specs.History.{in_hand, batch_in_hand}
 use Rattle.sky_model.specs.World.{after_facts}
 use Rattle.sky_model.proofs.Cases.{by_test}
-use Rattle.sky_world.specs.Hands.{HandAt, is_hand_of, hand_at}
+use Rattle.sky_world.specs.Hands.{HandAt, is_hand_of, hand_at, batch_at}
 use Rattle.sky_world.specs.Views.{WorldView}
 use Rattle.sky_world.specs.Seen.{seen_world}
 use Rattle.sky_world.specs.Nodes.{Happened}
+use Rattle.sky_world.proofs.Worlds.{entries-updated}
 
 -- whether a table of a database is this one
 abbrev is_it : (d : ℕ) → (t : List ℕ) → (e : ℕ) → (n : List ℕ) → Bool
@@ -38,7 +41,7 @@ other-key d t z isnt e n is =
 
 -- ---- one of them changed
 
-set-first : (d : ℕ) (t : List ℕ) (hand : Option CopyHand) (hands : List HandAt) (at : ℕ) (x : HandAt) → at < length hands → is_hand_of d t (get_or hands at x) ≡ true
+set-first : (d : ℕ) (t : List ℕ) (hand : Option Hand) (hands : List HandAt) (at : ℕ) (x : HandAt) → at < length hands → is_hand_of d t (get_or hands at x) ≡ true
     → ((k : ℕ) → k < at → is_hand_of d t (get_or hands k x) ≡ false) → (e : ℕ) (n : List ℕ)
     → hand_at (slice_set hands at (record (get_or hands at x) { hand = hand })) e n ≡ (if is_it d t e n then hand else hand_at hands e n)
 set-first d t hand [] at x lt is before e n = absurd (omega (arith, lt))
@@ -61,14 +64,14 @@ set-first d t hand (z ∷ zs) (suc at) x lt is before e n =
     by rest false one = rest
 
 -- as functions of the table
-as-changed : (d : ℕ) (t : List ℕ) (hand : Option CopyHand) (f g : ℕ → List ℕ → Option CopyHand) → ((e : ℕ) (n : List ℕ) → g e n ≡ (if is_it d t e n then hand else f e n)) → g ≡ changed_at d (changed_for t (λ _. hand)) f
+as-changed : (d : ℕ) (t : List ℕ) (hand : Option Hand) (f g : ℕ → List ℕ → Option Hand) → ((e : ℕ) (n : List ℕ) → g e n ≡ (if is_it d t e n then hand else f e n)) → g ≡ changed_at d (changed_for t (λ _. hand)) f
 as-changed d t hand f g each = λ i e. by e (d == e) (λ n. each e n) i
   where
     by : (e : ℕ) (b : Bool) → ((n : List ℕ) → g e n ≡ (if b && bytes_eq n t then hand else f e n)) → g e ≡ (if b then changed_for t (λ _. hand) (f e) else f e)
     by e true all = λ i n. all n i
     by e false all = λ i n. all n i
 
-pub hand-set : (d : ℕ) (t : List ℕ) (hand : Option CopyHand) (hands : List HandAt) (at : ℕ) (x : HandAt) → position (is_hand_of d t) hands ≡ Some at
+pub hand-set : (d : ℕ) (t : List ℕ) (hand : Option Hand) (hands : List HandAt) (at : ℕ) (x : HandAt) → position (is_hand_of d t) hands ≡ Some at
     → hand_at (slice_set hands at (record (get_or hands at x) { hand = hand })) ≡ changed_at d (changed_for t (λ _. hand)) (hand_at hands)
 hand-set d t hand hands at x is =
     let found = position-Some (is_hand_of d t) hands at x is in
@@ -107,7 +110,7 @@ push-new d t y (z ∷ zs) is none e n = by (push-new d t y zs is (λ k less. non
     by rest false one = rest
 
 -- one more
-pub hand-pushed : (d : ℕ) (t copied : List ℕ) (hand : Option CopyHand) (hands : List HandAt) → position (is_hand_of d t) hands ≡ None → copied ≡ t
+pub hand-pushed : (d : ℕ) (t copied : List ℕ) (hand : Option Hand) (hands : List HandAt) → position (is_hand_of d t) hands ≡ None → copied ≡ t
     → hand_at (hands ++ record { database = d; table = copied; hand = hand } ∷ []) ≡ changed_at d (changed_for t (λ _. hand)) (hand_at hands)
 hand-pushed d t copied hand hands none same =
     as-changed d t hand (hand_at hands) _ (push-new d t y hands own (none-before d t hands y none))
@@ -128,7 +131,7 @@ hand-none d t hands none = all hands (none-before d t hands (record { database =
         ap (λ b. option_and_then HandAt.hand (if b then Some z else find (is_hand_of d t) zs)) (each zero (omega arith)) ∙ all zs (λ k less. each (suc k) (omega (arith, less)))
 
 -- what is put there again changes nothing
-pub put-back : (d : ℕ) (t : List ℕ) (hand : Option CopyHand) (f : ℕ → List ℕ → Option CopyHand) → f d t ≡ hand → changed_at d (changed_for t (λ _. hand)) f ≡ f
+pub put-back : (d : ℕ) (t : List ℕ) (hand : Option Hand) (f : ℕ → List ℕ → Option Hand) → f d t ≡ hand → changed_at d (changed_for t (λ _. hand)) f ≡ f
 put-back d t hand f is = sym (as-changed d t hand f f (λ e n. by e n (is_it d t e n) refl))
   where
     by : (e : ℕ) (n : List ℕ) (b : Bool) → is_it d t e n ≡ b → f e n ≡ (if b then hand else f e n)
@@ -139,11 +142,11 @@ put-back d t hand f is = sym (as-changed d t hand f f (λ e n. by e n (is_it d t
     by e n false it = refl
 
 -- the last change of one counts
-pub changed-twice : (d : ℕ) (t : List ℕ) (hand first : Option CopyHand) (f : ℕ → List ℕ → Option CopyHand)
+pub changed-twice : (d : ℕ) (t : List ℕ) (hand first : Option Hand) (f : ℕ → List ℕ → Option Hand)
     → changed_at d (changed_for t (λ _. hand)) (changed_at d (changed_for t (λ _. first)) f) ≡ changed_at d (changed_for t (λ _. hand)) f
 changed-twice d t hand first f = λ i e. by e (d == e) i
   where
-    names : (g : List ℕ → Option CopyHand) (n : List ℕ) (b : Bool) → (if b then hand else (if b then first else g n)) ≡ (if b then hand else g n)
+    names : (g : List ℕ → Option Hand) (n : List ℕ) (b : Bool) → (if b then hand else (if b then first else g n)) ≡ (if b then hand else g n)
     names g n true = refl
     names g n false = refl
 
@@ -153,7 +156,7 @@ changed-twice d t hand first f = λ i e. by e (d == e) i
 
 -- ---- as the code keeps it
 
-abbrev with_hand : HandAt → Option CopyHand → HandAt
+abbrev with_hand : HandAt → Option Hand → HandAt
 with_hand x hand = record x { hand = hand }
 
 -- what the worker at a place has in hand
@@ -162,17 +165,31 @@ hand-of d t hands now at x z same is at_x z_x =
     hand-there d t now at x is ∙ ap (λ hs. HandAt.hand (get_or hs at x)) (sym same) ∙ ap HandAt.hand (sym at_x ∙ sym z_x)
 
 -- it has this in hand from now on
-pub hand-stored : (d : ℕ) (t : List ℕ) (hand h : Option CopyHand) (hands now : List HandAt) (at : ℕ) (x z : HandAt) → hands ≡ now → position (is_hand_of d t) now ≡ Some at → x ≡ get_or hands at x → z ≡ x → h ≡ hand
+pub hand-stored : (d : ℕ) (t : List ℕ) (hand h : Option Hand) (hands now : List HandAt) (at : ℕ) (x z : HandAt) → hands ≡ now → position (is_hand_of d t) now ≡ Some at → x ≡ get_or hands at x → z ≡ x → h ≡ hand
     → hand_at (slice_set hands at (record z { hand = h })) ≡ changed_at d (changed_for t (λ _. hand)) (hand_at now)
 hand-stored d t hand h hands now at x z same is at_x z_x h_is =
     (λ i. hand_at (slice_set (same i) at (with_hand ((z_x ∙ at_x ∙ ap (λ hs. get_or hs at x) same) i) (h_is i))))
     ∙ hand-set d t hand now at x is
 
 -- a new one has
-pub hand-added : (d : ℕ) (t copied : List ℕ) (hand : Option CopyHand) (hands now more : List HandAt) → hands ≡ now → position (is_hand_of d t) now ≡ None → copied ≡ t
+pub hand-added : (d : ℕ) (t copied : List ℕ) (hand : Option Hand) (hands now more : List HandAt) → hands ≡ now → position (is_hand_of d t) now ≡ None → copied ≡ t
     → more ≡ hands ++ record { database = d; table = copied; hand = hand } ∷ [] → hand_at more ≡ changed_at d (changed_for t (λ _. hand)) (hand_at now)
 hand-added d t copied hand hands now more same none copied_is is =
     ap hand_at (is ∙ ap (λ hs. hs ++ record { database = d; table = copied; hand = hand } ∷ []) same) ∙ hand-pushed d t copied hand now none copied_is
+
+-- ---- the batches of leaves
+
+pub batch-set : (d : ℕ) (batch : Option BatchHand) (old new : List (ℕ × BatchHand)) → ((q : ℕ) → lookup (is_at (nat_cmp q)) new ≡ cond (is_at (nat_cmp d) q) batch (lookup (is_at (nat_cmp q)) old))
+    → batch_at new ≡ changed_at d (λ _. batch) (batch_at old)
+batch-set d batch old new updates = entries-updated old new d batch updates
+
+-- what is put there again changes nothing
+pub batch-back : (d : ℕ) (batch : Option BatchHand) (f : ℕ → Option BatchHand) → f d ≡ batch → changed_at d (λ _. batch) f ≡ f
+batch-back d batch f is = λ i e. by e (d == e) refl i
+  where
+    by : (e : ℕ) (b : Bool) → (d == e) ≡ b → (if b then batch else f e) ≡ f e
+    by e true it = let number : d ≡ e = grind (arith, nat_tests, it) in sym is ∙ ap f number
+    by e false it = refl
 
 -- ---- in the world
 
@@ -181,6 +198,16 @@ pub emptied-there : (v now : WorldView) (d : ℕ) (table : List ℕ) (hands : Li
     → Happened now (record v { hands = hands }) (in_hand d table None ∷ [])
 emptied-there v now d table hands same is = record {
   changed = (λ i. record (seen_world v) { hands = is i }) ∙ ap (λ (w : WorldView). after_facts (seen_world w) (in_hand d table None ∷ [])) same;
+  sessions = ap (λ (w : WorldView). w.sessions.names) same;
+  databases = ap (λ (w : WorldView). w.databases.names) same;
+  failed = ap (λ (w : WorldView). w.has_failed) same;
+}
+
+-- the worker of a leaf has
+pub batch-emptied : (v now : WorldView) (d : ℕ) (batches : List (ℕ × BatchHand)) → v ≡ now → batch_at batches ≡ changed_at d (λ _. None) (batch_at v.batches)
+    → Happened now (record v { batches = batches }) (batch_in_hand d None ∷ [])
+batch-emptied v now d batches same is = record {
+  changed = (λ i. record (seen_world v) { batches = is i }) ∙ ap (λ (w : WorldView). after_facts (seen_world w) (batch_in_hand d None ∷ [])) same;
   sessions = ap (λ (w : WorldView). w.sessions.names) same;
   databases = ap (λ (w : WorldView). w.databases.names) same;
   failed = ap (λ (w : WorldView). w.has_failed) same;

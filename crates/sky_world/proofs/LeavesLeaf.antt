@@ -1,8 +1,8 @@
 -- A table leaves a leaf, step by step.
-use Rattle.std.proofs.Common.{◌≡◌, ℕ, ◌==◌, List, [], ◌∷◌, ◌++◌, Bool, true, false, map, append-nil, Option, Some, None, Ok, option_map, is_some, refl, sym, ◌∙◌, ap, subst, if◌then◌else◌}
+use Rattle.std.proofs.Common.{◌≡◌, ℕ, ◌==◌, List, [], ◌∷◌, ◌++◌, Bool, true, false, append-nil, Option, Some, None, Ok, option_map, is_some, refl, sym, ◌∙◌, ap, subst, if◌then◌else◌}
 use Rattle.std.specs.List.{list_any}
 use Rattle.sky_model.specs.declared.reply.Reply.TheVariants.{Done, Null}
-use Rattle.sky_model.specs.Hands.{CopyHand}
+use Rattle.sky_model.specs.Hands.{CopyHand, Hand, copy_in}
 use Rattle.sky_model.specs.History.{Fact, in_hand, noded, hold_ended}
 use Rattle.sky_model.specs.Copies.{Hold}
 use Rattle.sky_model.specs.State.{Database, after_marks}
@@ -11,7 +11,7 @@ use Rattle.sky_model.specs.StepNode.{NodeCall, removing, set_queue}
 use Rattle.sky_model.specs.World.{World, after_facts}
 use Rattle.sky_model.specs.CopyMoves.{lets_go_for}
 use Rattle.sky_model.specs.WorkersOfWorld.{call_facts, calls_facts, move_facts, moves}
-use Rattle.londiste_copy.specs.Moved.{after_calls}
+use Rattle.londiste_batches.specs.Moved.{after_calls}
 use Rattle.sky_world.specs.Views.{WorldView}
 use Rattle.sky_world.specs.Seen.{seen_world}
 use Rattle.sky_world.specs.Nodes.{Happened, Does}
@@ -68,15 +68,15 @@ queue-happened old new p hold happened root = ap (λ d. is_some (set_queue d)) (
 
 -- ---- all of them
 
-lets-go : (hand : Option CopyHand) → lets_go_with (option_map CopyHand.hold hand) ≡ lets_go_for hand
+lets-go : (copy : Option CopyHand) → lets_go_with (option_map CopyHand.hold copy) ≡ lets_go_for copy
 lets-go None = refl
-lets-go (Some hand) = refl
+lets-go (Some copy) = refl
 
-pub left-leaf : (old a b c new : WorldView) (p d : ℕ) (table : List ℕ) (hold : Option ℕ) (consumer : Option (List ℕ)) (hand : Option CopyHand) → hold ≡ option_map CopyHand.hold hand
+pub left-leaf : (old a b c new : WorldView) (p d : ℕ) (table : List ℕ) (hold : Option ℕ) (consumer : Option (List ℕ)) (hand : Option Hand) → hold ≡ option_map CopyHand.hold (copy_in hand)
     → Happened old a (calls_facts (seen_world old) p (lets_go_with hold)) → Happened a b (calls_facts (seen_world a) p (parts_with consumer)) → Happened b c (call_facts (seen_world b) d (removing table))
-    → Happened c new (in_hand d table None ∷ []) → Does old new Done (moves (seen_world old) p d table (Ok (leaving table consumer hand)))
+    → Happened c new (in_hand d table None ∷ []) → Does old new Done (moves (seen_world old) p d (in_hand d table) (Ok (leaving table consumer hand)))
 left-leaf old a b c new p d table hold consumer hand is first second third last = record {
-  facts = move_facts w p d table (leaving table consumer hand);
+  facts = move_facts w p d (in_hand d table) (leaving table consumer hand);
   outcome = refl;
   moments = tt;
   happened = record {
@@ -91,7 +91,7 @@ left-leaf old a b c new p d table hold consumer hand is first second third last 
     w = seen_world old
 
     calls : List NodeCall
-    calls = lets_go_for hand ++ parts_with consumer
+    calls = lets_go_for (copy_in hand) ++ parts_with consumer
 
     v : World
     v = after_facts w (calls_facts w p calls)
@@ -100,9 +100,9 @@ left-leaf old a b c new p d table hold consumer hand is first second third last 
     both =
         second.changed ∙ ap (λ x. after_facts x (calls_facts x p (parts_with consumer))) first.changed
         ∙ sym (calls-then w p (lets_go_with hold) (parts_with consumer))
-        ∙ ap (λ xs. after_facts w (calls_facts w p (xs ++ parts_with consumer))) (ap lets_go_with is ∙ lets-go hand)
+        ∙ ap (λ xs. after_facts w (calls_facts w p (xs ++ parts_with consumer))) (ap lets_go_with is ∙ lets-go (copy_in hand))
 
-    whole : after_facts w (move_facts w p d table (leaving table consumer hand)) ≡ after_facts (after_facts v (call_facts v d (removing table))) (in_hand d table None ∷ [])
+    whole : after_facts w (move_facts w p d (in_hand d table) (leaving table consumer hand)) ≡ after_facts (after_facts v (call_facts v d (removing table))) (in_hand d table None ∷ [])
     whole =
         after_facts-append w (calls_facts w p calls) (calls_facts v d (removing table ∷ []) ++ in_hand d table None ∷ [])
         ∙ after_facts-append v (calls_facts v d (removing table ∷ [])) (in_hand d table None ∷ [])

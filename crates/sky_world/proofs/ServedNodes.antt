@@ -1,7 +1,7 @@
 -- What the world shows after a statement on nodes.
 use Rattle.std.proofs.Common.{All, ◌≡◌, ℕ, ◌<◌, List, [], ◌∷◌, ◌++◌, Bool, true, false, ◌==◌, ◌&&◌, map, length, Option, Some, None, not, is_some, is_ok, option_map, append-nil, Result, Ok, Err, get_or, refl, sym, ◌∙◌, ap, subst, arith, if◌then◌else◌}
 use Rattle.std.specs.Option.{is_none}
-use Rattle.std.specs.Result.{IsErrAnd, IfOk, OnOk}
+use Rattle.std.specs.Result.{IsErrAnd, IfErr, IfOk, OnOk}
 use Rattle.std.proofs.lemmas.Bool.Decides.{nat_tests}
 use Rattle.sky_val.specs.declared.column.Column.{Column}
 use Rattle.std.proofs.lemmas.List.Elements.{All-nil, All-cons, All-head, All-tail, All-from_recursion}
@@ -19,7 +19,7 @@ use Rattle.sky_model.specs.declared.reply.Refusal.TheVariants.{AlreadyInSet, Nod
 use Rattle.sky_model.specs.declared.stop.Stop.{Stop}
 use Rattle.sky_model.specs.declared.stop.Stop.TheVariants as halt
 use Rattle.sky_model.specs.declared.stop.Stop.TheVariants.{NoMemory}
-use Rattle.sky_model.specs.History.{Mark, Fact, within, queued, registered, unregistered, opened, closed, traced, untraced, tabled, wrote, read_only, noded, leaf_made, node_made, of_worker, of_copy, began, ended}
+use Rattle.sky_model.specs.History.{Mark, Fact, within, queued, registered, unregistered, opened, closed, traced, untraced, tabled, wrote, read_only, noded, leaf_made, node_made, of_worker, of_copy, began, ended, in_hand}
 use Rattle.sky_model.specs.State.{RowPart, Database, after_mark, after_marks}
 use Rattle.sky_model.specs.World.{World, after_facts}
 use Rattle.sky_model.specs.Outcome.{Outcome, Checked, ◌>>=◌, ◌>>◌, refused_if, refused_by, found_or, marks_of}
@@ -436,6 +436,12 @@ stops-then v (Err e) stop check rest checked is errs stops = subst (λ r. Ran v 
     by NoMemory none = tt
     by (halt.Refused refusal) refused = (is ∙ ap (λ c. c >>= rest) refused, record { shown = refl; failed = refl })
 
+-- the same of one that answers something else
+pub halts-then : {A B : Type 0} (v : WorldView) (result : Result B Stop) (stop : Stop) (check : Checked A) (rest : A → Checked WorldOutcome) (checked : Checked WorldOutcome) → checked ≡ (check >>= rest)
+    → IsErrAnd result (λ e. e ≡ stop) → StopsAs stop check → IfErr result (λ s. Stopped v v s checked)
+halts-then v (Ok b) stop check rest checked is errs stops = tt
+halts-then v (Err e) stop check rest checked is errs stops = stops-then v (Err e) stop check rest checked is errs stops
+
 -- ---- `add_table` and `remove_table`
 
 -- the database of a node doesn't have the table
@@ -538,6 +544,6 @@ remove-from_root w name table d r there among has =
 
 pub remove-from_leaf : (w : World) (name table : List ℕ) (d : ℕ) (l : Leaf) → node_called w name ≡ Some (record { database = d; node = of_leaf l }) → is_among table (tables_of (of_leaf l)) ≡ true
     → is_some (columns_called table (w.database d)) ≡ true
-    → remove_table w name table ≡ (source w l table >>= (λ p. moves w p d table (Ok (leaves_leaf l table (w.hands d table)))))
+    → remove_table w name table ≡ (source w l table >>= (λ p. moves w p d (in_hand d table) (Ok (leaves_leaf l table (w.hands d table)))))
 remove-from_leaf w name table d l there among has =
     remove-goes w name table (record { database = d; node = of_leaf l }) there among ∙ numbered w d table (λ t. removes_from w d t table (of_leaf l)) _ has (λ t number. refl)

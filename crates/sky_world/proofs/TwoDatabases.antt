@@ -1,20 +1,20 @@
 -- A move of a worker changes two databases, and what the worker has in hand.
-use Rattle.std.proofs.Common.{◌≡◌, ◌≢◌, ℕ, ◌<◌, ◌==◌, List, [], ◌∷◌, ◌++◌, Bool, true, false, map, length, get_or, slice_set, get_or-set_other, All, Option, refl, sym, ◌∙◌, ap, subst, arith, if◌then◌else◌}
+use Rattle.std.proofs.Common.{◌≡◌, ℕ, ◌<◌, ◌==◌, List, [], ◌∷◌, ◌++◌, Bool, true, false, map, length, get_or, slice_set, get_or-set_other, All, Option, refl, sym, ◌∙◌, ap, subst, arith, if◌then◌else◌}
 use Rattle.std.proofs.lemmas.Bool.Decides.{nat_tests}
 use Rattle.std.proofs.lemmas.List.{length-set}
 use Rattle.std.proofs.lemmas.List.Elements.{All-set, All-get_or}
 use Rattle.std.proofs.lemmas.Option.{get_or_from_slice_get, slice_get_read}
 use Rattle.sky_names.specs.Named.{with_value}
-use Rattle.sky_model.specs.Hands.{CopyHand}
-use Rattle.sky_model.specs.History.{Mark, Fact, within, in_hand}
-use Rattle.sky_model.specs.State.{Database, after_marks, changed_at, changed_for}
-use Rattle.sky_model.specs.CopyMoves.{CopyMove}
-use Rattle.sky_model.specs.World.{World, after_facts}
+use Rattle.sky_model.specs.Hands.{BatchHand}
+use Rattle.sky_model.specs.History.{Mark, Fact, within}
+use Rattle.sky_model.specs.State.{Database, after_marks, changed_at}
+use Rattle.sky_model.specs.WorkerMoves.{Move}
+use Rattle.sky_model.specs.World.{World, after_fact, after_facts}
 use Rattle.sky_model.specs.WorkersOfWorld.{calls_facts, move_facts}
 use Rattle.pgq_db.specs.Views.{DbView}
 use Rattle.pgq_db.specs.Seen.{seen_database, no_database}
-use Rattle.londiste_copy.specs.Moved.{after_calls}
-use Rattle.sky_world.specs.Hands.{HandAt, hand_at}
+use Rattle.londiste_batches.specs.Moved.{after_calls}
+use Rattle.sky_world.specs.Hands.{HandAt, hand_at, batch_at}
 use Rattle.sky_world.specs.Views.{WorldView}
 use Rattle.sky_world.specs.Seen.{seen_world}
 use Rattle.sky_world.specs.Nodes.{Happened}
@@ -23,24 +23,24 @@ use Rattle.sky_world.proofs.CallsInTurn.{marks_of_all, after-all, facts-all, unc
 
 -- ---- the facts of a move
 
-moved-facts : (w : World) (p d : ℕ) (table : List ℕ) (move : CopyMove) → (p == d) ≡ false
-    → move_facts w p d table move ≡ map (within p) (marks_of_all (w.database p) move.provider) ++ (map (within d) (marks_of_all (w.database d) move.replica) ++ in_hand d table move.hand ∷ [])
-moved-facts w p d table move apart =
-    ap (λ there. there ++ (calls_facts (after_facts w there) d move.replica ++ in_hand d table move.hand ∷ [])) (facts-all w p move.provider)
-    ∙ ap (λ here. map (within p) marks ++ (here ++ in_hand d table move.hand ∷ []))
+moved-facts : {H : Type 0} (w : World) (p d : ℕ) (handed : Option H → Fact) (move : Move H) → (p == d) ≡ false
+    → move_facts w p d handed move ≡ map (within p) (marks_of_all (w.database p) move.provider) ++ (map (within d) (marks_of_all (w.database d) move.replica) ++ handed move.hand ∷ [])
+moved-facts w p d handed move apart =
+    ap (λ there. there ++ (calls_facts (after_facts w there) d move.replica ++ handed move.hand ∷ [])) (facts-all w p move.provider)
+    ∙ ap (λ here. map (within p) marks ++ (here ++ handed move.hand ∷ []))
     (facts-all (after_facts w (map (within p) marks)) d move.replica ∙ ap (λ x. map (within d) (marks_of_all x move.replica)) (unchanged-there w p d marks apart))
   where
     marks : List Mark
     marks = marks_of_all (w.database p) move.provider
 
-after-moved : (w : World) (p d : ℕ) (ps ds : List Mark) (table : List ℕ) (hand : Option CopyHand)
-    → after_facts w (map (within p) ps ++ (map (within d) ds ++ in_hand d table hand ∷ []))
-    ≡ record w { database = changed_at d (λ x. after_marks x ds) (changed_at p (λ x. after_marks x ps) w.database); hands = changed_at d (changed_for table (λ _. hand)) w.hands }
-after-moved w p d ps ds table hand =
-    after_facts-append w (map (within p) ps) (map (within d) ds ++ in_hand d table hand ∷ [])
-    ∙ ap (λ x. after_facts x (map (within d) ds ++ in_hand d table hand ∷ [])) (after_facts-within w p ps)
-    ∙ after_facts-append v (map (within d) ds) (in_hand d table hand ∷ [])
-    ∙ ap (λ x. after_facts x (in_hand d table hand ∷ [])) (after_facts-within v d ds)
+after-moved : (w : World) (p d : ℕ) (ps ds : List Mark) (last : Fact)
+    → after_facts w (map (within p) ps ++ (map (within d) ds ++ last ∷ []))
+    ≡ after_fact (record w { database = changed_at d (λ x. after_marks x ds) (changed_at p (λ x. after_marks x ps) w.database) }) last
+after-moved w p d ps ds last =
+    after_facts-append w (map (within p) ps) (map (within d) ds ++ last ∷ [])
+    ∙ ap (λ x. after_facts x (map (within d) ds ++ last ∷ [])) (after_facts-within w p ps)
+    ∙ after_facts-append v (map (within d) ds) (last ∷ [])
+    ∙ ap (λ x. after_facts x (last ∷ [])) (after_facts-within v d ds)
   where
     v : World
     v = record w { database = changed_at p (λ x. after_marks x ps) w.database }
@@ -81,15 +81,23 @@ both-kept P stores p d empty p_old p_new d_old d_new p_lt d_lt apart p_at d_at n
 
 -- ---- what the world shows then
 
-pub shows-both : (v : WorldView) (p d : ℕ) (table : List ℕ) (hand : Option CopyHand) (ps ds : List Mark) (empty p_old p_new d_old d_new : DbView) (hands : List HandAt) → p < length v.databases.values
+-- what is kept as in hand is what a fact puts there
+abbrev pub PutInHand : WorldView → List HandAt → List (ℕ × BatchHand) → Fact → Type 0
+PutInHand v hands batches last =
+    (stores : ℕ → Database) → record (seen_world v) { database = stores; hands = hand_at hands; batches = batch_at batches } ≡ after_fact (record (seen_world v) { database = stores }) last
+
+shows-both : (v : WorldView) (p d : ℕ) (last : Fact) (ps ds : List Mark) (empty p_old p_new d_old d_new : DbView) (hands : List HandAt) (batches : List (ℕ × BatchHand)) → p < length v.databases.values
     → d < length v.databases.values → (p == d) ≡ false → p_old ≡ get_or v.databases.values p p_old → d_old ≡ get_or (slice_set v.databases.values p empty) d d_old
-    → seen_database p_new ≡ after_marks (seen_database p_old) ps → seen_database d_new ≡ after_marks (seen_database d_old) ds → hand_at hands ≡ changed_at d (changed_for table (λ _. hand)) (hand_at v.hands)
-    → seen_world (record v { databases = with_value (with_value (with_value v.databases p empty) d d_new) p p_new; hands = hands })
-    ≡ record (seen_world v) { database = changed_at d (λ x. after_marks x ds) (changed_at p (λ x. after_marks x ps) (seen_world v).database); hands = changed_at d (changed_for table (λ _. hand)) (seen_world v).hands }
-shows-both v p d table hand ps ds empty p_old p_new d_old d_new hands p_lt d_lt apart p_at d_at p_is d_is in_hands = λ i. record (seen_world v) {
-  database = λ n. (ap seen_database (read-both v.databases.values p d n empty d_new p_new p_lt d_lt) ∙ by n (p == n) (d == n) refl refl) i;
-  hands = in_hands i;
-}
+    → seen_database p_new ≡ after_marks (seen_database p_old) ps → seen_database d_new ≡ after_marks (seen_database d_old) ds → PutInHand v hands batches last
+    → seen_world (record v { databases = with_value (with_value (with_value v.databases p empty) d d_new) p p_new; hands = hands; batches = batches })
+    ≡ after_fact (record (seen_world v) { database = changed_at d (λ x. after_marks x ds) (changed_at p (λ x. after_marks x ps) (seen_world v).database) }) last
+shows-both v p d last ps ds empty p_old p_new d_old d_new hands batches p_lt d_lt apart p_at d_at p_is d_is put =
+    (λ i. record (seen_world v) {
+      database = λ n. (ap seen_database (read-both v.databases.values p d n empty d_new p_new p_lt d_lt) ∙ by n (p == n) (d == n) refl refl) i;
+      hands = hand_at hands;
+      batches = batch_at batches;
+    })
+    ∙ put (changed_at d (λ x. after_marks x ds) (changed_at p (λ x. after_marks x ps) (seen_world v).database))
   where
     stores : List DbView
     stores = v.databases.values
@@ -106,19 +114,18 @@ shows-both v p d table hand ps ds empty p_old p_new d_old d_new hands p_lt d_lt 
         d_is ∙ ap (λ (x : DbView). after_marks (seen_database x) ds) (sym (second-there stores p d empty d_old d_lt apart d_at)) ∙ ap (λ k. after_marks (seen_database (get_or stores k no_database)) ds) same
     by n false false one also = refl
 
-pub moved-there : (v now : WorldView) (p d : ℕ) (table : List ℕ) (move : CopyMove) (empty p_old p_new d_old d_new : DbView) (hands : List HandAt) → v ≡ now → p < length v.databases.values → d < length v.databases.values
-    → (p == d) ≡ false → p_old ≡ get_or v.databases.values p p_old → d_old ≡ get_or (slice_set v.databases.values p empty) d d_old
-    → seen_database p_new ≡ after_calls (seen_database p_old) move.provider → seen_database d_new ≡ after_calls (seen_database d_old) move.replica
-    → hand_at hands ≡ changed_at d (changed_for table (λ _. move.hand)) (hand_at v.hands)
-    → Happened now (record v { databases = with_value (with_value (with_value v.databases p empty) d d_new) p p_new; hands = hands }) (move_facts (seen_world now) p d table move)
-moved-there v now p d table move empty p_old p_new d_old d_new hands same p_lt d_lt apart p_at d_at p_is d_is in_hands =
-    subst (λ (w : WorldView). Happened w (record v { databases = with_value (with_value (with_value v.databases p empty) d d_new) p p_new; hands = hands }) (move_facts (seen_world w) p d table move)) same (record {
-      changed = shows-both v p d table move.hand ps ds empty p_old p_new d_old d_new hands p_lt d_lt apart p_at d_at
+pub moved-there : {H : Type 0} (v now : WorldView) (p d : ℕ) (handed : Option H → Fact) (move : Move H) (empty p_old p_new d_old d_new : DbView) (hands : List HandAt) (batches : List (ℕ × BatchHand)) → v ≡ now
+    → p < length v.databases.values → d < length v.databases.values → (p == d) ≡ false → p_old ≡ get_or v.databases.values p p_old → d_old ≡ get_or (slice_set v.databases.values p empty) d d_old
+    → seen_database p_new ≡ after_calls (seen_database p_old) move.provider → seen_database d_new ≡ after_calls (seen_database d_old) move.replica → PutInHand v hands batches (handed move.hand)
+    → Happened now (record v { databases = with_value (with_value (with_value v.databases p empty) d d_new) p p_new; hands = hands; batches = batches }) (move_facts (seen_world now) p d handed move)
+moved-there v now p d handed move empty p_old p_new d_old d_new hands batches same p_lt d_lt apart p_at d_at p_is d_is put =
+    subst (λ (w : WorldView). Happened w (record v { databases = with_value (with_value (with_value v.databases p empty) d d_new) p p_new; hands = hands; batches = batches }) (move_facts (seen_world w) p d handed move)) same (record {
+      changed = shows-both v p d (handed move.hand) ps ds empty p_old p_new d_old d_new hands batches p_lt d_lt apart p_at d_at
           (p_is ∙ after-all (seen_database p_old) move.provider ∙ ap (λ (x : DbView). after_marks (seen_database p_old) (marks_of_all (seen_database x) move.provider)) (sym (first-there stores p p_old p_lt p_at)))
           (d_is ∙ after-all (seen_database d_old) move.replica ∙ ap (λ (x : DbView). after_marks (seen_database d_old) (marks_of_all (seen_database x) move.replica)) (sym (second-there stores p d empty d_old d_lt apart d_at)))
-          in_hands
-          ∙ sym (after-moved (seen_world v) p d ps ds table move.hand)
-          ∙ ap (after_facts (seen_world v)) (sym (moved-facts (seen_world v) p d table move apart));
+          put
+          ∙ sym (after-moved (seen_world v) p d ps ds (handed move.hand))
+          ∙ ap (after_facts (seen_world v)) (sym (moved-facts (seen_world v) p d handed move apart));
       sessions = refl;
       databases = refl;
       failed = refl;

@@ -1,5 +1,5 @@
--- What the world shows after its worker went by two databases.
-use Rattle.std.proofs.Common.{◌≡◌, ℕ, ◌<◌, ◌==◌, List, [], ◌∷◌, ◌++◌, Bool, true, false, map, length, get_or, slice_set, get_or-set_same, get_or-set_other, All, Option, Some, None, Result, Ok, Err, IfOk, IfErr, is_ok, refl, sym, ◌∙◌, ap, subst, arith, if◌then◌else◌}
+-- What the world shows after a worker went by two databases.
+use Rattle.std.proofs.Common.{◌≡◌, ℕ, ◌<◌, ◌==◌, List, [], ◌∷◌, Bool, true, false, length, get_or, slice_set, get_or-set_same, get_or-set_other, All, Option, None, Result, Ok, Err, IfOk, IfErr, is_ok, refl, sym, ◌∙◌, ap, subst, arith}
 use Rattle.std.specs.Result.{OnOk, OnErr}
 use Rattle.std.proofs.lemmas.Bool.Decides.{nat_tests}
 use Rattle.std.proofs.lemmas.List.{length-set}
@@ -8,41 +8,45 @@ use Rattle.sky_model.specs.declared.reply.Reply.{Reply}
 use Rattle.sky_model.specs.declared.reply.Refusal.{Refusal}
 use Rattle.sky_model.specs.declared.reply.Refusal.TheVariants.{IdsSpent, TooMany, TxidsSpent}
 use Rattle.sky_model.specs.declared.reply.Limit.TheVariants.{Consumers}
-use Rattle.sky_model.specs.Hands.{CopyHand}
-use Rattle.sky_model.specs.History.{Fact, in_hand}
+use Rattle.sky_model.specs.declared.stop.Stop.{Stop}
+use Rattle.sky_model.specs.declared.stop.Stop.TheVariants as stop
+use Rattle.sky_model.specs.Hands.{BatchHand, Hand}
+use Rattle.sky_model.specs.History.{Fact, in_hand, batch_in_hand}
 use Rattle.sky_model.specs.State.{Database, database_of, after_marks, changed_at, changed_for}
 use Rattle.sky_model.specs.Printed.{ReplyHasMoments}
 use Rattle.sky_model.specs.Outcome.{Outcome, Checked, marks_of}
 use Rattle.sky_model.specs.Settling.{ready}
 use Rattle.sky_model.specs.DatabaseSteps.{IsMade}
 use Rattle.sky_model.specs.StepNode.{NodeCall, node_does}
-use Rattle.sky_model.specs.CopyMoves.{CopyMove, copy_move, gives_up_in}
+use Rattle.sky_model.specs.WorkerMoves.{Move}
+use Rattle.sky_model.specs.CopyMoves.{copy_move, gives_up_in}
+use Rattle.sky_model.specs.ReplayMoves.{replay_move}
 use Rattle.sky_model.specs.Stops.{Refuses}
-use Rattle.sky_model.specs.World.{World, after_facts}
+use Rattle.sky_model.specs.World.{World, after_fact}
 use Rattle.sky_model.specs.WorkersOfWorld.{move_facts, moves, restarting}
 use Rattle.sky_model.specs.NodesOfWorld.{WorldOutcome}
 use Rattle.pgq_db.specs.Views.{DbView}
-use Rattle.pgq_db.specs.Seen.{seen_database, no_database}
+use Rattle.pgq_db.specs.Seen.{seen_database}
 use Rattle.pgq_db.specs.Waiters.{WaitersWithin}
 use Rattle.pgq_db.specs.declared.faults.WorkerFault.{WorkerFault}
 use Rattle.pgq_db.specs.declared.faults.WorkerFault.TheVariants as fault
-use Rattle.londiste_copy.specs.Moved.{after_call, after_calls, MovesAs, MovesBy, MoveRefused}
+use Rattle.londiste_batches.specs.Moved.{after_call, after_calls, MovesAs, MovesBy, MoveRefused}
 use Rattle.sky_model.specs.Daemon.{quietly}
 use Rattle.sky_model.specs.DatabaseCalls.{served}
 use Rattle.sky_model.proofs.MadeCopies.{made-after}
 use Rattle.pgq_db.proofs.NodeSteps.{serves-steps}
-use Rattle.sky_world.specs.Hands.{HandAt, hand_at}
+use Rattle.sky_world.specs.Hands.{HandAt, hand_at, batch_at}
 use Rattle.sky_world.specs.Views.{WorldView}
 use Rattle.sky_world.specs.Seen.{seen_world}
 use Rattle.sky_world.specs.Waiters.{AllWaitersWithin, AllAtRest}
 use Rattle.sky_world.specs.Made.{AllMade}
-use Rattle.sky_world.specs.Nodes.{Happened, DoesAll, Stays}
-use Rattle.sky_world.specs.Workers.{is_out_of_memory, StepRefused}
+use Rattle.sky_world.specs.Nodes.{Happened, DoesAll, Stays, Stopped}
+use Rattle.sky_world.specs.Workers.{is_out_of_memory, leaf_in, stop_of, stopping}
 use Rattle.sky_world.proofs.Made.{made-new}
-use Rattle.sky_world.proofs.HandsAt.{put-back, changed-twice}
+use Rattle.sky_world.proofs.HandsAt.{put-back, batch-back, changed-twice}
 use Rattle.sky_world.proofs.CallsInTurn.{waits-all, ready-all}
-use Rattle.sky_world.proofs.TwoDatabases.{with_both, first-there, second-there, both-kept, moved-there}
-use Rattle.sky_world.proofs.MoveMoments.{moments-moved}
+use Rattle.sky_world.proofs.TwoDatabases.{PutInHand, with_both, first-there, second-there, both-kept, moved-there}
+use Rattle.sky_world.proofs.MoveMoments.{moments-moved, moments-replayed}
 
 -- ---- calls in each of two databases
 
@@ -85,7 +89,7 @@ went-as stores p d spare p_was p_old d_old p_lt d_lt apart p_at is d_at = record
   d_at = d_at;
 }
 
-module _ (stores : List DbView) (p d : ℕ) (spare p_old p_new d_old d_new : DbView) (went : Went stores p d spare p_old d_old) (none : seen_database spare ≡ database_of [])
+module _ {stores : List DbView} {p d : ℕ} {spare p_old d_old : DbView} (p_new d_new : DbView) (went : Went stores p d spare p_old d_old) (none : seen_database spare ≡ database_of [])
     (both : Both (seen_database p_old) (seen_database p_new) (seen_database d_old) (seen_database d_new)) where
   pub waiters-both : (count : ℕ) → AllWaitersWithin count stores → AllWaitersWithin count (with_both stores p d spare d_new p_new)
   waiters-both count all =
@@ -110,28 +114,73 @@ pub spare-back : (stores : List DbView) (p d : ℕ) (spare d_new x : DbView) →
 spare-back stores p d spare d_new x p_lt apart is none =
     ap seen_database (is ∙ get_or-set_other (slice_set stores p spare) d p d_new x (grind (arith, nat_tests, apart)) ∙ get_or-set_same stores p spare x p_lt) ∙ none
 
+-- ---- the workers
+
+-- a worker of a leaf: what it does with what it has in hand, what the world says that it has, and the fact by which it has something from then on. What it
+-- has is put back by its fact, and the answers of its moves have no moments
+pub record Worker (H : Type 0) : Type 0 where
+  pub does : (p r : Database) → Option H → Checked (Move H)
+  pub has : World → Option H
+  pub handed : Option H → Fact
+  pub back : (w : World) → after_fact w (handed (has w)) ≡ w
+  pub moments : (p r : Database) (hand : Option H) → IfOk (does p r hand) (λ move. All ReplyHasMoments move.replies)
+
+-- the one that copies a table of a database
+abbrev pub copier_of : (d : ℕ) → (table : List ℕ) → Worker Hand
+copier_of d table = record {
+  does = λ p r hand. copy_move p r table hand;
+  has = λ w. w.hands d table;
+  handed = λ hand. in_hand d table hand;
+  back = λ w i. record w { hands = put-back d table (w.hands d table) w.hands refl i };
+  moments = λ p r hand. moments-moved p r table hand;
+}
+
+-- that of the leaf of a database
+abbrev pub replayer_of : (d : ℕ) → Worker BatchHand
+replayer_of d = record {
+  does = λ p r hand. replay_move p r (leaf_in r.node) hand;
+  has = λ w. w.batches d;
+  handed = λ hand. batch_in_hand d hand;
+  back = λ w i. record w { batches = batch-back d (w.batches d) w.batches refl i };
+  moments = λ p r hand. moments-replayed p r (leaf_in r.node) hand;
+}
+
+-- one move of a worker of a leaf of database `d`, by database `p`
+abbrev pub steps : {H : Type 0} → Worker H → World → (p d : ℕ) → Checked WorldOutcome
+steps k w p d = moves w p d k.handed (k.does (w.database p) (w.database d) (k.has w))
+
 -- ---- a move that was tried
 
-abbrev run_out : {A : Type 0} → Result A WorkerFault → Bool
+abbrev run_out : {A : Type 0} → Result A Stop → Bool
 run_out (Ok a) = false
-run_out (Err f) = is_out_of_memory f
+run_out (Err s) = is_out_of_memory s
 
-pub ran-out : {A : Type 0} (moved : Result A WorkerFault) (b : Bool) → IfOk moved (λ _. b ≡ false) → IfErr moved (λ f. b ≡ is_out_of_memory f) → b ≡ run_out moved
+pub ran-out : {A : Type 0} (given : Result A Stop) (b : Bool) → IfOk given (λ _. b ≡ false) → IfErr given (λ s. b ≡ is_out_of_memory s) → b ≡ run_out given
 ran-out (Ok a) b ok err = ok
-ran-out (Err f) b ok err = err
+ran-out (Err s) b ok err = err
+
+-- what it gave, or else this; and why it stopped
+abbrev value_or : {A : Type 0} → A → Result A Stop → A
+value_or x (Ok a) = a
+value_or x (Err s) = x
+
+abbrev stop_in : {A : Type 0} → Result A Stop → Stop
+stop_in (Ok a) = stop.NoMemory
+stop_in (Err s) = s
 
 -- if memory didn't run out, what is in hand was kept
-pub kept-moved : {A E : Type 0} (kept : Result (Unit {0}) E) (moved given : Result A WorkerFault) → OnOk kept (given ≡ moved) → OnErr kept (given ≡ Err fault.NoMemory) → run_out given ≡ false → (given ≡ moved) × (is_ok kept ≡ true)
+pub kept-moved : {A E : Type 0} (kept : Result (Unit {0}) E) (moved : Result A WorkerFault) (given : Result A Stop) → OnOk kept (given ≡ stopping moved) → OnErr kept (given ≡ Err stop.NoMemory) → run_out given ≡ false
+    → (given ≡ stopping moved) × (is_ok kept ≡ true)
 kept-moved (Ok _) moved given same lost sound = (same, refl)
 kept-moved (Err e) moved given same lost sound = absurd (cc (sym sound ∙ ap run_out lost))
 
--- in hand then is what was set
-pub set-then : {E : Type 0} (kept : Result (Unit {0}) E) {T : Type 0} → is_ok kept ≡ true → OnOk kept T → T
-set-then (Ok _) ok t = t
-set-then (Err e) ok t = absurd (cc)
+-- in hand then is what was put there
+pub put-then : {E : Type 0} (kept : Result (Unit {0}) E) {T : Type 0} → is_ok kept ≡ true → OnOk kept T → T
+put-then (Ok _) ok t = t
+put-then (Err e) ok t = absurd (cc)
 
-pub both-moved : {A : Type 0} (moved : Result A WorkerFault) (items : A → List Reply) (checked : Checked CopyMove) (p p_new r r_new : Database) (hand hand_new : Option CopyHand)
-    → IfOk moved (λ a. MovesBy checked p p_new r r_new (items a) hand_new) → IfErr moved (λ f. MoveRefused f checked p p_new r r_new hand hand_new) → run_out moved ≡ false → Both p p_new r r_new
+pub both-moved : {H A : Type 0} (moved : Result A WorkerFault) (items : A → List Reply) (checked : Checked (Move H)) (p p_new r r_new : Database) (hand hand_new : Option H)
+    → IfOk moved (λ a. MovesBy checked p p_new r r_new (items a) hand_new) → IfErr moved (λ f. MoveRefused f checked p p_new r r_new hand hand_new) → run_out (stopping moved) ≡ false → Both p p_new r r_new
 both-moved (Ok a) items checked p p_new r r_new hand hand_new by not sound =
     record { ps = by.move.provider; ds = by.move.replica; provider = by.moved.provider.changed; replica = by.moved.replica.changed }
 both-moved (Err fault.TooManyConsumers) items checked p p_new r r_new hand hand_new by not sound =
@@ -145,69 +194,63 @@ both-moved (Err fault.NoMemory) items checked p p_new r r_new hand hand_new by n
 -- ---- what it did
 
 -- the world as it is kept is the one that is shown, with these databases and this in hand
-shown-parts : (v : WorldView) (p d : ℕ) (table : List ℕ) (spare p_old d_old : DbView) (hand : Option CopyHand) → p < length v.databases.values → d < length v.databases.values → (p == d) ≡ false
-    → p_old ≡ get_or v.databases.values p p_old → d_old ≡ get_or (slice_set v.databases.values p spare) d d_old → hand ≡ hand_at v.hands d table
-    → copy_move (seen_database p_old) (seen_database d_old) table hand ≡ copy_move ((seen_world v).database p) ((seen_world v).database d) table ((seen_world v).hands d table)
-shown-parts v p d table spare p_old d_old hand p_lt d_lt apart p_at d_at in_hand_is = λ i.
-    copy_move (seen_database (sym (first-there v.databases.values p p_old p_lt p_at) i)) (seen_database (sym (second-there v.databases.values p d spare d_old d_lt apart d_at) i)) table (in_hand_is i)
+shown-parts : {H : Type 0} (k : Worker H) (v : WorldView) (p d : ℕ) (spare p_old d_old : DbView) (hand : Option H) → p < length v.databases.values → d < length v.databases.values → (p == d) ≡ false
+    → p_old ≡ get_or v.databases.values p p_old → d_old ≡ get_or (slice_set v.databases.values p spare) d d_old → hand ≡ k.has (seen_world v)
+    → k.does (seen_database p_old) (seen_database d_old) hand ≡ k.does ((seen_world v).database p) ((seen_world v).database d) (k.has (seen_world v))
+shown-parts k v p d spare p_old d_old hand p_lt d_lt apart p_at d_at in_hand_is = λ i.
+    k.does (seen_database (sym (first-there v.databases.values p p_old p_lt p_at) i)) (seen_database (sym (second-there v.databases.values p d spare d_old d_lt apart d_at) i)) (in_hand_is i)
 
 -- the world after a move, whatever it says of memory
-abbrev after_step : (v : WorldView) (p d : ℕ) (spare p_new d_new : DbView) (hands : List HandAt) → Bool → WorldView
-after_step v p d spare p_new d_new hands failed = record v { databases = with_value (with_value (with_value v.databases p spare) d d_new) p p_new; hands = hands; has_failed = failed }
+abbrev after_step : (v : WorldView) (p d : ℕ) (spare p_new d_new : DbView) (hands : List HandAt) (batches : List (ℕ × BatchHand)) → Bool → WorldView
+after_step v p d spare p_new d_new hands batches failed =
+    record v { databases = with_value (with_value (with_value v.databases p spare) d d_new) p p_new; hands = hands; batches = batches; has_failed = failed }
 
 -- it has failed if it had
 with-failed : (now x : WorldView) (facts : List Fact) (failed : Bool) → failed ≡ x.has_failed → Happened now x facts → Happened now (record x { has_failed = failed }) facts
 with-failed now x facts failed same happened = record { changed = happened.changed; sessions = happened.sessions; databases = happened.databases; failed = same ∙ happened.failed }
 
--- what was taken up and then put down
-pub hands-set : (d : ℕ) (table : List ℕ) (hand : Option CopyHand) (old taken set : List HandAt) → hand_at taken ≡ changed_at d (changed_for table (λ _. None)) (hand_at old)
-    → hand_at set ≡ changed_at d (changed_for table (λ _. hand)) (hand_at taken) → hand_at set ≡ changed_at d (changed_for table (λ _. hand)) (hand_at old)
-hands-set d table hand old taken set took put = put ∙ ap (changed_at d (changed_for table (λ _. hand))) took ∙ changed-twice d table hand None (hand_at old)
-
-module _ (v now : WorldView) (p d : ℕ) (table : List ℕ) (spare p_old p_new d_old d_new : DbView) (hand hand_new : Option CopyHand) (hands : List HandAt) (failed : Bool) (same : v ≡ now)
-    (went : Went v.databases.values p d spare p_old d_old) (was : hand ≡ hand_at v.hands d table) (is : hand_at hands ≡ changed_at d (changed_for table (λ _. hand_new)) (hand_at v.hands)) where
-  abbrev checked : Checked WorldOutcome
-  checked = moves (seen_world now) p d table (copy_move ((seen_world now).database p) ((seen_world now).database d) table ((seen_world now).hands d table))
-
+module _ {H : Type 0} (k : Worker H) (v now : WorldView) (p d : ℕ) (spare p_old p_new d_old d_new : DbView) (hand hand_new : Option H) (hands : List HandAt) (batches : List (ℕ × BatchHand)) (failed : Bool) (same : v ≡ now)
+    (went : Went v.databases.values p d spare p_old d_old) (was : hand ≡ k.has (seen_world v)) (put : PutInHand v hands batches (k.handed hand_new)) where
   abbrev new : WorldView
-  new = after_step v p d spare p_new d_new hands failed
+  new = after_step v p d spare p_new d_new hands batches failed
 
-  parts : copy_move (seen_database p_old) (seen_database d_old) table hand ≡ copy_move ((seen_world now).database p) ((seen_world now).database d) table ((seen_world now).hands d table)
-  parts = shown-parts v p d table spare p_old d_old hand went.p_lt went.d_lt went.apart went.p_at went.d_at was ∙ ap (λ (w : WorldView). copy_move ((seen_world w).database p) ((seen_world w).database d) table ((seen_world w).hands d table)) same
+  parts : k.does (seen_database p_old) (seen_database d_old) hand ≡ k.does ((seen_world now).database p) ((seen_world now).database d) (k.has (seen_world now))
+  parts = shown-parts k v p d spare p_old d_old hand went.p_lt went.d_lt went.apart went.p_at went.d_at was ∙ ap (λ (w : WorldView). k.does ((seen_world w).database p) ((seen_world w).database d) (k.has (seen_world w))) same
 
   -- a move
-  happens : (move : CopyMove) → failed ≡ v.has_failed → seen_database p_new ≡ after_calls (seen_database p_old) move.provider → seen_database d_new ≡ after_calls (seen_database d_old) move.replica → hand_new ≡ move.hand
-      → Happened now new (move_facts (seen_world now) p d table move)
+  happens : (move : Move H) → failed ≡ v.has_failed → seen_database p_new ≡ after_calls (seen_database p_old) move.provider → seen_database d_new ≡ after_calls (seen_database d_old) move.replica → hand_new ≡ move.hand
+      → Happened now new (move_facts (seen_world now) p d k.handed move)
   happens move sound p_is d_is in_hand_is =
-      with-failed now (record v { databases = with_value (with_value (with_value v.databases p spare) d d_new) p p_new; hands = hands }) (move_facts (seen_world now) p d table move) failed sound
-      (moved-there v now p d table move spare p_old p_new d_old d_new hands same went.p_lt went.d_lt went.apart went.p_at went.d_at p_is d_is (is ∙ ap (λ h. changed_at d (changed_for table (λ _. h)) (hand_at v.hands)) in_hand_is))
+      with-failed now (record v { databases = with_value (with_value (with_value v.databases p spare) d d_new) p p_new; hands = hands; batches = batches }) (move_facts (seen_world now) p d k.handed move) failed sound
+      (moved-there v now p d k.handed move spare p_old p_new d_old d_new hands batches same went.p_lt went.d_lt went.apart went.p_at went.d_at p_is d_is (subst (λ h. PutInHand v hands batches (k.handed h)) in_hand_is put))
 
-  pub step-done : (replies : List Reply) → failed ≡ v.has_failed → MovesBy (copy_move (seen_database p_old) (seen_database d_old) table hand) (seen_database p_old) (seen_database p_new) (seen_database d_old) (seen_database d_new) replies hand_new
-      → DoesAll now new replies checked
+  pub step-done : (replies : List Reply) → failed ≡ v.has_failed → MovesBy (k.does (seen_database p_old) (seen_database d_old) hand) (seen_database p_old) (seen_database p_new) (seen_database d_old) (seen_database d_new) replies hand_new
+      → DoesAll now new replies (steps k (seen_world now) p d)
   step-done replies sound by = record {
-    facts = move_facts (seen_world now) p d table by.move;
-    outcome = ap (moves (seen_world now) p d table) (sym parts ∙ by.is) ∙ ap (λ rs. Ok (record { replies = rs; facts = move_facts (seen_world now) p d table by.move })) (sym by.moved.printed);
-    moments = subst (All ReplyHasMoments) (sym by.moved.printed) (subst (λ c. IfOk c (λ move. All ReplyHasMoments move.replies)) by.is (moments-moved (seen_database p_old) (seen_database d_old) table hand));
+    facts = move_facts (seen_world now) p d k.handed by.move;
+    outcome = ap (moves (seen_world now) p d k.handed) (sym parts ∙ by.is) ∙ ap (λ rs. Ok (record { replies = rs; facts = move_facts (seen_world now) p d k.handed by.move })) (sym by.moved.printed);
+    moments = subst (All ReplyHasMoments) (sym by.moved.printed) (subst (λ c. IfOk c (λ move. All ReplyHasMoments move.replies)) by.is (k.moments (seen_database p_old) (seen_database d_old) hand));
     happened = happens by.move sound by.moved.provider.changed by.moved.replica.changed by.moved.in_hand;
   }
 
   -- nothing
   stays : failed ≡ v.has_failed → seen_database p_new ≡ seen_database p_old → seen_database d_new ≡ seen_database d_old → hand_new ≡ hand → Stays now new
   stays sound p_is d_is in_hand_is =
-      let nothing : CopyMove = record { provider = []; replica = []; replies = []; hand = hand_new } in
-      let happened : Happened now new (in_hand d table hand_new ∷ []) = happens nothing sound p_is d_is refl in record {
-        shown = happened.changed ∙ (λ i. record (seen_world now) { hands = put-back d table hand_new (seen_world now).hands (sym (in_hand_is ∙ was ∙ ap (λ (w : WorldView). hand_at w.hands d table) same)) i });
+      let nothing : Move H = record { provider = []; replica = []; replies = []; hand = hand_new } in
+      let happened : Happened now new (k.handed hand_new ∷ []) = happens nothing sound p_is d_is refl in record {
+        shown = happened.changed ∙ ap (λ h. after_fact (seen_world now) (k.handed h)) (in_hand_is ∙ was ∙ ap (λ (w : WorldView). k.has (seen_world w)) same) ∙ k.back (seen_world now);
         failed = happened.failed;
       }
 
   refused-as : (refusal : Refusal) → failed ≡ v.has_failed
-      → Refuses {S = Database × Database × Option CopyHand} (seen_database p_old, seen_database d_old, hand) (seen_database p_new, seen_database d_new, hand_new) refusal (copy_move (seen_database p_old) (seen_database d_old) table hand)
-      → (checked ≡ Err refusal) × Stays now new
+      → Refuses {S = Database × Database × Option H} (seen_database p_old, seen_database d_old, hand) (seen_database p_new, seen_database d_new, hand_new) refusal (k.does (seen_database p_old) (seen_database d_old) hand)
+      → (steps k (seen_world now) p d ≡ Err refusal) × Stays now new
   refused-as refusal sound not =
-      (ap (moves (seen_world now) p d table) (sym parts ∙ not.refused), stays sound (ap (λ all. all.0) not.same) (ap (λ all. all.1) not.same) (ap (λ all. all.2) not.same))
+      (ap (moves (seen_world now) p d k.handed) (sym parts ∙ not.refused), stays sound (ap (λ all. all.0) not.same) (ap (λ all. all.1) not.same) (ap (λ all. all.2) not.same))
 
-  pub step-refused : (f : WorkerFault) → (is_out_of_memory f ≡ false → failed ≡ v.has_failed)
-      → MoveRefused f (copy_move (seen_database p_old) (seen_database d_old) table hand) (seen_database p_old) (seen_database p_new) (seen_database d_old) (seen_database d_new) hand hand_new → StepRefused f now new checked
+  pub step-refused : (f : WorkerFault) → (is_out_of_memory (stop_of f) ≡ false → failed ≡ v.has_failed)
+      → MoveRefused f (k.does (seen_database p_old) (seen_database d_old) hand) (seen_database p_old) (seen_database p_new) (seen_database d_old) (seen_database d_new) hand hand_new
+      → Stopped now new (stop_of f) (steps k (seen_world now) p d)
   step-refused fault.TooManyConsumers sound not = refused-as (TooMany Consumers) (sound refl) not
   step-refused fault.IdsSpent sound not = refused-as IdsSpent (sound refl) not
   step-refused fault.TxidsSpent sound not = refused-as TxidsSpent (sound refl) not
@@ -215,100 +258,134 @@ module _ (v now : WorldView) (p d : ℕ) (table : List ℕ) (spare p_old p_new d
 
 -- ---- a move as the code makes it
 
-pub record Tried {A E : Type 0} (v now : WorldView) (p d : ℕ) (table : List ℕ) (spare p_old p_new d_old d_new : DbView) (hand hand_new : Option CopyHand) (taken hands : List HandAt) (failed : Bool) (items : A → List Reply)
-    (moved given : Result A WorkerFault) (kept : Result (Unit {0}) E) : Type 0 where
+pub record Tried {H A E : Type 0} (k : Worker H) (v now : WorldView) (p d : ℕ) (spare p_old p_new d_old d_new : DbView) (hand hand_new : Option H) (hands : List HandAt) (batches : List (ℕ × BatchHand)) (failed : Bool)
+    (items : A → List Reply) (moved : Result A WorkerFault) (given : Result A Stop) (kept : Result (Unit {0}) E) : Type 0 where
   pub same : v ≡ now
   pub sound : v.has_failed ≡ false
   pub went : Went v.databases.values p d spare p_old d_old
-  pub was : hand ≡ hand_at v.hands d table
-  pub took : hand_at taken ≡ changed_at d (changed_for table (λ _. None)) (hand_at v.hands)
-  pub put : OnOk kept (hand_at hands ≡ changed_at d (changed_for table (λ _. hand_new)) (hand_at taken))
-  pub keeps : OnOk kept (given ≡ moved)
-  pub lost : OnErr kept (given ≡ Err fault.NoMemory)
+  pub was : hand ≡ k.has (seen_world v)
+  pub put : OnOk kept (PutInHand v hands batches (k.handed hand_new))
+  pub keeps : OnOk kept (given ≡ stopping moved)
+  pub lost : OnErr kept (given ≡ Err stop.NoMemory)
   pub tells : failed ≡ run_out given
-  pub moves : IfOk moved (λ a. MovesBy (copy_move (seen_database p_old) (seen_database d_old) table hand) (seen_database p_old) (seen_database p_new) (seen_database d_old) (seen_database d_new) (items a) hand_new)
-  pub stops : IfErr moved (λ f. MoveRefused f (copy_move (seen_database p_old) (seen_database d_old) table hand) (seen_database p_old) (seen_database p_new) (seen_database d_old) (seen_database d_new) hand hand_new)
+  pub moves : IfOk moved (λ a. MovesBy (k.does (seen_database p_old) (seen_database d_old) hand) (seen_database p_old) (seen_database p_new) (seen_database d_old) (seen_database d_new) (items a) hand_new)
+  pub stops : IfErr moved (λ f. MoveRefused f (k.does (seen_database p_old) (seen_database d_old) hand) (seen_database p_old) (seen_database p_new) (seen_database d_old) (seen_database d_new) hand hand_new)
 
-module _ {A E : Type 0} (v now : WorldView) (p d : ℕ) (table : List ℕ) (spare p_old p_new d_old d_new : DbView) (hand hand_new : Option CopyHand) (taken hands : List HandAt) (failed : Bool) (items : A → List Reply)
-    (moved given : Result A WorkerFault) (kept : Result (Unit {0}) E) (tried : Tried v now p d table spare p_old p_new d_old d_new hand hand_new taken hands failed items moved given kept) where
-  kept-hands : is_ok kept ≡ true → hand_at hands ≡ changed_at d (changed_for table (λ _. hand_new)) (hand_at v.hands)
-  kept-hands ok = hands-set d table hand_new v.hands taken hands tried.took (set-then kept ok tried.put)
-
-  kept-given : run_out given ≡ false → (given ≡ moved) × (is_ok kept ≡ true)
+module _ {H A E : Type 0} {k : Worker H} {v now : WorldView} {p d : ℕ} {spare p_old p_new d_old d_new : DbView} {hand hand_new : Option H} {hands : List HandAt} {batches : List (ℕ × BatchHand)} {failed : Bool}
+    {items : A → List Reply} {moved : Result A WorkerFault} {given : Result A Stop} {kept : Result (Unit {0}) E} (tried : Tried k v now p d spare p_old p_new d_old d_new hand hand_new hands batches failed items moved given kept) where
+  kept-given : run_out given ≡ false → (given ≡ stopping moved) × (is_ok kept ≡ true)
   kept-given sound = kept-moved kept moved given tried.keeps tried.lost sound
 
   pub both-tried : failed ≡ false → Both (seen_database p_old) (seen_database p_new) (seen_database d_old) (seen_database d_new)
   both-tried whole =
       let ran : run_out given ≡ false = sym tried.tells ∙ whole in
-      both-moved moved items (copy_move (seen_database p_old) (seen_database d_old) table hand) (seen_database p_old) (seen_database p_new) (seen_database d_old) (seen_database d_new) hand hand_new tried.moves tried.stops
+      both-moved moved items (k.does (seen_database p_old) (seen_database d_old) hand) (seen_database p_old) (seen_database p_new) (seen_database d_old) (seen_database d_new) hand hand_new tried.moves tried.stops
       (ap run_out (sym (kept-given ran).0) ∙ ran)
 
-  abbrev result_of : Checked WorldOutcome
-  result_of = moves (seen_world now) p d table (copy_move ((seen_world now).database p) ((seen_world now).database d) table ((seen_world now).hands d table))
+  abbrev after : WorldView
+  after = after_step v p d spare p_new d_new hands batches failed
 
-  pub tried-ok : IfOk given (λ a. DoesAll now (after_step v p d spare p_new d_new hands failed) (items a) result_of)
+  pub tried-ok : IfOk given (λ a. DoesAll now after (items a) (steps k (seen_world now) p d))
   tried-ok = by given refl
     where
-      by : (g : Result A WorkerFault) → given ≡ g → IfOk g (λ a. DoesAll now (after_step v p d spare p_new d_new hands failed) (items a) result_of)
-      by (Err f) is = tt
-      by (Ok a) is =
-          let both = kept-given (ap run_out is) in
-          step-done v now p d table spare p_old p_new d_old d_new hand hand_new hands failed tried.same tried.went tried.was (kept-hands both.1) (items a) (tried.tells ∙ ap run_out is ∙ sym tried.sound)
-          (subst (λ m. IfOk m (λ x. MovesBy (copy_move (seen_database p_old) (seen_database d_old) table hand) (seen_database p_old) (seen_database p_new) (seen_database d_old) (seen_database d_new) (items x) hand_new)) (sym both.0 ∙ is) tried.moves)
+      done : (a : A) (m : Result A WorkerFault) → moved ≡ m → given ≡ Ok a → stopping m ≡ Ok a → is_ok kept ≡ true → DoesAll now after (items a) (steps k (seen_world now) p d)
+      done a (Ok b) same is e ok =
+          subst (λ x. DoesAll now after (items x) (steps k (seen_world now) p d)) (ap (value_or b) e)
+          (step-done k v now p d spare p_old p_new d_old d_new hand hand_new hands batches failed tried.same tried.went tried.was (put-then kept ok tried.put) (items b) (tried.tells ∙ ap run_out is ∙ sym tried.sound)
+          (subst (λ m. IfOk m (λ x. MovesBy (k.does (seen_database p_old) (seen_database d_old) hand) (seen_database p_old) (seen_database p_new) (seen_database d_old) (seen_database d_new) (items x) hand_new)) same tried.moves))
+      done a (Err f) same is e ok = absurd (cc)
 
-  pub tried-err : IfErr given (λ f. StepRefused f now (after_step v p d spare p_new d_new hands failed) result_of)
+      by : (g : Result A Stop) → given ≡ g → IfOk g (λ a. DoesAll now after (items a) (steps k (seen_world now) p d))
+      by (Err s) is = tt
+      by (Ok a) is = let both = kept-given (ap run_out is) in done a moved refl is (sym both.0 ∙ is) both.1
+
+  pub tried-err : IfErr given (λ s. Stopped now after s (steps k (seen_world now) p d))
   tried-err = by given refl
     where
-      refused : (f : WorkerFault) → given ≡ Err f → is_out_of_memory f ≡ false → StepRefused f now (after_step v p d spare p_new d_new hands failed) result_of
-      refused f is some =
-          let both = kept-given (ap run_out is ∙ some) in
-          step-refused v now p d table spare p_old p_new d_old d_new hand hand_new hands failed tried.same tried.went tried.was (kept-hands both.1) f (λ _. tried.tells ∙ ap run_out is ∙ some ∙ sym tried.sound)
-          (subst (λ m. IfErr m (λ x. MoveRefused x (copy_move (seen_database p_old) (seen_database d_old) table hand) (seen_database p_old) (seen_database p_new) (seen_database d_old) (seen_database d_new) hand hand_new)) (sym both.0 ∙ is) tried.stops)
+      refused : (refusal : Refusal) (m : Result A WorkerFault) → moved ≡ m → given ≡ Err (stop.Refused refusal) → stopping m ≡ Err (stop.Refused refusal) → is_ok kept ≡ true
+          → Stopped now after (stop.Refused refusal) (steps k (seen_world now) p d)
+      refused refusal (Ok a) same is e ok = absurd (cc)
+      refused refusal (Err f) same is e ok =
+          subst (λ s. Stopped now after s (steps k (seen_world now) p d)) (ap stop_in e)
+          (step-refused k v now p d spare p_old p_new d_old d_new hand hand_new hands batches failed tried.same tried.went tried.was (put-then kept ok tried.put) f (λ _. tried.tells ∙ ap run_out is ∙ sym tried.sound)
+          (subst (λ m. IfErr m (λ x. MoveRefused x (k.does (seen_database p_old) (seen_database d_old) hand) (seen_database p_old) (seen_database p_new) (seen_database d_old) (seen_database d_new) hand hand_new)) same tried.stops))
 
-      by : (g : Result A WorkerFault) → given ≡ g → IfErr g (λ f. StepRefused f now (after_step v p d spare p_new d_new hands failed) result_of)
+      by : (g : Result A Stop) → given ≡ g → IfErr g (λ s. Stopped now after s (steps k (seen_world now) p d))
       by (Ok a) is = tt
-      by (Err fault.TooManyConsumers) is = refused fault.TooManyConsumers is refl
-      by (Err fault.IdsSpent) is = refused fault.IdsSpent is refl
-      by (Err fault.TxidsSpent) is = refused fault.TxidsSpent is refl
-      by (Err fault.NoMemory) is = tt
+      by (Err stop.NoMemory) is = tt
+      by (Err (stop.Refused refusal)) is = let both = kept-given (ap run_out is) in refused refusal moved refl is (sym both.0 ∙ is) both.1
 
 -- so it was tried, as the code finds it
-pub tried-as : {A E : Type 0} (v now : WorldView) (p d : ℕ) (table : List ℕ) (spare p_old stepped p_new d_old d_new : DbView) (hand hand_new set : Option CopyHand) (taken hands : List HandAt) (failed : Bool) (items : A → List Reply)
-    (moved given : Result A WorkerFault) (kept : Result (Unit {0}) E) → v ≡ now → v.has_failed ≡ false → Went v.databases.values p d spare p_old d_old → hand ≡ hand_at v.hands d table
-    → hand_at taken ≡ changed_at d (changed_for table (λ _. None)) (hand_at v.hands) → set ≡ hand_new → OnOk kept (hand_at hands ≡ changed_at d (changed_for table (λ _. set)) (hand_at taken)) → OnOk kept (given ≡ moved)
-    → OnErr kept (given ≡ Err fault.NoMemory) → IfOk given (λ _. failed ≡ false) → IfErr given (λ f. failed ≡ is_out_of_memory f) → p_new ≡ stepped
-    → IfOk moved (λ a. MovesBy (copy_move (seen_database p_old) (seen_database d_old) table hand) (seen_database p_old) (seen_database stepped) (seen_database d_old) (seen_database d_new) (items a) hand_new)
-    → IfErr moved (λ f. MoveRefused f (copy_move (seen_database p_old) (seen_database d_old) table hand) (seen_database p_old) (seen_database stepped) (seen_database d_old) (seen_database d_new) hand hand_new)
-    → Tried v now p d table spare p_old p_new d_old d_new hand hand_new taken hands failed items moved given kept
-tried-as v now p d table spare p_old stepped p_new d_old d_new hand hand_new set taken hands failed items moved given kept same sound went was took is put keeps lost ok err back by not = record {
+tried-as : {H A E : Type 0} (k : Worker H) (v now : WorldView) (p d : ℕ) (spare p_old stepped p_new d_old d_new : DbView) (hand hand_new : Option H) (hands : List HandAt) (batches : List (ℕ × BatchHand)) (failed : Bool)
+    (items : A → List Reply) (moved : Result A WorkerFault) (given : Result A Stop) (kept : Result (Unit {0}) E) → v ≡ now → v.has_failed ≡ false → Went v.databases.values p d spare p_old d_old → hand ≡ k.has (seen_world v)
+    → OnOk kept (PutInHand v hands batches (k.handed hand_new)) → OnOk kept (given ≡ stopping moved) → OnErr kept (given ≡ Err stop.NoMemory) → IfOk given (λ _. failed ≡ false) → IfErr given (λ s. failed ≡ is_out_of_memory s)
+    → p_new ≡ stepped
+    → IfOk moved (λ a. MovesBy (k.does (seen_database p_old) (seen_database d_old) hand) (seen_database p_old) (seen_database stepped) (seen_database d_old) (seen_database d_new) (items a) hand_new)
+    → IfErr moved (λ f. MoveRefused f (k.does (seen_database p_old) (seen_database d_old) hand) (seen_database p_old) (seen_database stepped) (seen_database d_old) (seen_database d_new) hand hand_new)
+    → Tried k v now p d spare p_old p_new d_old d_new hand hand_new hands batches failed items moved given kept
+tried-as k v now p d spare p_old stepped p_new d_old d_new hand hand_new hands batches failed items moved given kept same sound went was put keeps lost ok err back by not = record {
   same = same;
   sound = sound;
   went = went;
   was = was;
-  took = took;
-  put = subst (λ o. OnOk kept (hand_at hands ≡ changed_at d (changed_for table (λ _. o)) (hand_at taken))) is put;
+  put = put;
   keeps = keeps;
   lost = lost;
   tells = ran-out given failed ok err;
-  moves = subst (λ x. IfOk moved (λ a. MovesBy (copy_move (seen_database p_old) (seen_database d_old) table hand) (seen_database p_old) (seen_database x) (seen_database d_old) (seen_database d_new) (items a) hand_new)) (sym back) by;
-  stops = subst (λ x. IfErr moved (λ f. MoveRefused f (copy_move (seen_database p_old) (seen_database d_old) table hand) (seen_database p_old) (seen_database x) (seen_database d_old) (seen_database d_new) hand hand_new)) (sym back) not;
+  moves = subst (λ x. IfOk moved (λ a. MovesBy (k.does (seen_database p_old) (seen_database d_old) hand) (seen_database p_old) (seen_database x) (seen_database d_old) (seen_database d_new) (items a) hand_new)) (sym back) by;
+  stops = subst (λ x. IfErr moved (λ f. MoveRefused f (k.does (seen_database p_old) (seen_database d_old) hand) (seen_database p_old) (seen_database x) (seen_database d_old) (seen_database d_new) hand hand_new)) (sym back) not;
 }
+
+-- a copy's worker took up what it had, and put down what it has
+hands-set : (d : ℕ) (table : List ℕ) (hand : Option Hand) (old taken set : List HandAt) → hand_at taken ≡ changed_at d (changed_for table (λ _. None)) (hand_at old)
+    → hand_at set ≡ changed_at d (changed_for table (λ _. hand)) (hand_at taken) → hand_at set ≡ changed_at d (changed_for table (λ _. hand)) (hand_at old)
+hands-set d table hand old taken set took put = put ∙ ap (changed_at d (changed_for table (λ _. hand))) took ∙ changed-twice d table hand None (hand_at old)
+
+put-copy : {E : Type 0} (kept : Result (Unit {0}) E) (v : WorldView) (d : ℕ) (table : List ℕ) (set hand_new : Option Hand) (taken hands : List HandAt) → hand_at taken ≡ changed_at d (changed_for table (λ _. None)) (hand_at v.hands)
+    → set ≡ hand_new → OnOk kept (hand_at hands ≡ changed_at d (changed_for table (λ _. set)) (hand_at taken)) → OnOk kept (PutInHand v hands v.batches (in_hand d table hand_new))
+put-copy (Err e) v d table set hand_new taken hands took is put = tt
+put-copy (Ok _) v d table set hand_new taken hands took is put = λ stores i.
+    record (seen_world v) { database = stores; hands = (hands-set d table set v.hands taken hands took put ∙ ap (λ h. changed_at d (changed_for table (λ _. h)) (hand_at v.hands)) is) i }
+
+-- so it was tried for a table
+pub copy-tried : {A E : Type 0} (v now : WorldView) (p d : ℕ) (table : List ℕ) (spare p_old stepped p_new d_old d_new : DbView) (hand hand_new set : Option Hand) (taken hands : List HandAt) (failed : Bool) (items : A → List Reply)
+    (moved : Result A WorkerFault) (given : Result A Stop) (kept : Result (Unit {0}) E) → v ≡ now → v.has_failed ≡ false → Went v.databases.values p d spare p_old d_old → hand ≡ hand_at v.hands d table
+    → hand_at taken ≡ changed_at d (changed_for table (λ _. None)) (hand_at v.hands) → set ≡ hand_new → OnOk kept (hand_at hands ≡ changed_at d (changed_for table (λ _. set)) (hand_at taken)) → OnOk kept (given ≡ stopping moved)
+    → OnErr kept (given ≡ Err stop.NoMemory) → IfOk given (λ _. failed ≡ false) → IfErr given (λ s. failed ≡ is_out_of_memory s) → p_new ≡ stepped
+    → IfOk moved (λ a. MovesBy (copy_move (seen_database p_old) (seen_database d_old) table hand) (seen_database p_old) (seen_database stepped) (seen_database d_old) (seen_database d_new) (items a) hand_new)
+    → IfErr moved (λ f. MoveRefused f (copy_move (seen_database p_old) (seen_database d_old) table hand) (seen_database p_old) (seen_database stepped) (seen_database d_old) (seen_database d_new) hand hand_new)
+    → Tried (copier_of d table) v now p d spare p_old p_new d_old d_new hand hand_new hands v.batches failed items moved given kept
+copy-tried v now p d table spare p_old stepped p_new d_old d_new hand hand_new set taken hands failed items moved given kept same sound went was took is put =
+    tried-as (copier_of d table) v now p d spare p_old stepped p_new d_old d_new hand hand_new hands v.batches failed items moved given kept same sound went was (put-copy kept v d table set hand_new taken hands took is put)
+
+-- a leaf's worker put down what it has
+put-batch : {E : Type 0} (kept : Result (Unit {0}) E) (v : WorldView) (d : ℕ) (set hand_new : Option BatchHand) (batches : List (ℕ × BatchHand)) → set ≡ hand_new
+    → OnOk kept (batch_at batches ≡ changed_at d (λ _. set) (batch_at v.batches)) → OnOk kept (PutInHand v v.hands batches (batch_in_hand d hand_new))
+put-batch (Err e) v d set hand_new batches is put = tt
+put-batch (Ok _) v d set hand_new batches is put = λ stores i. record (seen_world v) { database = stores; batches = (put ∙ ap (λ h. changed_at d (λ _. h) (batch_at v.batches)) is) i }
+
+-- so it was tried for a leaf
+pub batch-tried : {A E : Type 0} (v now : WorldView) (p d : ℕ) (spare p_old stepped p_new d_old d_new : DbView) (hand hand_new set : Option BatchHand) (batches : List (ℕ × BatchHand)) (failed : Bool) (items : A → List Reply)
+    (moved : Result A WorkerFault) (given : Result A Stop) (kept : Result (Unit {0}) E) → v ≡ now → v.has_failed ≡ false → Went v.databases.values p d spare p_old d_old → hand ≡ batch_at v.batches d
+    → set ≡ hand_new → OnOk kept (batch_at batches ≡ changed_at d (λ _. set) (batch_at v.batches)) → OnOk kept (given ≡ stopping moved)
+    → OnErr kept (given ≡ Err stop.NoMemory) → IfOk given (λ _. failed ≡ false) → IfErr given (λ s. failed ≡ is_out_of_memory s) → p_new ≡ stepped
+    → IfOk moved (λ a. MovesBy (replay_move (seen_database p_old) (seen_database d_old) (leaf_in (seen_database d_old).node) hand) (seen_database p_old) (seen_database stepped) (seen_database d_old) (seen_database d_new) (items a) hand_new)
+    → IfErr moved (λ f. MoveRefused f (replay_move (seen_database p_old) (seen_database d_old) (leaf_in (seen_database d_old).node) hand) (seen_database p_old) (seen_database stepped) (seen_database d_old) (seen_database d_new) hand hand_new)
+    → Tried (replayer_of d) v now p d spare p_old p_new d_old d_new hand hand_new v.hands batches failed items moved given kept
+batch-tried v now p d spare p_old stepped p_new d_old d_new hand hand_new set batches failed items moved given kept same sound went was is put =
+    tried-as (replayer_of d) v now p d spare p_old stepped p_new d_old d_new hand hand_new v.hands batches failed items moved given kept same sound went was (put-batch kept v d set hand_new batches is put)
 
 -- ---- what is in hand is lost
 
-pub restart-both : {move : CopyMove} {replies : List Reply} {hand : Option CopyHand} (p_old stepped p_new d_old d_new : DbView) → p_new ≡ stepped
+pub restart-both : {H : Type 0} {move : Move H} {replies : List Reply} {hand : Option H} (p_old stepped p_new d_old d_new : DbView) → p_new ≡ stepped
     → MovesAs move (seen_database p_old) (seen_database stepped) (seen_database d_old) (seen_database d_new) replies hand → Both (seen_database p_old) (seen_database p_new) (seen_database d_old) (seen_database d_new)
 restart-both {move = move} p_old stepped p_new d_old d_new back moved = record { ps = move.provider; ds = move.replica; provider = ap seen_database back ∙ moved.provider.changed; replica = moved.replica.changed }
 
-pub restart-there : (v now : WorldView) (p d : ℕ) (table : List ℕ) (spare p_old stepped p_new d_old d_new : DbView) (hand hand_new : Option CopyHand) (hands : List HandAt) → v ≡ now
+pub restart-there : (v now : WorldView) (p d : ℕ) (table : List ℕ) (spare p_old stepped p_new d_old d_new : DbView) (hand hand_new : Option Hand) (hands : List HandAt) → v ≡ now
     → Went v.databases.values p d spare p_old d_old → hand ≡ hand_at v.hands d table → hand_at hands ≡ changed_at d (changed_for table (λ _. None)) (hand_at v.hands) → p_new ≡ stepped
     → MovesAs (gives_up_in table hand) (seen_database p_old) (seen_database stepped) (seen_database d_old) (seen_database d_new) [] hand_new
-    → Happened now (after_step v p d spare p_new d_new hands v.has_failed) (move_facts (seen_world now) p d table (restarting table (hand_at now.hands d table)))
+    → Happened now (after_step v p d spare p_new d_new hands v.batches v.has_failed) (move_facts (seen_world now) p d (in_hand d table) (restarting table (hand_at now.hands d table)))
 restart-there v now p d table spare p_old stepped p_new d_old d_new hand hand_new hands same went was took back moved =
-    subst (λ o. Happened now (after_step v p d spare p_new d_new hands v.has_failed) (move_facts (seen_world now) p d table (restarting table o))) (was ∙ ap (λ (w : WorldView). hand_at w.hands d table) same)
-    (happens v now p d table spare p_old p_new d_old d_new hand (gives_up_in table hand).hand hands v.has_failed same went was (took ∙ ap (λ h. changed_at d (changed_for table (λ _. h)) (hand_at v.hands)) (sym (lost-hand table hand)))
+    subst (λ o. Happened now (after_step v p d spare p_new d_new hands v.batches v.has_failed) (move_facts (seen_world now) p d (in_hand d table) (restarting table o))) (was ∙ ap (λ (w : WorldView). hand_at w.hands d table) same)
+    (happens (copier_of d table) v now p d spare p_old p_new d_old d_new hand None hands v.batches v.has_failed same went was (λ stores i. record (seen_world v) { database = stores; hands = took i })
     (restarting table hand) refl (ap seen_database back ∙ moved.provider.changed) moved.replica.changed refl)
-  where
-    lost-hand : (table : List ℕ) (o : Option CopyHand) → (gives_up_in table o).hand ≡ None
-    lost-hand table None = refl
-    lost-hand table (Some h) = refl

@@ -1,78 +1,127 @@
--- The statements on the workers of leaves, by the leaf and the database that they find; and what `londiste_step` sends.
-use Rattle.std.proofs.Common.{◌≡◌, ℕ, List, [], ◌∷◌, Bool, true, false, not, ◌&&◌, bytes_eq, map, option_map, is_some, Option, Some, None, Ok, Err, refl, sym, ◌∙◌, ap, subst, if◌then◌else◌}
+-- The statements on the workers of leaves, by the leaf and the database that they find.
+use Rattle.std.proofs.Common.{◌≡◌, ℕ, List, [], ◌∷◌, Bool, true, false, not, ◌&&◌, bytes_eq, option_map, is_some, Option, Some, None, Ok, refl, sym, ◌∙◌, ap, if◌then◌else◌}
 use Rattle.std.proofs.lemmas.Bool.{and_parts}
 use Rattle.sky_val.specs.declared.column.Column.{Column}
 use Rattle.sky_val.specs.declared.column.ColKind.{ColKind}
 use Rattle.sky_val.specs.declared.column.ColKind.TheVariants as kind
 use Rattle.sky_names.proofs.PlaceLemmas.{same_name}
-use Rattle.londiste_state.specs.declared.state.TableState.{TableState}
-use Rattle.londiste_state.specs.Nodes.{of_leaf, Leaf, is_among, tables_of}
-use Rattle.sky_model.specs.declared.reply.Reply.TheVariants.{Null, TableMoved}
-use Rattle.sky_model.specs.declared.reply.Refusal.TheVariants.{NoNode}
-use Rattle.sky_model.specs.History.{within}
-use Rattle.sky_model.specs.Outcome.{Checked, Outcome, ◌>>=◌, found_or, answers, marks_of}
-use Rattle.sky_model.specs.StepNode.{moves_table, moving, if_there, table_number, may_serve, call_form, node_does}
-use Rattle.sky_model.specs.CopyMoves.{copy_move}
-use Rattle.sky_model.specs.NodesOfWorld.{WorldOutcome, Located, node_called, done_in, same_kind, same_column, same_columns, columns_called}
+use Rattle.londiste_state.specs.Nodes.{Node, of_root, of_leaf, Leaf, is_among, tables_of}
+use Rattle.sky_model.specs.declared.reply.Reply.TheVariants.{Done}
+use Rattle.sky_model.specs.declared.reply.Refusal.TheVariants.{NoNode, NotInSet}
+use Rattle.sky_model.specs.History.{in_hand, batch_in_hand}
+use Rattle.sky_model.specs.Outcome.{Checked, ◌>>=◌, ◌>>◌, found_or, refused_if}
+use Rattle.sky_model.specs.StepNode.{table_number}
+use Rattle.sky_model.specs.ReplayMoves.{replay_move}
+use Rattle.sky_model.specs.NodesOfWorld.{WorldOutcome, Located, node_called, same_kind, same_column, same_columns, columns_called}
 use Rattle.sky_model.specs.Nodes.{leaf_tables}
 use Rattle.sky_model.specs.State.{Database}
 use Rattle.sky_model.specs.World.{World}
-use Rattle.londiste_copy.specs.Moved.{SameTable}
-use Rattle.sky_model.specs.WorkersOfWorld.{call_facts, leaf_table, source, source_alike, are_alike, moves, copy_step, restart_table, restarting}
+use Rattle.londiste_copy.specs.Copying.{SameTable}
+use Rattle.sky_model.specs.WorkersOfWorld.{leaf_table, source, source_alike, are_alike, moves, copy_step, restarts, restart, restart_table, restarting, provider_of, leaf_steps, londiste_step}
 use Rattle.sky_world.specs.Views.{WorldView}
 use Rattle.sky_world.specs.Seen.{seen_world}
 use Rattle.sky_world.specs.Nodes.{Happened, Does}
-use Rattle.sky_world.specs.Workers.{leaf_with}
-use Rattle.sky_world.proofs.ServedNodes.{nothing-happened}
+use Rattle.sky_world.specs.Workers.{if_leaf, leaf_called, leaf_with, leaf_in, copies, replays}
 
 -- ---- by the leaf
 
-abbrev located : ℕ → Leaf → Checked (ℕ × Leaf)
-located n l = Ok (n, l)
+in-leaf : {A : Type 0} (w : World) (name : List ℕ) (each : ℕ → Node → Checked A) (rest : ℕ → Leaf → Checked A) → ((d : ℕ) (n : Node) → each d n ≡ (if_leaf name d n >>= (λ x. rest x.0 x.1)))
+    → (found_or (node_called w name) (NoNode name) >>= (λ n. each n.database n.node)) ≡ (leaf_called w name >>= (λ x. rest x.0 x.1))
+in-leaf w name each rest same = by (node_called w name)
+  where
+    by : (o : Option Located) → (found_or o (NoNode name) >>= (λ n. each n.database n.node)) ≡ ((found_or o (NoNode name) >>= (λ n. if_leaf name n.database n.node)) >>= (λ x. rest x.0 x.1))
+    by None = refl
+    by (Some n) = same n.database n.node
 
-with-table : {A : Type 0} (n : ℕ) (rest : ℕ → Leaf → Checked A) (c : Checked Leaf) → (c >>= (λ l. rest n l)) ≡ ((c >>= located n) >>= (λ x. rest x.0 x.1))
-with-table n rest (Ok l) = refl
-with-table n rest (Err refusal) = refl
+abbrev located : ℕ → Leaf → Checked (ℕ × Leaf)
+located d l = Ok (d, l)
 
 with-leaf : {A : Type 0} (w : World) (name table : List ℕ) (rest : ℕ → Leaf → Checked A)
     → (found_or (node_called w name) (NoNode name) >>= (λ n. leaf_table name table n.node >>= (λ l. rest n.database l))) ≡ (leaf_with w name table >>= (λ x. rest x.0 x.1))
 with-leaf w name table rest = by (node_called w name)
   where
+    of : (d : ℕ) (l : Leaf) (b : Bool) → ((refused_if b (NotInSet table) >> Ok l) >>= (λ m. rest d m)) ≡ ((refused_if b (NotInSet table) >> located d l) >>= (λ x. rest x.0 x.1))
+    of d l true = refl
+    of d l false = refl
+
+    in-node : (d : ℕ) (n : Node) → (leaf_table name table n >>= (λ l. rest d l))
+        ≡ ((if_leaf name d n >>= (λ x. refused_if (not (is_among table (tables_of (of_leaf x.1)))) (NotInSet table) >> Ok x)) >>= (λ x. rest x.0 x.1))
+    in-node d (of_root r) = refl
+    in-node d (of_leaf l) = of d l (not (is_among table (tables_of (of_leaf l))))
+
     by : (o : Option Located) → (found_or o (NoNode name) >>= (λ n. leaf_table name table n.node >>= (λ l. rest n.database l)))
-        ≡ ((found_or o (NoNode name) >>= (λ n. leaf_table name table n.node >>= located n.database)) >>= (λ x. rest x.0 x.1))
+        ≡ (((found_or o (NoNode name) >>= (λ n. if_leaf name n.database n.node)) >>= (λ x. refused_if (not (is_among table (tables_of (of_leaf x.1)))) (NotInSet table) >> Ok x)) >>= (λ x. rest x.0 x.1))
     by None = refl
-    by (Some n) = with-table n.database rest (leaf_table name table n.node)
+    by (Some n) = in-node n.database n.node
 
 -- `copy_step`
 abbrev copies_from : World → List ℕ → ℕ → Leaf → Checked WorldOutcome
-copies_from w table d l = source_alike w d l table >>= (λ p. moves w p d table (copy_move (w.database p) (w.database d) table (w.hands d table)))
+copies_from w table d l = source_alike w d l table >>= (λ p. copies w p d table)
 
-pub copy-by_leaf : (w : World) (name table : List ℕ) → copy_step w name table ≡ (leaf_with w name table >>= (λ x. source_alike w x.0 x.1 table >>= (λ p. moves w p x.0 table (copy_move (w.database p) (w.database x.0) table (w.hands x.0 table)))))
+pub copy-by_leaf : (w : World) (name table : List ℕ) → copy_step w name table ≡ (leaf_with w name table >>= (λ x. source_alike w x.0 x.1 table >>= (λ p. copies w p x.0 table)))
 copy-by_leaf w name table = with-leaf w name table (copies_from w table)
 
-pub copy-by_source : (w : World) (name table : List ℕ) (d : ℕ) (l : Leaf) → leaf_with w name table ≡ Ok (d, l)
-    → copy_step w name table ≡ (source_alike w d l table >>= (λ p. moves w p d table (copy_move (w.database p) (w.database d) table (w.hands d table))))
+pub copy-by_source : (w : World) (name table : List ℕ) (d : ℕ) (l : Leaf) → leaf_with w name table ≡ Ok (d, l) → copy_step w name table ≡ (source_alike w d l table >>= (λ p. copies w p d table))
 copy-by_source w name table d l is = copy-by_leaf w name table ∙ ap (λ c. c >>= (λ x. copies_from w table x.0 x.1)) is
 
-pub copy-goes : (w : World) (name table : List ℕ) (d p : ℕ) (l : Leaf) → leaf_with w name table ≡ Ok (d, l) → source_alike w d l table ≡ Ok p
-    → copy_step w name table ≡ moves w p d table (copy_move (w.database p) (w.database d) table (w.hands d table))
-copy-goes w name table d p l is from =
-    copy-by_source w name table d l is ∙ ap (λ c. c >>= (λ q. moves w q d table (copy_move (w.database q) (w.database d) table (w.hands d table)))) from
+pub copy-goes : (w : World) (name table : List ℕ) (d p : ℕ) (l : Leaf) → leaf_with w name table ≡ Ok (d, l) → source_alike w d l table ≡ Ok p → copy_step w name table ≡ copies w p d table
+copy-goes w name table d p l is from = copy-by_source w name table d l is ∙ ap (λ c. c >>= (λ q. copies w q d table)) from
 
 -- `restart` of a table
 abbrev restarts_from : World → List ℕ → ℕ → Leaf → Checked WorldOutcome
-restarts_from w table d l = source w l table >>= (λ p. moves w p d table (Ok (restarting table (w.hands d table))))
+restarts_from w table d l = source w l table >>= (λ p. moves w p d (in_hand d table) (Ok (restarting table (w.hands d table))))
 
-pub restart-by_leaf : (w : World) (name table : List ℕ) → restart_table w name table ≡ (leaf_with w name table >>= (λ x. source w x.1 table >>= (λ p. moves w p x.0 table (Ok (restarting table (w.hands x.0 table))))))
+pub restart-by_leaf : (w : World) (name table : List ℕ) → restart_table w name table ≡ (leaf_with w name table >>= (λ x. source w x.1 table >>= (λ p. moves w p x.0 (in_hand x.0 table) (Ok (restarting table (w.hands x.0 table))))))
 restart-by_leaf w name table = with-leaf w name table (restarts_from w table)
 
 pub restart-by_source : (w : World) (name table : List ℕ) (d : ℕ) (l : Leaf) → leaf_with w name table ≡ Ok (d, l)
-    → restart_table w name table ≡ (source w l table >>= (λ p. moves w p d table (Ok (restarting table (w.hands d table)))))
+    → restart_table w name table ≡ (source w l table >>= (λ p. moves w p d (in_hand d table) (Ok (restarting table (w.hands d table)))))
 restart-by_source w name table d l is = restart-by_leaf w name table ∙ ap (λ c. c >>= (λ x. restarts_from w table x.0 x.1)) is
 
 pub restart-goes : (w : World) (name table : List ℕ) (d p : ℕ) (l : Leaf) → leaf_with w name table ≡ Ok (d, l) → source w l table ≡ Ok p
-    → restart_table w name table ≡ moves w p d table (Ok (restarting table (w.hands d table)))
-restart-goes w name table d p l is from = restart-by_source w name table d l is ∙ ap (λ c. c >>= (λ q. moves w q d table (Ok (restarting table (w.hands d table))))) from
+    → restart_table w name table ≡ moves w p d (in_hand d table) (Ok (restarting table (w.hands d table)))
+restart-goes w name table d p l is from = restart-by_source w name table d l is ∙ ap (λ c. c >>= (λ q. moves w q d (in_hand d table) (Ok (restarting table (w.hands d table))))) from
+
+-- `restart` of a leaf
+abbrev batch_lost : ℕ → WorldOutcome
+batch_lost d = record { replies = Done ∷ []; facts = batch_in_hand d None ∷ [] }
+
+pub restarts-by_leaf : (w : World) (name : List ℕ) → restart w name ≡ (leaf_called w name >>= (λ x. Ok (record { replies = Done ∷ []; facts = batch_in_hand x.0 None ∷ [] })))
+restarts-by_leaf w name = in-leaf w name (λ d n. restarts d name n) (λ d l. Ok (batch_lost d)) each
+  where
+    each : (d : ℕ) (n : Node) → restarts d name n ≡ (if_leaf name d n >>= (λ x. Ok (batch_lost x.0)))
+    each d (of_root r) = refl
+    each d (of_leaf l) = refl
+
+pub restarted : (old new : WorldView) (name : List ℕ) (d : ℕ) (l : Leaf) → leaf_called (seen_world old) name ≡ Ok (d, l) → Happened old new (batch_in_hand d None ∷ []) → Does old new Done (restart (seen_world old) name)
+restarted old new name d l is happened = record {
+  facts = batch_in_hand d None ∷ [];
+  outcome = restarts-by_leaf (seen_world old) name ∙ ap (λ c. c >>= (λ x. Ok (batch_lost x.0))) is;
+  moments = tt;
+  happened = happened;
+}
+
+-- `londiste_step`
+abbrev leaf_moves : World → ℕ → Leaf → Checked WorldOutcome
+leaf_moves w d l = provider_of w l >>= (λ p. moves w p d (batch_in_hand d) (replay_move (w.database p) (w.database d) l (w.batches d)))
+
+pub steps-by_leaf : (w : World) (name : List ℕ)
+    → londiste_step w name ≡ (leaf_called w name >>= (λ x. provider_of w x.1 >>= (λ p. moves w p x.0 (batch_in_hand x.0) (replay_move (w.database p) (w.database x.0) x.1 (w.batches x.0)))))
+steps-by_leaf w name = in-leaf w name (λ d n. leaf_steps w d name n) (leaf_moves w) each
+  where
+    each : (d : ℕ) (n : Node) → leaf_steps w d name n ≡ (if_leaf name d n >>= (λ x. leaf_moves w x.0 x.1))
+    each d (of_root r) = refl
+    each d (of_leaf l) = refl
+
+pub steps-by_provider : (w : World) (name : List ℕ) (d : ℕ) (l : Leaf) → leaf_called w name ≡ Ok (d, l)
+    → londiste_step w name ≡ (provider_of w l >>= (λ p. moves w p d (batch_in_hand d) (replay_move (w.database p) (w.database d) l (w.batches d))))
+steps-by_provider w name d l is = steps-by_leaf w name ∙ ap (λ c. c >>= (λ x. leaf_moves w x.0 x.1)) is
+
+pub steps-go : (w : World) (name : List ℕ) (d p : ℕ) (l : Leaf) → leaf_called w name ≡ Ok (d, l) → (w.database d).node ≡ Some (of_leaf l) → provider_of w l ≡ Ok p → londiste_step w name ≡ replays w p d
+steps-go w name d p l is there from =
+    steps-by_provider w name d l is
+    ∙ ap (λ c. c >>= (λ q. moves w q d (batch_in_hand d) (replay_move (w.database q) (w.database d) l (w.batches d)))) from
+    ∙ ap (λ n. moves w p d (batch_in_hand d) (replay_move (w.database p) (w.database d) (leaf_in n) (w.batches d))) (sym there)
 
 -- ---- columns that are the same
 
@@ -116,31 +165,3 @@ same-table p r table l node among alike = record {
     columns None b is = absurd (cc)
     columns (Some cs) None is = absurd (cc)
     columns (Some cs) (Some es) is = ap Some (same-all cs es is)
-
--- ---- what is sent
-
--- a table that may not go into a state stays as it is
-pub nothing-sent : (v : WorldView) (d : ℕ) (table : List ℕ) (state : TableState) → may_serve (moving table state) ((seen_world v).database d).node ≡ false → Happened v v (call_facts (seen_world v) d (moving table state))
-nothing-sent v d table state not =
-    subst (λ b. Happened v v (map (within d) (marks_of (if b then call_form ((seen_world v).database d) (moving table state) else answers Null)))) (sym not) (nothing-happened v)
-
-pub sent : (old new : WorldView) (d : ℕ) (table : List ℕ) (state : TableState) → Happened old new (call_facts (seen_world old) d (moving table state))
-    → Does old new (TableMoved table state) (done_in d (TableMoved table state) (node_does ((seen_world old).database d) (moving table state)))
-sent old new d table state happened = record {
-  facts = call_facts (seen_world old) d (moving table state);
-  outcome = by (may_serve (moving table state) here.node) (table_number here table);
-  moments = tt;
-  happened = happened;
-}
-  where
-    here : Database
-    here = (seen_world old).database d
-
-    there : Option ℕ → Checked Outcome
-    there o = if_there o (λ t. moves_table here t table state)
-
-    by : (b : Bool) (o : Option ℕ) → done_in d (TableMoved table state) (if b then there o else answers Null)
-        ≡ Ok (record { replies = TableMoved table state ∷ []; facts = map (within d) (marks_of (if b then there o else answers Null)) })
-    by true None = refl
-    by true (Some t) = refl
-    by false o = refl

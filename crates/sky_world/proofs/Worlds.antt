@@ -1,5 +1,7 @@
 -- What the world shows after what the code changed in it.
-use Rattle.std.proofs.Common.{◌≡◌, ℕ, suc, zero, ◌<◌, ◌≤◌, List, [], ◌∷◌, ◌++◌, Bool, true, false, ◌==◌, nat_le, Option, Some, None, map, length, append-nil, get_or, slice_set, get_or-set_same, get_or-set_other, ◌≢◌, refl, sym, ◌∙◌, ap, subst, arith, All, if◌then◌else◌, IfSome, ℤ, pos}
+use Rattle.std.proofs.Common.{◌≡◌, ℕ, suc, zero, ◌<◌, ◌≤◌, List, [], ◌∷◌, ◌++◌, Bool, true, false, ◌==◌, nat_le, Option, Some, None, map, length, append-nil, get_or, slice_set, get_or-set_same, get_or-set_other, ◌≢◌, refl, sym, ◌∙◌, ap, subst, arith, All, cond, nat_cmp, if◌then◌else◌, IfSome, ℤ, pos}
+use Rattle.std.specs.BTreeMap.{is_at}
+use Rattle.std.specs.Map.{lookup}
 use Rattle.std.proofs.lemmas.List.Elements.{All-append, All-set, All-get_or, All-from_recursion, All-weaker}
 use Rattle.std.proofs.lemmas.Bool.Decides.{nat_tests}
 use Rattle.std.proofs.lemmas.List.{get_or_past}
@@ -12,6 +14,7 @@ use Rattle.sky_model.specs.declared.stmt.Stmt.TheVariants.{Row, CreateRoot, Node
 use Rattle.sky_model.specs.declared.reply.Refusal.TheVariants.{TooMany}
 use Rattle.sky_model.specs.declared.reply.Limit.TheVariants.{Sessions, Databases}
 use Rattle.sky_model.specs.declared.reply.Reply.{Reply}
+use Rattle.sky_model.specs.Hands.{BatchHand}
 use Rattle.sky_model.specs.History.{Mark, Fact, appeared, founded, left, within}
 use Rattle.sky_model.specs.State.{Database, database_of, changed_at, after_mark, after_marks}
 use Rattle.sky_model.specs.World.{World, world_of, after_fact, after_facts}
@@ -90,11 +93,11 @@ homes-at v now who home same all lt is =
 none-there : {A : Type 0} (n : ℕ) (d : A) → get_or [] n d ≡ d
 none-there n d = get_or_past [] n d (omega arith)
 
-pub world-new : (sessions : NamedView (Option ℕ)) (databases : NamedView DbView) (daemons : List (ℕ × ℤ)) (nodes : List ℕ) (hands : List HandAt) → sessions ≡ record { names = []; values = [] } → databases ≡ record { names = []; values = [] }
-    → daemons ≡ [] → nodes ≡ [] → hands ≡ []
-    → seen_world (record { now = pos 0; sessions = sessions; databases = databases; daemons = daemons; nodes = nodes; hands = hands; has_failed = false }) ≡ world_of []
-world-new sessions databases daemons nodes hands nobody nothing none no_node no_hand =
-    (λ i. seen_world (record { now = pos 0; sessions = nobody i; databases = nothing i; daemons = none i; nodes = no_node i; hands = no_hand i; has_failed = false }))
+pub world-new : (sessions : NamedView (Option ℕ)) (databases : NamedView DbView) (daemons : List (ℕ × ℤ)) (nodes : List ℕ) (hands : List HandAt) (batches : List (ℕ × BatchHand)) → sessions ≡ record { names = []; values = [] } → databases ≡ record { names = []; values = [] }
+    → daemons ≡ [] → nodes ≡ [] → hands ≡ [] → batches ≡ []
+    → seen_world (record { now = pos 0; sessions = sessions; databases = databases; daemons = daemons; nodes = nodes; hands = hands; batches = batches; has_failed = false }) ≡ world_of []
+world-new sessions databases daemons nodes hands batches nobody nothing none no_node no_hand no_batch =
+    (λ i. seen_world (record { now = pos 0; sessions = nobody i; databases = nothing i; daemons = none i; nodes = no_node i; hands = no_hand i; batches = no_batch i; has_failed = false }))
     ∙ (λ i. record (world_of []) { homes = λ who. none-there who None i; database = λ d. (ap seen_database (none-there d no_database) ∙ no_database-is) i })
 
 -- appending an entry that is read as those past the end changes nothing that is shown
@@ -110,6 +113,22 @@ get_or-changed xs i n x d lt = by (i == n) refl
     by : (b : Bool) → (i == n) ≡ b → get_or (slice_set xs i x) n d ≡ (if b then x else get_or xs n d)
     by true e = let same : i ≡ n = grind (arith, nat_tests) in ap (λ m. get_or (slice_set xs i x) m d) (sym same) ∙ get_or-set_same xs i x d lt
     by false e = let other : n ≢ i = grind (arith, nat_tests) in get_or-set_other xs i n x d other
+
+-- the test on an entry's key is equality
+is_at-nat : (k n : ℕ) → is_at (nat_cmp k) n ≡ (k == n)
+is_at-nat k n = grind (arith, nat_tests)
+
+-- an entry that changed
+pub entries-updated : {A : Type 0} (old new : List (ℕ × A)) (d : ℕ) (o : Option A) → ((q : ℕ) → lookup (is_at (nat_cmp q)) new ≡ cond (is_at (nat_cmp d) q) o (lookup (is_at (nat_cmp q)) old))
+    → (λ n. lookup (is_at (nat_cmp n)) new) ≡ changed_at d (λ _. o) (λ n. lookup (is_at (nat_cmp n)) old)
+entries-updated old new d o updates = λ i n. pointwise n i
+  where
+    by : (n : ℕ) (b : Bool) → cond b o (lookup (is_at (nat_cmp n)) old) ≡ (if b then o else lookup (is_at (nat_cmp n)) old)
+    by n true = refl
+    by n false = refl
+
+    pointwise : (n : ℕ) → lookup (is_at (nat_cmp n)) new ≡ (if d == n then o else lookup (is_at (nat_cmp n)) old)
+    pointwise n = updates n ∙ ap (λ b. cond b o (lookup (is_at (nat_cmp n)) old)) (is_at-nat d n) ∙ by n (d == n)
 
 -- a session that opened a database, or left it
 pub home-as : (v now : WorldView) (who : ℕ) (home : Option ℕ) → v ≡ now → who < length v.sessions.values

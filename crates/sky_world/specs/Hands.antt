@@ -1,17 +1,24 @@
--- What the workers that copy tables have in hand, as the world keeps it.
+-- What the workers of leaves have in hand, as the world keeps it.
 use Rattle.std.specs.Prelude.{ℕ, List, Bool, ◌&&◌, Option, option_and_then, find, bytes_eq, ◌==◌}
-use Rattle.sky_model.specs.Hands.{CopyHand}
+use Rattle.std.specs.Ordering.{nat_cmp}
+use Rattle.std.specs.BTreeMap.{is_at}
+use Rattle.std.specs.Map.{lookup}
+use Rattle.sky_model.specs.Hands.{BatchHand, Hand}
 
--- the worker of a table of a database, and what it has in hand
+-- the worker that copies a table of a database, and what it has in hand
 pub record HandAt : Type 0 where
   pub database : ℕ
   pub table : List ℕ
-  pub hand : Option CopyHand
+  pub hand : Option Hand
 
 -- whether a worker is that of a table
 abbrev pub is_hand_of : (database : ℕ) → (table : List ℕ) → HandAt → Bool
 is_hand_of database table x = x.database == database && bytes_eq table x.table
 
 -- what the worker of a table has in hand
-abbrev pub hand_at : List HandAt → (database : ℕ) → (table : List ℕ) → Option CopyHand
+abbrev pub hand_at : List HandAt → (database : ℕ) → (table : List ℕ) → Option Hand
 hand_at hands database table = option_and_then HandAt.hand (find (is_hand_of database table) hands)
+
+-- what the worker of the leaf of a database has in hand
+abbrev pub batch_at : List (ℕ × BatchHand) → (database : ℕ) → Option BatchHand
+batch_at batches database = lookup (is_at (nat_cmp database)) batches

@@ -5,7 +5,7 @@ use Rattle.std.specs.BTreeMap.{is_at}
 use Rattle.std.specs.Map.{lookup}
 use Rattle.sky_model.specs.World.{World}
 use Rattle.pgq_db.specs.Seen.{seen_database, no_database}
-use Rattle.sky_world.specs.Hands.{hand_at}
+use Rattle.sky_world.specs.Hands.{hand_at, batch_at}
 use Rattle.sky_world.specs.Views.{WorldView}
 
 abbrev pub seen_world : WorldView → World
@@ -18,4 +18,5 @@ seen_world w = record {
   daemons = λ d. lookup (is_at (nat_cmp d)) w.daemons;
   nodes = w.nodes;
   hands = hand_at w.hands;
+  batches = batch_at w.batches;
 }

@@ -1,6 +1,7 @@
 -- What contracts see of the world, as the code keeps it.
 use Rattle.std.specs.Prelude.{ℕ, ℤ, Bool, List, Option}
 use Rattle.sky_names.specs.Named.{NamedView}
+use Rattle.sky_model.specs.Hands.{BatchHand}
 use Rattle.pgq_db.specs.Views.{DbView}
 use Rattle.sky_world.specs.Hands.{HandAt}
 
@@ -15,5 +16,7 @@ pub record WorldView : Type 0 where
   pub nodes : List ℕ
   -- the workers that copy tables, in the order of their first moves, each with what it has in hand
   pub hands : List HandAt
+  -- the databases whose leaf's worker has a batch in hand, each with it
+  pub batches : List (ℕ × BatchHand)
   -- whether memory ran out once
   pub has_failed : Bool

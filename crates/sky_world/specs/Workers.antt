@@ -1,27 +1,54 @@
 -- What the world's methods on the workers of leaves give, by what the world showed.
-use Rattle.std.specs.Prelude.{◌≡◌, ℕ, List, [], ◌∷◌, ◌++◌, Bool, true, false, Option, Some, None, Ok, Err}
-use Rattle.londiste_state.specs.Nodes.{Leaf}
+use Rattle.std.specs.Prelude.{ℕ, List, [], ◌∷◌, ◌++◌, Bool, true, false, not, Option, Some, None, Result, Ok, Err}
+use Rattle.londiste_state.specs.Nodes.{Node, of_root, of_leaf, Leaf, is_among, tables_of}
 use Rattle.sky_model.specs.declared.reply.Reply.TheVariants.{Done}
-use Rattle.sky_model.specs.declared.reply.Refusal.TheVariants.{IdsSpent, NoNode, TooMany, TxidsSpent}
+use Rattle.sky_model.specs.declared.reply.Refusal.TheVariants.{IdsSpent, NoNode, NotInSet, NotLeaf, TooMany, TxidsSpent}
 use Rattle.sky_model.specs.declared.reply.Limit.TheVariants.{Consumers}
-use Rattle.sky_model.specs.Hands.{CopyHand}
-use Rattle.sky_model.specs.Outcome.{Checked, ◌>>=◌, found_or}
+use Rattle.sky_model.specs.declared.stop.Stop.{Stop}
+use Rattle.sky_model.specs.declared.stop.Stop.TheVariants as stop
+use Rattle.sky_model.specs.Hands.{Hand, copy_in}
+use Rattle.sky_model.specs.History.{in_hand, batch_in_hand}
+use Rattle.sky_model.specs.Outcome.{Checked, ◌>>=◌, ◌>>◌, found_or, refused_if}
 use Rattle.sky_model.specs.StepNode.{NodeCall, parting, removing, letting_go}
-use Rattle.sky_model.specs.CopyMoves.{CopyMove, lets_go_for}
+use Rattle.sky_model.specs.WorkerMoves.{Move}
+use Rattle.sky_model.specs.CopyMoves.{copy_move, lets_go_for}
+use Rattle.sky_model.specs.ReplayMoves.{replay_move}
 use Rattle.sky_model.specs.NodesOfWorld.{WorldOutcome, node_called}
-use Rattle.sky_model.specs.WorkersOfWorld.{leaf_table}
+use Rattle.sky_model.specs.WorkersOfWorld.{moves}
 use Rattle.sky_model.specs.World.{World}
 use Rattle.pgq_db.specs.declared.faults.WorkerFault.{WorkerFault}
 use Rattle.pgq_db.specs.declared.faults.WorkerFault.TheVariants as fault
-use Rattle.sky_world.specs.Views.{WorldView}
-use Rattle.sky_world.specs.Nodes.{Stays}
 
--- the leaf of a name that has a table, and the number of its database
+-- a node that is a leaf, in a database
+abbrev pub if_leaf : (name : List ℕ) → (database : ℕ) → Node → Checked (ℕ × Leaf)
+if_leaf name database (of_root r) = Err (NotLeaf name)
+if_leaf name database (of_leaf l) = Ok (database, l)
+
+-- the leaf of a name, and the number of its database
+abbrev pub leaf_called : World → (name : List ℕ) → Checked (ℕ × Leaf)
+leaf_called w name = do
+  n ← found_or (node_called w name) (NoNode name)
+  if_leaf name n.database n.node
+
+-- the same, if the leaf has a table
 abbrev pub leaf_with : World → (name table : List ℕ) → Checked (ℕ × Leaf)
 leaf_with w name table = do
-  n ← found_or (node_called w name) (NoNode name)
-  l ← leaf_table name table n.node
-  Ok (n.database, l)
+  x ← leaf_called w name
+  refused_if (not (is_among table (tables_of (of_leaf x.1)))) (NotInSet table)
+  Ok x
+
+-- the leaf that a node is; any other node is read as a leaf without tables
+abbrev pub leaf_in : Option Node → Leaf
+leaf_in (Some (of_leaf l)) = l
+leaf_in n = record { name = []; provider = []; tick = 0; tables = [] }
+
+-- one move of the worker that copies a table of database `d` from database `p`
+abbrev pub copies : World → (p d : ℕ) → (table : List ℕ) → Checked WorldOutcome
+copies w p d table = moves w p d (in_hand d table) (copy_move (w.database p) (w.database d) table (w.hands d table))
+
+-- one move of the worker of the leaf of database `d`, whose provider has database `p`
+abbrev pub replays : World → (p d : ℕ) → Checked WorldOutcome
+replays w p d = moves w p d (batch_in_hand d) (replay_move (w.database p) (w.database d) (leaf_in (w.database d).node) (w.batches d))
 
 -- a snapshot that is held is let go, if there is one
 abbrev pub lets_go_with : (hold : Option ℕ) → List NodeCall
@@ -34,17 +61,22 @@ parts_with None = []
 parts_with (Some consumer) = parting consumer ∷ []
 
 -- a table leaves a leaf, with what its worker has in hand, and this consumer of its copy
-abbrev pub leaving : List ℕ → Option (List ℕ) → Option CopyHand → CopyMove
-leaving table consumer hand = record { provider = lets_go_for hand ++ parts_with consumer; replica = removing table ∷ []; replies = Done ∷ []; hand = None }
+abbrev pub leaving : List ℕ → Option (List ℕ) → Option Hand → Move Hand
+leaving table consumer hand = record { provider = lets_go_for (copy_in hand) ++ parts_with consumer; replica = removing table ∷ []; replies = Done ∷ []; hand = None }
 
--- whether memory ran out in a worker's move
-abbrev pub is_out_of_memory : WorkerFault → Bool
-is_out_of_memory fault.NoMemory = true
-is_out_of_memory _ = false
+-- why a statement stopped, by its worker's fault
+abbrev pub stop_of : WorkerFault → Stop
+stop_of fault.TooManyConsumers = stop.Refused (TooMany Consumers)
+stop_of fault.IdsSpent = stop.Refused IdsSpent
+stop_of fault.TxidsSpent = stop.Refused TxidsSpent
+stop_of fault.NoMemory = stop.NoMemory
 
--- its move is refused, and nothing is changed; or memory ran out
-abbrev pub StepRefused : WorkerFault → (old new : WorldView) → Checked WorldOutcome → Type 0
-StepRefused fault.TooManyConsumers old new checked = (checked ≡ Err (TooMany Consumers)) × Stays old new
-StepRefused fault.IdsSpent old new checked = (checked ≡ Err IdsSpent) × Stays old new
-StepRefused fault.TxidsSpent old new checked = (checked ≡ Err TxidsSpent) × Stays old new
-StepRefused fault.NoMemory old new checked = Unit {0}
+-- what a worker's move gave, as a statement gives it
+abbrev pub stopping : {A : Type 0} → Result A WorkerFault → Result A Stop
+stopping (Ok a) = Ok a
+stopping (Err f) = Err (stop_of f)
+
+-- whether a statement ran out of memory
+abbrev pub is_out_of_memory : Stop → Bool
+is_out_of_memory stop.NoMemory = true
+is_out_of_memory (stop.Refused refusal) = false

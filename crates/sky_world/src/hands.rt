@@ -1,29 +1,36 @@
-//! What the workers that copy tables have in hand, from one move to the next.
+//! What the workers of leaves have in hand, from one move to the next.
 
-ghost use Rattle.std.specs.Prelude.{◌≡◌, [], None, IfSome, OnOk, OnErr, option_map, position};
+ghost use Rattle.std.specs.Prelude.{◌≡◌, [], None, OnOk, OnErr, option_map, position};
+ghost use Rattle.sky_model.specs.Hands as model;
+ghost use Rattle.sky_model.specs.Hands.{copy_in};
 ghost use Rattle.sky_model.specs.State.{changed_at, changed_for};
-ghost use Rattle.sky_world.specs.Hands.{is_hand_of, hand_at};
+ghost use Rattle.londiste_copy.specs.Hands.{hand_of};
+ghost use Rattle.sky_world.specs.Hands.{is_hand_of, hand_at, batch_at};
 
-use londiste_copy::CopyHand;
+use londiste_batches::BatchHand;
+use londiste_copy::Hand;
 use sky_val::{NoMemory, Text};
 use std::alloc::Global;
+use std::collections::BTreeMap;
 use std::marker::Model;
 use std::mem;
 
-/// What the worker of a table of a database has in hand.
+/// What the worker that copies a table of a database has in hand.
 #[derive(Drop)]
 struct HandAt {
     database: usize,
     table: Text,
-    hand: Option<CopyHand>,
+    hand: Option<Hand>,
 }
 
 impl Model for HandAt {
+    ghost use Rattle.std.specs.Prelude.{option_map};
+    ghost use Rattle.londiste_copy.specs.Hands.{hand_of};
     ghost use Rattle.sky_world.specs.Hands.{HandAt};
 
     ghost Value = { HandAt };
 
-    ghost view = { λ h. record { database = h.database; table = h.table; hand = h.hand } };
+    ghost view = { λ h. record { database = h.database; table = h.table; hand = option_map hand_of h.hand } };
 }
 
 impl HandAt {
@@ -64,16 +71,16 @@ impl Hands {
 
     /// The number of the hold of a copy that the worker of a table has in hand.
     pub(crate) fn hold(&self, database: usize, table: &Text) -> Option<u64>
-        ensures { result ≡ option_map (λ hand. hand.hold) (hand_at self.now database table.now) }
+        ensures { result ≡ option_map model.CopyHand.hold (copy_in (hand_at self.now database table.now)) }
     {
         let at = self.place(database, table)?;
         let hand = self.hands[at].hand.as_ref()?;
-        Some(hand.hold())
+        hand.hold()
     }
 
     /// Takes what the worker of a table has in hand, which is nothing then.
-    pub(crate) fn take(&mut self, database: usize, table: &Text) -> Option<CopyHand>
-        ensures hand { result ≡ hand_at self.old database table.now }
+    pub(crate) fn take(&mut self, database: usize, table: &Text) -> Option<Hand>
+        ensures hand { option_map hand_of result ≡ hand_at self.old database table.now }
         ensures nothing { hand_at self.new ≡ changed_at database (changed_for table.now (λ _. None)) (hand_at self.old) }
     {
         let at = self.place(database, table)?;
@@ -85,9 +92,9 @@ impl Hands {
         &mut self,
         database: usize,
         table: &Text,
-        hand: Option<CopyHand>,
+        hand: Option<Hand>,
     ) -> Result<(), NoMemory>
-        ensures ok { OnOk result (hand_at self.new ≡ changed_at database (changed_for table.now (λ _. hand)) (hand_at self.old)) }
+        ensures ok { OnOk result (hand_at self.new ≡ changed_at database (changed_for table.now (λ _. option_map hand_of hand)) (hand_at self.old)) }
         ensures err { OnErr result (self.new ≡ self.old) }
     {
         match self.place(database, table) {
@@ -116,5 +123,59 @@ impl Hands {
         self.hands
             .iter()
             .position(|hand| hand.is_of(database, table))
+    }
+}
+
+/// The batches that the workers of leaves have in hand, by the number of the leaf's database.
+#[derive(Drop)]
+pub(crate) struct Batches {
+    batches: BTreeMap<usize, BatchHand>,
+}
+
+impl Model for Batches {
+    ghost use Rattle.std.specs.Prelude.{ℕ, List};
+    ghost use Rattle.sky_model.specs.Hands.{BatchHand};
+
+    ghost Value = { List (ℕ × BatchHand) };
+
+    ghost view = { λ b. b.batches.entries };
+}
+
+impl Batches {
+    /// None.
+    pub(crate) fn new(alloc: Global) -> Batches
+        ensures { result ≡ [] }
+    {
+        Batches {
+            batches: BTreeMap::new(alloc),
+        }
+    }
+
+    /// What the worker of the leaf of a database has in hand.
+    pub(crate) fn get(&self, database: usize) -> Option<BatchHand>
+        ensures { result ≡ batch_at self.now database }
+    {
+        self.batches.get(&database).copied()
+    }
+
+    /// From now on it has this in hand, or nothing. If memory runs out, nothing changes.
+    pub(crate) fn set(&mut self, database: usize, hand: Option<BatchHand>) -> Result<(), NoMemory>
+        ensures ok { OnOk result (batch_at self.new ≡ changed_at database (λ _. hand) (batch_at self.old)) }
+        ensures err { OnErr result (self.new ≡ self.old) }
+    {
+        match hand {
+            Some(batch) => {
+                self.batches.insert(database, batch)?;
+            }
+            None => self.empty(database),
+        }
+        Ok(())
+    }
+
+    /// From now on it has nothing in hand.
+    pub(crate) fn empty(&mut self, database: usize)
+        ensures { batch_at self.new ≡ changed_at database (λ _. None) (batch_at self.old) }
+    {
+        self.batches.remove(&database);
     }
 }

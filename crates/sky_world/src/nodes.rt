@@ -20,9 +20,9 @@ ghost use Rattle.sky_world.specs.Adds.{AddsDeed};
 ghost use Rattle.sky_world.specs.Nodes.{may_outside, root_name, Stays, Happened, Does, DoesAll, Stopped, Ran, as_list, StopsLike, Joined, leaf_from, provided_as};
 ghost use Rattle.sky_world.specs.Workers.{parts_with};
 
-use crate::workers::is_on_way;
 use crate::world::World;
 use londiste_copy::copy_consumer;
+use londiste_replay::is_on_way;
 use londiste_state::{Leaf, Node};
 use pgq_db::{JoinFault, RootFault};
 use sky_model::{Limit, NodeStmt, Refusal, Replies, Reply, Stmt, Stop};
@@ -138,7 +138,7 @@ impl World {
         }
     }
 
-    /// Runs a statement on nodes. `copy_step` alone may have more than one answer.
+    /// Runs a statement on nodes. A worker's move has its answers as a list; any other statement has one.
     fn run_form(&mut self, database: usize, form: &NodeStmt) -> Result<Vec<Reply>, Stop>
         requires database { database < length self.old.databases.names }
         requires sound { self.old.has_failed ≡ false }
@@ -158,7 +158,7 @@ impl World {
             NodeStmt::RestartTable { name, table } => {
                 as_list(alloc, self.restart_table(name, table))
             }
-            NodeStmt::LondisteStep { name } => as_list(alloc, self.londiste_step(name)),
+            NodeStmt::LondisteStep { name } => self.londiste_step(name),
         }
     }
 

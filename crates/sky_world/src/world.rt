@@ -19,7 +19,7 @@ ghost use Rattle.sky_world.specs.Adds.{AddsDeed, AddsCall};
 ghost use Rattle.sky_world.specs.Nodes.{outside_allowed, refused_turn, failed_turn, Stays};
 ghost use Rattle.sky_world.specs.Works.{is_clock, is_pgqd, is_on_nodes};
 
-use crate::hands::Hands;
+use crate::hands::{Batches, Hands};
 use pgq_db::Db;
 use sky_model::{Limit, Refusal, Replies, Reply, RowStmt, Stmt};
 use sky_names::Named;
@@ -53,6 +53,8 @@ pub struct World {
     pub(crate) nodes: Vec<usize>,
     // What the workers that copy tables have in hand.
     pub(crate) hands: Hands,
+    // What the workers of leaves have in hand.
+    pub(crate) batches: Batches,
     // An empty database, with which one is exchanged while a worker goes by two.
     pub(crate) spare: Db,
     // Whether memory ran out once. Then it isn't known who waits in a database, so no further statement is run.
@@ -73,7 +75,7 @@ impl Model for World {
 
     ghost Value = { WorldView };
 
-    ghost view = { λ w. record { now = w.clock; sessions = w.sessions; databases = w.databases; daemons = w.daemons.entries; nodes = w.nodes.items; hands = w.hands; has_failed = w.has_failed } };
+    ghost view = { λ w. record { now = w.clock; sessions = w.sessions; databases = w.databases; daemons = w.daemons.entries; nodes = w.nodes.items; hands = w.hands; batches = w.batches; has_failed = w.has_failed } };
 
     ghost invariant = { λ w. IsTime w.clock × HomesWithin (length w.databases.names) w.sessions.values × StartedBy w.clock w.daemons.entries
         × (w.has_failed ≡ false → AllWaitersWithin (length w.sessions.names) w.databases.values) × NodesWithin (length w.databases.names) w.nodes.items
@@ -94,6 +96,7 @@ impl World {
             daemons: BTreeMap::new(alloc),
             nodes: Vec::new(alloc),
             hands: Hands::new(alloc),
+            batches: Batches::new(alloc),
             spare: Db::new(alloc),
             has_failed: false,
         }

@@ -1,10 +1,10 @@
-use Rattle.std.proofs.Common.{rules, sym, ◌∙◌, ap, Option, option_map}
-use Rattle.sky_model.specs.Hands.{CopyHand}
+use Rattle.std.proofs.Common.{rules, sym, ◌∙◌, ap, option_map}
+use Rattle.sky_model.specs.Hands.{CopyHand, copy_in}
 use Rattle.sky_world.proofs.HandsAt.{hand-none, hand-of}
 use Rattle.sky_world.proofs.hands.Hands.hold.Goals as goal
 
 pub returns-in_err-at : goal.returns-in_err-at
-returns-in_err-at c = c.from_residual.ensures ∙ sym (ap (option_map CopyHand.hold) (hand-none c.args.database c.args.table.now c.args.self.now (sym c.in_err-at.ensures)))
+returns-in_err-at c = c.from_residual.ensures ∙ sym (ap (λ hand. option_map CopyHand.hold (copy_in hand)) (hand-none c.args.database c.args.table.now c.args.self.now (sym c.in_err-at.ensures)))
 
 pub returns-in_err-hand : goal.returns-in_err-hand
 returns-in_err-hand c =

@@ -1,6 +1,6 @@
 use Rattle.std.proofs.Common.{◌∙◌, ap, option_copied, option_map}
 use Rattle.londiste_state.specs.Nodes.{is_among}
-use Rattle.sky_model.specs.Hands.{CopyHand}
+use Rattle.sky_model.specs.Hands.{CopyHand, copy_in}
 use Rattle.sky_model.specs.Nodes.{leaf_tables}
 use Rattle.sky_model.specs.State.{Database}
 use Rattle.sky_world.specs.Hands.{hand_at}
@@ -23,4 +23,4 @@ pub returns : goal.returns
 returns c =
     left-leaf c.args.self.now c.let_go_if.new.self c.part_if.new.self c.drop_from_leaf.new.self c.empty_hand.new.self c.args.provider c.args.database c.args.table.now c.hold-hold.result (option_copied c.args.consumer)
     (hand_at c.args.self.now.hands c.args.database c.args.table.now)
-    (c.hold-hold.ensures ∙ ap (λ (w : WorldView). option_map CopyHand.hold (hand_at w.hands c.args.database c.args.table.now)) c.self.view_is) c.let_go_if.ensures c.part_if.ensures c.drop_from_leaf.ensures c.empty_hand.ensures
+    (c.hold-hold.ensures ∙ ap (λ (w : WorldView). option_map CopyHand.hold (copy_in (hand_at w.hands c.args.database c.args.table.now))) c.self.view_is) c.let_go_if.ensures c.part_if.ensures c.drop_from_leaf.ensures c.empty_hand.ensures

@@ -1,10 +1,6 @@
-use Rattle.std.proofs.Common.{◌∙◌, [], ap, sym, refl, subst}
-use Rattle.sky_model.specs.CopyMoves.{gives_up_in}
-use Rattle.sky_model.specs.WorkersOfWorld.{restarting}
+use Rattle.std.proofs.Common.{◌∙◌, ap}
 use Rattle.pgq_db.specs.Seen.{seen_database}
-use Rattle.sky_world.specs.Hands.{hand_at}
-use Rattle.sky_world.specs.Views.{WorldView}
-use Rattle.sky_world.proofs.WorkerSteps.{Went, went-as, waiters-both, rests-both, made-both, spare-back, restart-both, restart-there}
+use Rattle.sky_world.proofs.WorkerSteps.{went-as, waiters-both, rests-both, made-both, spare-back, restart-both, restart-there}
 use Rattle.sky_world.proofs.world.World.restart_copy.Goals as goal
 
 pub invariant_of-self : goal.invariant_of-self
@@ -16,12 +12,12 @@ invariant_of-self c =
       c.self.invariant.0,
       c.self.invariant.1,
       c.self.invariant.2,
-      (λ whole. waiters-both stores c.args.provider c.args.database c.swap.new.y c.swap.new.x c.swap-2.new.y c.get_mut-to.result.now c.restart.new.replica went (ap seen_database c.swap.ensures.y_after ∙ c.self.invariant.7 whole) both _
+      (λ whole. waiters-both c.swap-2.new.y c.restart.new.replica went (ap seen_database c.swap.ensures.y_after ∙ c.self.invariant.7 whole) both _
           (c.self.invariant.3 whole)),
       c.self.invariant.4,
-      (λ whole. rests-both stores c.args.provider c.args.database c.swap.new.y c.swap.new.x c.swap-2.new.y c.get_mut-to.result.now c.restart.new.replica went (ap seen_database c.swap.ensures.y_after ∙ c.self.invariant.7 whole) both
+      (λ whole. rests-both c.swap-2.new.y c.restart.new.replica went (ap seen_database c.swap.ensures.y_after ∙ c.self.invariant.7 whole) both
           (c.self.invariant.5 whole)),
-      (λ whole. made-both stores c.args.provider c.args.database c.swap.new.y c.swap.new.x c.swap-2.new.y c.get_mut-to.result.now c.restart.new.replica went (ap seen_database c.swap.ensures.y_after ∙ c.self.invariant.7 whole) both
+      (λ whole. made-both c.swap-2.new.y c.restart.new.replica went (ap seen_database c.swap.ensures.y_after ∙ c.self.invariant.7 whole) both
           (c.self.invariant.6 whole)),
       (λ whole. ap seen_database c.swap-2.ensures.x_after
           ∙ spare-back stores c.args.provider c.args.database c.swap.new.y c.restart.new.replica c.get_mut-2.result.now went.p_lt c.requires.apart c.get_mut-2.ensures.value (ap seen_database c.swap.ensures.y_after ∙ c.self.invariant.7 whole)),

@@ -1,0 +1,3 @@
+pub mod Calls
+mod Batches
+mod Taking

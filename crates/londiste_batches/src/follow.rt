@@ -1,0 +1,149 @@
+//! The moves of a worker that goes through batches.
+
+ghost use Rattle.std.specs.Prelude.{◌≡◌, ℕ, List, [], true, Some, None, IfOk, IfErr, is_some, option_map, unwrap_or};
+ghost use Rattle.sky_model.specs.BatchMoves.{applies_in_hand, finishes_in_hand, goes_through, takes_next};
+ghost use Rattle.sky_model.specs.DatabaseSteps.{IsMade};
+ghost use Rattle.sky_model.specs.History as history;
+ghost use Rattle.sky_model.specs.State.{Database};
+ghost use Rattle.sky_model.specs.StepApply.{may_apply};
+ghost use Rattle.sky_model.specs.StepNode.{set_queue, finishing};
+ghost use Rattle.pgq_db.specs.Applying.{pick_of};
+ghost use Rattle.pgq_db.specs.Seen.{seen_database};
+ghost use Rattle.pgq_db.specs.Served.{Serves};
+ghost use Rattle.londiste_batches.specs.Moved.{MovesBy, MoveRefused};
+
+use crate::hand::BatchHand;
+use crate::printing::print;
+use pgq_db::{ApplyFault, Db, FetchFault, Pick, WorkerFault};
+use sky_model::Reply;
+use sky_val::{Event, Text};
+
+/// What a worker that has come to a tick does with the batch in its hand: it applies the events that it picks, or skips
+/// the batch if it has come to the closing tick before; and then it finishes the batch. If an event can't be applied, the
+/// worker stays where it is. The result is what the worker has in hand then.
+pub fn go_through(
+    provider: &mut Db,
+    replica: &mut Db,
+    tick: u64,
+    pick: &Pick,
+    hand: BatchHand,
+    replies: &mut Vec<Reply>,
+) -> Result<Option<BatchHand>, WorkerFault>
+    requires replica_made { IsMade (seen_database replica.old) }
+    requires root { is_some (set_queue (seen_database provider.old)) ≡ true }
+    requires may { may_apply (pick_of pick.now) (seen_database replica.old).node ≡ true }
+    requires nothing { replies.old.items ≡ [] }
+    ensures moves { IfOk result (λ now. (consumer : List ℕ) → MovesBy (goes_through (seen_database provider.old) (seen_database replica.old) (record { consumer = consumer; tick = tick; pick = pick_of pick.now }) hand)
+        (seen_database provider.old) (seen_database provider.new) (seen_database replica.old) (seen_database replica.new) replies.new.items now) }
+    ensures fault { IfErr result (λ fault. (consumer : List ℕ) → MoveRefused fault (goes_through (seen_database provider.old) (seen_database replica.old) (record { consumer = consumer; tick = tick; pick = pick_of pick.now }) hand)
+        (seen_database provider.old) (seen_database provider.new) (seen_database replica.old) (seen_database replica.new) (Some hand) (Some hand)) }
+{
+    if hand.is_done {
+        return finish(provider, hand, replies);
+    }
+    if tick < hand.batch.cur {
+        return apply(provider, replica, pick, hand, replies);
+    }
+    print(Reply::BatchSkipped(hand.batch.cur), replies)?;
+    Ok(Some(hand.done()))
+}
+
+/// Takes the next batch of a consumer in hand, if the consumer is registered and there is one.
+pub fn take_next(
+    provider: &mut Db,
+    consumer: &Text,
+    replies: &mut Vec<Reply>,
+) -> Result<Option<BatchHand>, WorkerFault>
+    requires root { is_some (set_queue (seen_database provider.old)) ≡ true }
+    requires nothing { replies.old.items ≡ [] }
+    ensures moves { IfOk result (λ now. (r : Database) (tick : ℕ) (pick : history.Pick) → MovesBy (takes_next (seen_database provider.old) (record { consumer = consumer.now; tick = tick; pick = pick }))
+        (seen_database provider.old) (seen_database provider.new) r r replies.new.items now) }
+    ensures fault { IfErr result (λ fault. (r : Database) (tick : ℕ) (pick : history.Pick) → MoveRefused fault (takes_next (seen_database provider.old) (record { consumer = consumer.now; tick = tick; pick = pick }))
+        (seen_database provider.old) (seen_database provider.new) r r None None) }
+{
+    if !provider.has_joined(consumer) {
+        print(Reply::Idle, replies)?;
+        return Ok(None);
+    }
+    match provider.fetch(consumer) {
+        Ok(Some(batch)) => {
+            print(Reply::BatchTaken(batch.id, batch.prev, batch.cur), replies)?;
+            Ok(Some(BatchHand::new(batch)))
+        }
+        Ok(None) => {
+            print(Reply::Idle, replies)?;
+            Ok(None)
+        }
+        Err(FetchFault::IdsSpent) => Err(WorkerFault::IdsSpent),
+        Err(FetchFault::NoMemory) => Err(WorkerFault::NoMemory),
+    }
+}
+
+/// The events of the batch in hand that are picked are applied, in one transaction. If one of them can't be, the batch
+/// stays in hand as it is.
+fn apply(
+    provider: &mut Db,
+    replica: &mut Db,
+    pick: &Pick,
+    hand: BatchHand,
+    replies: &mut Vec<Reply>,
+) -> Result<Option<BatchHand>, WorkerFault>
+    requires replica_made { IsMade (seen_database replica.old) }
+    requires may { may_apply (pick_of pick.now) (seen_database replica.old).node ≡ true }
+    requires nothing { replies.old.items ≡ [] }
+    ensures moves { IfOk result (λ now. (consumer : List ℕ) (tick : ℕ) → MovesBy (applies_in_hand (seen_database provider.old) (seen_database replica.old) (record { consumer = consumer; tick = tick; pick = pick_of pick.now }) hand)
+        (seen_database provider.old) (seen_database provider.new) (seen_database replica.old) (seen_database replica.new) replies.new.items now) }
+    ensures fault { IfErr result (λ fault. (consumer : List ℕ) (tick : ℕ) → MoveRefused fault (applies_in_hand (seen_database provider.old) (seen_database replica.old) (record { consumer = consumer; tick = tick; pick = pick_of pick.now }) hand)
+        (seen_database provider.old) (seen_database provider.new) (seen_database replica.old) (seen_database replica.new) (Some hand) (Some hand)) }
+{
+    let cur = hand.batch.cur;
+    let found = provider.events_of(hand.batch.id)?;
+    match replica.apply(all_of(&found), pick, cur) {
+        Ok(many) => {
+            print(Reply::BatchApplied(cur, many), replies)?;
+            Ok(Some(hand.done()))
+        }
+        Err(ApplyFault::BadEvent(_)) => {
+            print(Reply::Idle, replies)?;
+            Ok(Some(hand))
+        }
+        Err(ApplyFault::TxidsSpent) => Err(WorkerFault::TxidsSpent),
+        Err(ApplyFault::NoMemory) => Err(WorkerFault::NoMemory),
+    }
+}
+
+/// The events of a batch that was found; none of one that wasn't.
+fn all_of(found: &Option<Vec<Event>>) -> &[Event]
+    ensures { result.now ≡ unwrap_or (option_map (λ events. events.items) found.now) [] }
+{
+    match found {
+        Some(events) => events,
+        None => &[],
+    }
+}
+
+/// The batch in hand is finished.
+fn finish(
+    provider: &mut Db,
+    hand: BatchHand,
+    replies: &mut Vec<Reply>,
+) -> Result<Option<BatchHand>, WorkerFault>
+    requires root { is_some (set_queue (seen_database provider.old)) ≡ true }
+    requires nothing { replies.old.items ≡ [] }
+    ensures moves { IfOk result (λ now. (r : Database) → MovesBy (finishes_in_hand hand) (seen_database provider.old) (seen_database provider.new) r r replies.new.items now) }
+    ensures fault { IfErr result (λ fault. fault ≡ WorkerFault.NoMemory) }
+{
+    finish_active(provider, hand.batch.id);
+    print(Reply::BatchFinished(hand.batch.id), replies)?;
+    Ok(None)
+}
+
+/// The batch of this id is finished, if it is active.
+fn finish_active(provider: &mut Db, id: u64)
+    requires root { is_some (set_queue (seen_database provider.old)) ≡ true }
+    ensures { Serves (seen_database provider.old) (seen_database provider.new) (finishing id) }
+{
+    if provider.has_batch(id) {
+        provider.finish_node(id);
+    }
+}

@@ -1,0 +1,17 @@
+//! What the workers of a leaf share that go through the batches of a set's queue: each takes the next batch in hand,
+//! applies the events that it picks, unless it has come to the batch's closing tick before, and finishes the batch.
+//!
+//! Such a worker is known by the name of its consumer, the tick to which it has come, and its pick. `BatchMoves` of the
+//! definitions says what each move is; here it is made by calls of the two databases. Nothing here says when a worker
+//! takes a batch, or what else it does.
+#![tactic(auto)]
+
+mod follow;
+mod hand;
+mod printing;
+mod tables;
+
+pub use follow::{go_through, take_next};
+pub use hand::BatchHand;
+pub use printing::print;
+pub use tables::move_table;

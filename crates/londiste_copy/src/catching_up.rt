@@ -1,0 +1,162 @@
+//! The moves of the worker of a table's copy once the table has its rows: it goes through batches, until the table can be
+//! handed over to the leaf's own worker.
+
+ghost use Rattle.std.specs.Prelude.{◌≡◌, [], true, None, Some, IfOk, IfErr, is_some, option_copied};
+ghost use Rattle.londiste_state.specs.declared.state.TableState.TheVariants as state;
+ghost use Rattle.londiste_state.specs.Nodes.{LeafTable};
+ghost use Rattle.sky_model.specs.BatchMoves.{goes_through, takes_next};
+ghost use Rattle.sky_model.specs.CopyMoves.{catches_up, copier, copy_consumer, covers, hands_over, has_caught_up, with_batch};
+ghost use Rattle.sky_model.specs.DatabaseSteps.{IsMade};
+ghost use Rattle.sky_model.specs.History.{copy_of};
+ghost use Rattle.sky_model.specs.StepApply.{may_apply};
+ghost use Rattle.sky_model.specs.StepNode.{set_queue};
+ghost use Rattle.pgq_db.specs.Seen.{seen_database};
+ghost use Rattle.londiste_batches.specs.Moved.{MovesBy, MoveRefused};
+ghost use Rattle.londiste_copy.specs.CatchingUp.{the_table};
+
+use crate::copying::copy_consumer;
+use crate::table::{table_at, tick_of};
+use londiste_batches::{BatchHand, go_through, move_table, print, take_next};
+use londiste_state::{Node, TableState};
+use pgq_db::{Db, Pick, WorkerFault};
+use sky_model::Reply;
+use sky_txid::Snapshot;
+use sky_val::Text;
+use std::alloc::Global;
+
+/// A move for a table that catches up: once it has caught up, it waits until the leaf has come to its tick.
+pub(crate) fn catch_up(
+    alloc: Global,
+    provider: &mut Db,
+    replica: &mut Db,
+    table: &Text,
+    hand: Option<BatchHand>,
+    replies: &mut Vec<Reply>,
+) -> Result<Option<BatchHand>, WorkerFault>
+    requires replica_made { IsMade (seen_database replica.old) }
+    requires root { is_some (set_queue (seen_database provider.old)) ≡ true }
+    requires state { (the_table table.now (seen_database replica.old).node).state ≡ state.CatchingUp }
+    requires may { may_apply (copy_of table.now) (seen_database replica.old).node ≡ true }
+    requires nothing { replies.old.items ≡ [] }
+    ensures moves { IfOk result (λ now. MovesBy (with_batch (seen_database provider.old) (seen_database replica.old) (the_table table.now (seen_database replica.old).node) hand
+        (catches_up (seen_database provider.old) (seen_database replica.old) (the_table table.now (seen_database replica.old).node)))
+        (seen_database provider.old) (seen_database provider.new) (seen_database replica.old) (seen_database replica.new) replies.new.items now) }
+    ensures fault { IfErr result (λ fault. MoveRefused fault (with_batch (seen_database provider.old) (seen_database replica.old) (the_table table.now (seen_database replica.old).node) hand
+        (catches_up (seen_database provider.old) (seen_database replica.old) (the_table table.now (seen_database replica.old).node)))
+        (seen_database provider.old) (seen_database provider.new) (seen_database replica.old) (seen_database replica.new) hand hand) }
+{
+    if let Some(hand) = hand {
+        return go_on(alloc, provider, replica, table, hand, replies);
+    }
+    if has_caught_up(provider, replica.node(), table) {
+        let reached = tick_of(replica.node(), table);
+        let name = table.copy(alloc)?;
+        move_table(replica, name, TableState::WannaSync(reached), replies)?;
+        return Ok(None);
+    }
+    take_next_of(alloc, provider, replica, replies)
+}
+
+/// A move for a table that is handed over at a tick: once its copy has come to that tick, it is in sync, and the
+/// consumer of its copy leaves.
+pub(crate) fn hand_over(
+    alloc: Global,
+    provider: &mut Db,
+    replica: &mut Db,
+    table: &Text,
+    tick: u64,
+    hand: Option<BatchHand>,
+    replies: &mut Vec<Reply>,
+) -> Result<Option<BatchHand>, WorkerFault>
+    requires replica_made { IsMade (seen_database replica.old) }
+    requires root { is_some (set_queue (seen_database provider.old)) ≡ true }
+    requires state { (the_table table.now (seen_database replica.old).node).state ≡ state.DoSync tick }
+    requires may { may_apply (copy_of table.now) (seen_database replica.old).node ≡ true }
+    requires nothing { replies.old.items ≡ [] }
+    ensures moves { IfOk result (λ now. MovesBy (with_batch (seen_database provider.old) (seen_database replica.old) (the_table table.now (seen_database replica.old).node) hand
+        (hands_over (seen_database provider.old) (seen_database replica.old) tick (the_table table.now (seen_database replica.old).node)))
+        (seen_database provider.old) (seen_database provider.new) (seen_database replica.old) (seen_database replica.new) replies.new.items now) }
+    ensures fault { IfErr result (λ fault. MoveRefused fault (with_batch (seen_database provider.old) (seen_database replica.old) (the_table table.now (seen_database replica.old).node) hand
+        (hands_over (seen_database provider.old) (seen_database replica.old) tick (the_table table.now (seen_database replica.old).node)))
+        (seen_database provider.old) (seen_database provider.new) (seen_database replica.old) (seen_database replica.new) hand hand) }
+{
+    if let Some(hand) = hand {
+        return go_on(alloc, provider, replica, table, hand, replies);
+    }
+    if tick_of(replica.node(), table) != tick {
+        return take_next_of(alloc, provider, replica, replies);
+    }
+    let consumer = copy_consumer(alloc, replica.node())?;
+    provider.part(&consumer);
+    replica.set_state(table, TableState::Synced);
+    let name = table.copy(alloc)?;
+    print(Reply::TableMoved(name, TableState::Synced), replies)?;
+    Ok(None)
+}
+
+/// What is done with a batch in hand.
+fn go_on(
+    alloc: Global,
+    provider: &mut Db,
+    replica: &mut Db,
+    table: &Text,
+    hand: BatchHand,
+    replies: &mut Vec<Reply>,
+) -> Result<Option<BatchHand>, WorkerFault>
+    requires replica_made { IsMade (seen_database replica.old) }
+    requires root { is_some (set_queue (seen_database provider.old)) ≡ true }
+    requires may { may_apply (copy_of table.now) (seen_database replica.old).node ≡ true }
+    requires nothing { replies.old.items ≡ [] }
+    ensures moves { IfOk result (λ now. MovesBy (goes_through (seen_database provider.old) (seen_database replica.old) (copier (seen_database replica.old).node (the_table table.now (seen_database replica.old).node)) hand)
+        (seen_database provider.old) (seen_database provider.new) (seen_database replica.old) (seen_database replica.new) replies.new.items now) }
+    ensures fault { IfErr result (λ fault. MoveRefused fault (goes_through (seen_database provider.old) (seen_database replica.old) (copier (seen_database replica.old).node (the_table table.now (seen_database replica.old).node)) hand)
+        (seen_database provider.old) (seen_database provider.new) (seen_database replica.old) (seen_database replica.new) (Some hand) (Some hand)) }
+{
+    let tick = tick_of(replica.node(), table);
+    let pick = Pick::CopyOf(table.copy(alloc)?);
+    go_through(provider, replica, tick, &pick, hand, replies)
+}
+
+/// Takes the next batch of the copies' consumer in hand, if there is one.
+fn take_next_of(
+    alloc: Global,
+    provider: &mut Db,
+    replica: &Db,
+    replies: &mut Vec<Reply>,
+) -> Result<Option<BatchHand>, WorkerFault>
+    requires root { is_some (set_queue (seen_database provider.old)) ≡ true }
+    requires nothing { replies.old.items ≡ [] }
+    ensures moves { IfOk result (λ now. (t : LeafTable) → MovesBy (takes_next (seen_database provider.old) (copier (seen_database replica.now).node t))
+        (seen_database provider.old) (seen_database provider.new) (seen_database replica.now) (seen_database replica.now) replies.new.items now) }
+    ensures fault { IfErr result (λ fault. (t : LeafTable) → MoveRefused fault (takes_next (seen_database provider.old) (copier (seen_database replica.now).node t))
+        (seen_database provider.old) (seen_database provider.new) (seen_database replica.now) (seen_database replica.now) None None) }
+{
+    let consumer = copy_consumer(alloc, replica.node())?;
+    take_next(provider, &consumer, replies)
+}
+
+/// Whether each transaction that had ended when the table was copied has ended at the tick that its copy has come to.
+fn has_caught_up(provider: &Db, node: Option<&Node>, table: &Text) -> bool
+    requires { is_some (set_queue (seen_database provider.now)) ≡ true }
+    ensures { result ≡ has_caught_up (seen_database provider.now) (the_table table.now (option_copied node.entry)) }
+{
+    let Some(table) = table_at(node, table) else {
+        return false;
+    };
+    let Some(at) = provider.tick_snapshot(table.tick()) else {
+        return false;
+    };
+    let Some(copied) = table.snapshot() else {
+        return false;
+    };
+    covers(at, copied)
+}
+
+/// Whether a snapshot sees each transaction that another sees.
+fn covers(at: &Snapshot, copied: &Snapshot) -> bool
+    ensures { result ≡ covers at.now copied.now }
+{
+    // It sees none from its upper bound on, so the definition asks only for those below. This is read for the proof alone.
+    let _bound = copied.xmax();
+    at.covers(copied)
+}

@@ -1,0 +1,204 @@
+//! The moves of a copy that runs: it begins, and goes on with the next rows under the snapshot that is held for it, up to
+//! its end.
+
+ghost use Rattle.std.specs.Prelude.{◌≡◌, [], ◌∷◌, true, None, IfOk, IfErr, IfSome, is_some, option_copied};
+ghost use Rattle.sky_model.specs.CopyMoves.{columns_for, copy_consumer, copy_running, continues, held_snapshot, lets_go_for, next_piece, starts_copy, under_way};
+ghost use Rattle.sky_model.specs.DatabaseSteps.{IsMade};
+ghost use Rattle.sky_model.specs.StepNode.{set_queue, table_number, may_copy, giving_up_copy};
+ghost use Rattle.pgq_db.specs.Seen.{seen_database};
+ghost use Rattle.londiste_batches.specs.Moved.{ServesAll, MovesAs, MovesBy, MoveRefused};
+ghost use Rattle.londiste_copy.specs.Copying.{Begun, SameTable, last_row_key};
+
+use crate::hand::CopyHand;
+use crate::table::state_of;
+use londiste_batches::print;
+use londiste_state::{Node, TableState};
+use pgq_db::{Db, JoinFault, WorkerFault};
+use sky_model::Reply;
+use sky_val::{Key, NoMemory, Row, Text};
+use std::alloc::Global;
+
+/// How many rows are copied at once.
+const PIECE: usize = 1000;
+
+/// A copy begins, and the first rows are copied.
+pub(crate) fn start_copy(
+    alloc: Global,
+    provider: &mut Db,
+    replica: &mut Db,
+    table: &Text,
+    replies: &mut Vec<Reply>,
+) -> Result<Option<CopyHand>, WorkerFault>
+    requires provider_made { IsMade (seen_database provider.old) }
+    requires replica_made { IsMade (seen_database replica.old) }
+    requires root { is_some (set_queue (seen_database provider.old)) ≡ true }
+    requires same { SameTable (seen_database provider.old) (seen_database replica.old) table.now }
+    requires may { may_copy table.now (seen_database replica.old).node ≡ true }
+    requires idle { copy_running (seen_database replica.old) table.now ≡ None }
+    requires nothing { replies.old.items ≡ [] }
+    ensures moves { IfOk result (λ now. MovesBy (starts_copy (seen_database provider.old) (seen_database replica.old) table.now)
+        (seen_database provider.old) (seen_database provider.new) (seen_database replica.old) (seen_database replica.new) replies.new.items now) }
+    ensures fault { IfErr result (λ fault. MoveRefused fault (starts_copy (seen_database provider.old) (seen_database replica.old) table.now)
+        (seen_database provider.old) (seen_database provider.new) (seen_database replica.old) (seen_database replica.new) None None) }
+{
+    let hand = begin(alloc, provider, replica, table)?;
+    let hand = copy_piece(alloc, provider, replica, table, hand, replies)?;
+    Ok(hand)
+}
+
+/// A copy that runs goes on with the next rows. If it isn't in hand, it is waited for.
+pub(crate) fn continue_copy(
+    alloc: Global,
+    provider: &mut Db,
+    replica: &mut Db,
+    table: &Text,
+    hand: Option<CopyHand>,
+    replies: &mut Vec<Reply>,
+) -> Result<Option<CopyHand>, NoMemory>
+    requires provider_made { IsMade (seen_database provider.old) }
+    requires replica_made { IsMade (seen_database replica.old) }
+    requires same { SameTable (seen_database provider.old) (seen_database replica.old) table.now }
+    requires may { may_copy table.now (seen_database replica.old).node ≡ true }
+    requires nothing { replies.old.items ≡ [] }
+    ensures { IfOk result (λ now. MovesBy (continues (seen_database provider.old) table.now hand (under_way (seen_database provider.old) hand))
+        (seen_database provider.old) (seen_database provider.new) (seen_database replica.old) (seen_database replica.new) replies.new.items now) }
+{
+    match hand {
+        Some(hand) if provider.is_held(hand.hold) => {
+            copy_piece(alloc, provider, replica, table, hand, replies)
+        }
+        hand => {
+            print(Reply::AwaitsTable(table.copy(alloc)?), replies)?;
+            Ok(hand)
+        }
+    }
+}
+
+/// A copy begins: its consumer registers at the newest tick, the present snapshot is held, and the rows that the table
+/// has are deleted.
+fn begin(
+    alloc: Global,
+    provider: &mut Db,
+    replica: &mut Db,
+    table: &Text,
+) -> Result<CopyHand, WorkerFault>
+    requires provider_made { IsMade (seen_database provider.old) }
+    requires replica_made { IsMade (seen_database replica.old) }
+    requires same { SameTable (seen_database provider.old) (seen_database replica.old) table.now }
+    requires root { is_some (set_queue (seen_database provider.old)) ≡ true }
+    requires idle { copy_running (seen_database replica.old) table.now ≡ None }
+    requires may { may_copy table.now (seen_database replica.old).node ≡ true }
+    ensures begun { IfOk result (λ hand. Begun (seen_database provider.old) (seen_database provider.new) (seen_database replica.old) (seen_database replica.new) table.now hand) }
+    ensures fault { IfErr result (λ fault. MoveRefused fault (starts_copy (seen_database provider.old) (seen_database replica.old) table.now)
+        (seen_database provider.old) (seen_database provider.new) (seen_database replica.old) (seen_database replica.new) None None) }
+{
+    let consumer = copy_consumer(alloc, replica.node())?;
+    if provider.full(&consumer) {
+        return Err(WorkerFault::TooManyConsumers);
+    }
+    if provider.spent() {
+        return Err(WorkerFault::IdsSpent);
+    }
+    replica.copy_begin(table)?;
+    provider.part(&consumer);
+    let tick = match provider.join(&consumer) {
+        Ok(tick) => tick,
+        Err(fault) => match fault {
+            JoinFault::NoMemory => return Err(WorkerFault::NoMemory),
+            // It has just left, so there is room for it, and an id was left.
+            _ => unreachable!(),
+        },
+    };
+    let hold = provider.hold()?;
+    Ok(CopyHand {
+        hold,
+        tick,
+        last: None,
+    })
+}
+
+/// The next rows are copied. If they are the last, the copy ends.
+fn copy_piece(
+    alloc: Global,
+    provider: &mut Db,
+    replica: &mut Db,
+    table: &Text,
+    hand: CopyHand,
+    replies: &mut Vec<Reply>,
+) -> Result<Option<CopyHand>, NoMemory>
+    requires provider_made { IsMade (seen_database provider.old) }
+    requires replica_made { IsMade (seen_database replica.old) }
+    requires same { SameTable (seen_database provider.old) (seen_database replica.old) table.now }
+    requires held { is_some (held_snapshot (seen_database provider.old) hand.hold) ≡ true }
+    requires may { may_copy table.now (seen_database replica.old).node ≡ true }
+    requires nothing { replies.old.items ≡ [] }
+    ensures { IfOk result (λ now. IfSome (held_snapshot (seen_database provider.old) hand.hold) (λ snapshot.
+        MovesAs (next_piece (seen_database provider.old) table.now snapshot hand)
+        (seen_database provider.old) (seen_database provider.new) (seen_database replica.old) (seen_database replica.new) replies.new.items now)) }
+{
+    let CopyHand { hold, tick, last } = hand;
+    let rows = provider.held_rows(hold, table, last.as_ref(), PIECE)?;
+    let count = rows.len();
+    let is_whole = count >= PIECE;
+    let last = last_key(provider, table, &rows, last)?;
+    replica.copy_rows(table, rows)?;
+    replies.push(Reply::RowsCopied(count as u64))?;
+    if is_whole {
+        return Ok(Some(CopyHand { hold, tick, last }));
+    }
+    replica.copy_end(table, provider.held_snapshot(hold), tick)?;
+    provider.let_go(hold);
+    let moved = table.copy(alloc)?;
+    replies.push(Reply::TableMoved(moved, TableState::CatchingUp))?;
+    Ok(None)
+}
+
+/// The snapshot that is held for what was in hand is let go.
+pub(crate) fn let_go(provider: &mut Db, hand: Option<CopyHand>)
+    ensures { ServesAll (seen_database provider.old) (seen_database provider.new) (lets_go_for hand) }
+{
+    if let Some(hand) = hand {
+        provider.let_go(hand.hold);
+    }
+}
+
+/// The copy of a table is given up, if the table is one that is copied.
+pub(crate) fn give_up(replica: &mut Db, table: &Text)
+    requires { IsMade (seen_database replica.old) }
+    ensures { ServesAll (seen_database replica.old) (seen_database replica.new) (giving_up_copy table.now ∷ []) }
+{
+    if state_of(replica.node(), table) == TableState::InCopy {
+        replica.copy_drop(table);
+    }
+}
+
+/// The key of the last of some rows of a table that the database has, or if there are none, one from before.
+fn last_key(
+    provider: &Db,
+    table: &Text,
+    rows: &[Row],
+    before: Option<Key>,
+) -> Result<Option<Key>, NoMemory>
+    requires { is_some (table_number (seen_database provider.now) table.now) ≡ true }
+    ensures { IfOk result (λ last. last ≡ last_row_key (columns_for (seen_database provider.now) table.now) before rows.now) }
+{
+    let Some(row) = rows.last() else {
+        return Ok(before);
+    };
+    match provider.schema(table) {
+        Some(schema) => Ok(Some(schema.key_of(row)?)),
+        None => unreachable!(),
+    }
+}
+
+/// The consumer of the copies of a node's tables.
+pub fn copy_consumer(alloc: Global, node: Option<&Node>) -> Result<Text, NoMemory>
+    ensures { IfOk result (λ consumer. consumer ≡ copy_consumer (option_copied node.entry)) }
+{
+    let mut name = match node {
+        Some(node) => String::from_str(alloc, node.name().as_str())?,
+        None => String::new(alloc),
+    };
+    name.push_str(".copy")?;
+    Ok(Text::from_string(name))
+}
