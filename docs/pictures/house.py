@@ -125,6 +125,8 @@ def draw_way(crates, steps, calls, numbers):
     y = house.bottom + 14
     for step, becomes, _ in steps:
         house.picture.text(MARGIN + 30, y, step, 'fill-blue bold end')
-        house.picture.text(MARGIN + 44, y, becomes, 'fill-ink', WIDTH - 2 * MARGIN - 44)
-        y += LINE + 4
+        for line in textwrap.wrap(becomes, int((WIDTH - 2 * MARGIN - 44) / CELL)):
+            house.picture.text(MARGIN + 44, y, line)
+            y += LINE
+        y += 4
     return house.picture.svg(WIDTH, y)

@@ -1,6 +1,8 @@
 """What happened in a run, by its rows alone: blocks, waits, ticks, events and batches, each by the numbers of its rows."""
 from dataclasses import dataclass, field
 
+from replicas import Replicas
+
 # The refusals that leave a block as it is; all others abort it.
 LEAVES_BLOCK = ('AlreadyOpen', 'Busy', 'ClockSpent')
 WRITES = ('insert', 'update', 'delete')
@@ -41,8 +43,8 @@ class Tick:
 @dataclass
 class Story:
     """All of it. An event is known by its database, its queue, how often that queue was made, and its id. `inserted` and
-    `listed` have the event of a row, `batches` the batches that list an event, and `single` the rows of transactions
-    outside blocks."""
+    `listed` have the event of a row, `batches` the batches that list an event, `single` the rows of transactions outside
+    blocks, and `moved` the batch of a row that is a worker's move."""
     rows: list
     sessions: list = field(default_factory=list)
     blocks: list = field(default_factory=list)
@@ -54,11 +56,13 @@ class Story:
     batches: dict = field(default_factory=dict)
     shades: dict = field(default_factory=dict)
     unblocked: dict = field(default_factory=dict)
+    workers: list = field(default_factory=list)
+    moved: dict = field(default_factory=dict)
 
 
 class Teller:
     """Tells the story row by row, and keeps what the next row needs: the running block and the wait of each session,
-    the database that it has open, how often a queue was made, and the queue of each batch."""
+    the database that it has open, how often a queue was made, the queue of each batch, and the leaves."""
 
     def __init__(self, rows):
         self.story = Story(rows)
@@ -67,6 +71,7 @@ class Teller:
         self.home = {}
         self.made = {}
         self.queue_of = {}
+        self.replicas = Replicas()
         self.unblocker = None
 
     def tell(self):
@@ -80,6 +85,8 @@ class Teller:
             self.transaction(place, row)
             self.queue(place, row)
             self.event(place, row)
+            self.work(place, row)
+        self.story.workers = self.replicas.all_workers()
         return self.story
 
     def database(self, row):
@@ -163,6 +170,14 @@ class Teller:
             if batch not in of_event:
                 of_event.append(batch)
             self.story.shades.setdefault(batch, len(self.story.shades))
+
+    def work(self, place, row):
+        """Notes what the workers of leaves do, and the batches that they take."""
+        batch = self.replicas.tell(place, row, self.home.get(row.session))
+        if batch:
+            self.story.moved[place] = batch
+            self.story.shades.setdefault(batch, len(self.story.shades))
+            self.queue_of[batch] = self.replicas.queue_of(row.words()[1])
 
 
 def tell(rows):

@@ -20,6 +20,12 @@ COLOURS = {
     'amber': ('#bf8700', '#d29922'),
     'grey': ('#8c959f', '#6e7681'),
     'blue': ('#0969da', '#4493f8'),
+    'joined': ('#e4e9ee', '#262c34'),
+    'copy': ('#cfe8ff', '#0b2f5e'),
+    'catch': ('#9fd0fb', '#15528f'),
+    'wanna': ('#fff1b0', '#4a3603'),
+    'do': ('#fbd862', '#7a5a06'),
+    'sync': ('#d3f3d9', '#0f3d20'),
     'batch1': ('#8250df', '#ab7df8'),
     'batch2': ('#bc4c00', '#f0883e'),
     'batch3': ('#0969da', '#4493f8'),
@@ -51,6 +57,8 @@ def escaped(text):
 
 def cells(text):
     """How many columns the text takes: a wide character takes two."""
+    if text.isascii():
+        return len(text)
     return sum(2 if unicodedata.east_asian_width(c) in 'WF' else 1 for c in text)
 
 
@@ -62,9 +70,11 @@ def cut(text, width):
     """The text, or as much of its beginning as fits the width with an ellipsis after it."""
     if width_of(text) <= width:
         return text
-    while text and width_of(text + '…') > width:
-        text = text[:-1]
-    return text + '…'
+    end, taken = 0, cells('…')
+    while (taken + cells(text[end])) * CELL <= width:
+        taken += cells(text[end])
+        end += 1
+    return text[:end] + '…'
 
 
 def number(value):
