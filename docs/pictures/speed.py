@@ -12,8 +12,11 @@ ROW = 30
 PLAIN = 16
 TOP = 58
 BARS_END, GROWTH, GROWTH_END = 530, 690, 870
-BASELINE_PROGRAM = 'baseline'
+# `bench/baseline.rs` built, and a hand-written program with all statements, which isn't part of this repository.
+PLAIN_PROGRAMS = ('baseline', 'plain_rust')
 WORTH_A_LOOK = 1.2
+# The ends of the axis of growths; one beyond them is drawn at its end.
+LEAST_GROWTH, MOST_GROWTH = 0.5, 1.7
 
 
 @dataclass
@@ -30,14 +33,15 @@ def largest(sizes):
 
 
 def read_cases(path):
-    """The cases in the order of their first measurements. The program of `bench/baseline.rs` is known by its name."""
+    """The cases in the order of their first measurements. The programs in plain Rust are known by their
+    names."""
     cases = {}
     with open(path, encoding='utf-8') as file:
         for measured in json.load(file):
             case = cases.setdefault(measured['case'], Case(measured['case']))
             case.times.append(largest(measured['sizes']))
             case.growths.append(measured['growth'])
-            if measured.get('against', {}).get('program') == BASELINE_PROGRAM:
+            if measured.get('against', {}).get('program') in PLAIN_PROGRAMS:
                 case.plain.append(largest(measured['against']['sizes']))
     return list(cases.values())
 
@@ -72,7 +76,8 @@ class Speed:
         middle = sorted(min(case.times) for case in cases)[len(cases) // 2]
         self.most = max(time for case in cases for time in case.times + case.plain if time <= 10 * middle)
         growths = [growth for case in cases for growth in case.growths]
-        self.low, self.high = min(0.8, *growths) - 0.05, max(1.3, *growths) + 0.05
+        self.low = max(LEAST_GROWTH, min(0.8, *growths) - 0.05)
+        self.high = min(MOST_GROWTH, max(1.3, *growths) + 0.05)
         self.height = TOP + sum(self.row_height(case) for case in cases)
 
     @staticmethod
@@ -83,7 +88,8 @@ class Speed:
         return self.begin + (BARS_END - self.begin) * max(0, min(time / self.most, 1))
 
     def x_of_growth(self, growth):
-        return GROWTH + (GROWTH_END - GROWTH) * (growth - self.low) / (self.high - self.low)
+        share = (growth - self.low) / (self.high - self.low)
+        return GROWTH + (GROWTH_END - GROWTH) * max(0, min(share, 1))
 
     def axes(self):
         self.picture.text(self.begin, MARGIN + 8, 'time of a line at the largest size', 'fill-ink bold')
