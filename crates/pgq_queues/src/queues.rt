@@ -1,9 +1,9 @@
-ghost use Rattle.std.specs.Prelude.{◌≡◌, ℕ, ◌+◌, ◌-◌, ◌<◌, ◌^◌, [], ◌==◌, true, Some, None, is_ok, Ok, IfOk, IfErr, OnOk, OnErr, IfSome, IfNone, option_copied, option_map, length, is_some, ◌↔◌, ◌≤◌, Err, find, slice_index_or, false, bytes_eq};
+ghost use Rattle.std.specs.Prelude.{◌≡◌, ℕ, ◌+◌, ◌-◌, ◌<◌, ◌^◌, [], ◌==◌, true, Some, None, is_ok, Ok, IfOk, IfErr, OnOk, OnErr, IfSome, IfNone, option_copied, option_map, length, is_some, ◌↔◌, ◌≤◌, Err, find, map, slice_index_or, false, bytes_eq};
 ghost use Rattle.std.specs.List.{All, position, remove};
 ghost use Rattle.sky_model.specs.Config.{Config, param_of};
 ghost use Rattle.sky_model.specs.Consumers.{Subscription};
 ghost use Rattle.sky_model.specs.History.{queued, made, raised, put, ticked, registered, moved, unregistered, opened, closed, configured, dropped, traced, untraced};
-ghost use Rattle.pgq_tables.specs.Tables.{full_event};
+ghost use Rattle.pgq_tables.specs.Tables.{full_event, recorded_part};
 ghost use Rattle.pgq_tick.specs.Config.{set_to};
 ghost use Rattle.sky_model.specs.Moment.{HasMoment, IsTime};
 ghost use Rattle.sky_model.specs.Printed.{EventsHaveMoments};
@@ -17,7 +17,7 @@ ghost use Rattle.sky_model.specs.StepTrigger.{has_trigger};
 ghost use Rattle.sky_model.specs.Triggers.{is_sets, triggers_of};
 ghost use Rattle.pgq_queues.specs.Seen.{kept, seen_with, seen_queue, seen_batch, seen_span, reads_at, unnamed, queues_of, queue_at, batch_of, batch_at, no_queues, Stands, Beside};
 ghost use Rattle.pgq_queues.specs.Batches.{StillStand, but_of};
-ghost use Rattle.pgq_queues.specs.Looked.{most_in};
+ghost use Rattle.pgq_queues.specs.Looked.{most_in, AreLookedIn};
 ghost use Rattle.pgq_sub.specs.declared.sub.OpenBatch.{OpenBatch};
 ghost use Rattle.pgq_sub.specs.Views.{seen_sub};
 ghost use Rattle.pgq_queues.specs.Traced.{traced_at, IsTable, AreTables, KeepsRest};
@@ -29,7 +29,7 @@ use crate::slots::Slots;
 use crate::traced::{TableTrigger, Traced, TracedTable};
 use pgq_retry::RetryQueue;
 use pgq_sub::{OpenBatch, Sub};
-use pgq_tables::PlainEvent;
+use pgq_tables::{Looked, PlainEvent, Recorded};
 use pgq_tick::{ConfigFault, TickFault};
 use sky_model::BatchInfo;
 use sky_names::Named;
@@ -235,6 +235,29 @@ impl Queues {
     {
         let alloc = self.alloc;
         self.slots.get_mut(span.queue).select(alloc, span)
+    }
+
+    /// Looks at the events that a batch may have, in its queue and in no other.
+    pub fn look(&mut self, span: Span) -> Result<Vec<Looked>, NoMemory>
+        requires { Stands self.old.queues span.queue }
+        ensures looked { IfOk result (λ looks. AreLookedIn (queue_at self.new span.queue) (seen_span span) looks.items) }
+        ensures same { (beside : Beside) → seen_with beside self.new ≡ seen_with beside self.old }
+        ensures stand { StillStand self.old.queues self.new.queues }
+        ensures rest { KeepsRest self.old self.new }
+        ensures others { (n : ℕ) → (span.queue == n) ≡ false → reads_at self.new.queues n ≡ reads_at self.old.queues n }
+        ensures upper { OnOk result (reads_at self.new.queues span.queue ≤ reads_at self.old.queues span.queue + most_in (queue_at self.old span.queue) (seen_span span)) }
+    {
+        let alloc = self.alloc;
+        self.slots.get_mut(span.queue).look(alloc, span)
+    }
+
+    /// What the events of a batch record, which were looked at; none if one of its ticks isn't kept.
+    pub fn recorded(&self, span: Span, looks: &[Looked]) -> Result<Vec<Recorded<'_>>, NoMemory>
+        requires stands { Stands self.now.queues span.queue }
+        requires looked { AreLookedIn (queue_at self.now span.queue) (seen_span span) looks.now }
+        ensures { (beside : Beside) → IfOk result (λ events. events.items ≡ map recorded_part (selected (seen_with beside self.now) (seen_span span))) }
+    {
+        self.queue(span.queue).recorded(self.alloc, span, looks)
     }
 
     /// What is shown of a batch.

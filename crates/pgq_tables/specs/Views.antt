@@ -10,3 +10,7 @@ pub record TablesView : Type 0 where
 -- a count of looks after one more: it stays at its last value
 abbrev pub one_more : ℕ → ℕ
 one_more reads = if nat_lt reads (2 ^ 64 - 1) then reads + 1 else reads
+
+-- or after so many more
+abbrev pub so_many_more : ℕ → ℕ → ℕ
+so_many_more many reads = if nat_lt (reads + many) (2 ^ 64 - 1) then reads + many else 2 ^ 64 - 1

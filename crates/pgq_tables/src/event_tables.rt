@@ -1,12 +1,13 @@
-ghost use Rattle.std.specs.Prelude.{◌≡◌, ◌==◌, ◌<◌, ◌+◌, [], Some, None, true, IfOk, OnOk, OnErr, length, find, is_some, slice_get, slice_index_or};
+ghost use Rattle.std.specs.Prelude.{◌≡◌, ◌==◌, ◌<◌, ◌≤◌, ◌+◌, ◌-◌, [], Some, None, true, IfOk, OnOk, OnErr, length, find, is_some, slice_get, slice_index_or};
 ghost use Rattle.std.specs.Borrow.{sem};
 ghost use Rattle.std.specs.Io.BufRead.{Rests};
 ghost use Rattle.std.specs.List.{list_any};
 ghost use Rattle.sky_val.specs.declared.event.Event.{Event};
 ghost use Rattle.pgq_tables.specs.Tables.{Tables, full_event, new_tables, with_stored, with_dead, with_pending, without_pending, with_switch, with_second_step, next_table, by_age};
 ghost use Rattle.pgq_tables.specs.Order.{by_txid};
-ghost use Rattle.pgq_tables.specs.Views.{TablesView, one_more};
+ghost use Rattle.pgq_tables.specs.Views.{TablesView, one_more, so_many_more};
 
+use crate::looked::Looked;
 use crate::stored::{PlainEvent, Stored};
 use crate::table::Table;
 use sky_val::{Event, NoMemory};
@@ -221,6 +222,29 @@ impl EventTables {
     {
         self.reads = self.reads.saturating_add(1);
         self.tables[table].by_txid(index)
+    }
+
+    /// Counts the events of a table between two indexes, in order of transactions, as looked at.
+    pub fn look(&mut self, table: usize, first: usize, end: usize) -> Looked
+        requires table { table < length self.old.tables.lists }
+        requires end { end ≤ length (slice_index_or self.old.tables.lists table []) }
+        ensures looked { result ≡ record { table = table; first = first; end = end } }
+        ensures counted { self.new ≡ record self.old { reads = so_many_more (end - first) self.old.reads } }
+    {
+        let many = end.saturating_sub(first);
+        self.reads = self.reads.saturating_add(many as u64);
+        Looked { table, first, end }
+    }
+
+    /// One of the events that were looked at, by its index in order of transactions, with its place in its table.
+    #[inline(always)]
+    pub fn looked(&self, looked: &Looked, index: usize) -> (usize, &Stored)
+        requires table { looked.now.table < length self.now.tables.lists }
+        requires index { index < length (slice_index_or self.now.tables.lists looked.now.table []) }
+        requires within { (looked.now.first ≤ index) × (index < looked.now.end) }
+        ensures { slice_get (by_txid (slice_index_or self.now.tables.lists looked.now.table [])) index ≡ Some (result.0, result.1.now) }
+    {
+        self.tables[looked.table].by_txid(index)
     }
 
     /// The first of these transactions that has an event in some table. No event is looked at.

@@ -3,15 +3,15 @@
 ghost use Rattle.std.specs.Prelude.{◌≡◌, ◌<◌, ◌++◌, All, None, Ok, IfOk, OnOk, FitsSigned, string_bytes};
 ghost use Rattle.std.specs.Fmt.{signed_decimal};
 ghost use Rattle.std.specs.Int.{w64};
-ghost use Rattle.form_urlencoded.specs.Form.{byte_serialize};
+ghost use Rattle.form_urlencoded.specs.Form.{byte_serialize, is_unchanged, serialize_byte};
 ghost use Rattle.sky_val.specs.Schemas.{row_fault};
 ghost use Rattle.sky_urlenc.specs.Held.{HoldsOne};
 ghost use Rattle.sky_urlenc.specs.ReadRow.{read_row};
 ghost use Rattle.sky_urlenc.specs.RowText.{column_text, row_text};
 
 use crate::kept::kept;
-use form_urlencoded::byte_serialize;
 use itoa::Buffer;
+use percent_encoding::percent_encode_byte;
 use sky_val::{Column, NoMemory, Row, Schema, Text, Val};
 use std::alloc::Global;
 
@@ -70,8 +70,28 @@ fn append_escaped(bytes: &[u8], into: &mut String) -> Result<(), NoMemory>
         (string_bytes into.new ≡ string_bytes into.old ++ byte_serialize bytes.now) }
     ensures small { OnOk result (All (λ b. b < 256) bytes.now) }
 {
-    for piece in byte_serialize(bytes) {
-        into.push_str(piece)?;
+    for byte in bytes {
+        append_byte(*byte, into)?;
     }
     Ok(())
+}
+
+/// Appends a byte, escaped.
+fn append_byte(byte: u8, into: &mut String) -> Result<(), NoMemory>
+    ensures { OnOk result (string_bytes into.new ≡ string_bytes into.old ++ serialize_byte byte) }
+{
+    if is_unchanged(byte) {
+        into.push(char::from(byte))
+    } else if byte == b' ' {
+        into.push('+')
+    } else {
+        into.push_str(percent_encode_byte(byte))
+    }
+}
+
+/// Whether a byte is written as it is.
+fn is_unchanged(byte: u8) -> bool
+    ensures { result ≡ is_unchanged byte }
+{
+    byte.is_ascii_alphanumeric() || matches!(byte, b'*' | b'-' | b'.' | b'_')
 }

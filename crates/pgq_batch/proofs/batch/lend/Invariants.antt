@@ -1,0 +1,11 @@
+use Rattle.std.proofs.Common.{◌≡◌, ◌++◌, drop}
+use Rattle.pgq_tables.specs.Listed.{is_listed}
+use Rattle.pgq_batch.specs.Looked.{ages, events_of}
+use Rattle.pgq_batch.proofs.Ages.{passing_of}
+use Rattle.pgq_batch.proofs.batch.lend.Given as goal
+
+-- what was collected and what the tables that are left list is all
+abbrev pub invariant-loop-looked : goal.invariant-loop-looked
+invariant-loop-looked l =
+    let all = ages l.tables.tables in
+    events_of l.events.items ++ passing_of (is_listed l.prev l.cur l.sub) (drop l.looked-index all) ≡ passing_of (is_listed l.prev l.cur l.sub) all
