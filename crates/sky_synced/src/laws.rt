@@ -37,9 +37,9 @@ pub fn batches_can_be_applied()
     ensures copies { CopiesBatchesCanBeApplied }
 {}
 
-/// What `scan` and `get` print of replicated tables. After calls, a session sees its database as it was after the first of
-/// them: in a repeatable read block, after those before the block's first statement, and otherwise after all. `scan` prints
-/// the rows that its session is shown, and `get` the one of a key. If the table is one that was copied where the session
+/// What `scan` and `get` print of replicated tables. After calls, a session sees its database as it was after some first
+/// ones of them (`sight` says after how many), never as it was in the middle of one. `scan` prints the rows that its
+/// session is shown, and `get` the one of a key. If the table is one that was copied where the session
 /// sees it, these are the rows that its provider's table had at the tick to which it had come there, or at its copy's
 /// snapshot if that is later, with the session's own writes on top; and it has none while the table is in the leaf.
 pub fn sessions_see_replicas()
