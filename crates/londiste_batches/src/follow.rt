@@ -1,6 +1,6 @@
 //! The moves of a worker that goes through batches.
 
-ghost use Rattle.std.specs.Prelude.{◌≡◌, ℕ, List, [], true, Some, None, IfOk, IfErr, is_some, option_map, unwrap_or};
+ghost use Rattle.std.specs.Prelude.{◌≡◌, ℕ, List, [], true, Some, None, IfOk, IfErr, is_some};
 ghost use Rattle.sky_model.specs.BatchMoves.{applies_in_hand, finishes_in_hand, goes_through, takes_next};
 ghost use Rattle.sky_model.specs.DatabaseSteps.{IsMade};
 ghost use Rattle.sky_model.specs.History as history;
@@ -13,10 +13,10 @@ ghost use Rattle.pgq_db.specs.Served.{Serves};
 ghost use Rattle.londiste_batches.specs.Moved.{MovesBy, MoveRefused};
 
 use crate::hand::BatchHand;
-use crate::printing::print;
+use crate::replies::add_reply;
 use pgq_db::{ApplyFault, Db, FetchFault, Pick, WorkerFault};
 use sky_model::Reply;
-use sky_val::{Event, Text};
+use sky_val::Text;
 
 /// What a worker that has come to a tick does with the batch in its hand: it applies the events that it picks, or skips
 /// the batch if it has come to the closing tick before; and then it finishes the batch. If an event can't be applied, the
@@ -44,7 +44,7 @@ pub fn go_through(
     if tick < hand.batch.cur {
         return apply(provider, replica, pick, hand, replies);
     }
-    print(Reply::BatchSkipped(hand.batch.cur), replies)?;
+    add_reply(Reply::BatchSkipped(hand.batch.cur), replies)?;
     Ok(Some(hand.done()))
 }
 
@@ -62,16 +62,16 @@ pub fn take_next(
         (seen_database provider.old) (seen_database provider.new) r r None None) }
 {
     if !provider.has_joined(consumer) {
-        print(Reply::Idle, replies)?;
+        add_reply(Reply::Idle, replies)?;
         return Ok(None);
     }
     match provider.fetch(consumer) {
         Ok(Some(batch)) => {
-            print(Reply::BatchTaken(batch.id, batch.prev, batch.cur), replies)?;
+            add_reply(Reply::BatchTaken(batch.id, batch.prev, batch.cur), replies)?;
             Ok(Some(BatchHand::new(batch)))
         }
         Ok(None) => {
-            print(Reply::Idle, replies)?;
+            add_reply(Reply::Idle, replies)?;
             Ok(None)
         }
         Err(FetchFault::IdsSpent) => Err(WorkerFault::IdsSpent),
@@ -97,28 +97,17 @@ fn apply(
         (seen_database provider.old) (seen_database provider.new) (seen_database replica.old) (seen_database replica.new) (Some hand) (Some hand)) }
 {
     let cur = hand.batch.cur;
-    let found = provider.events_of(hand.batch.id)?;
-    match replica.apply(all_of(&found), pick, cur) {
+    match replica.apply_batch(provider, hand.batch.id, pick, cur) {
         Ok(many) => {
-            print(Reply::BatchApplied(cur, many), replies)?;
+            add_reply(Reply::BatchApplied(cur, many), replies)?;
             Ok(Some(hand.done()))
         }
         Err(ApplyFault::BadEvent(_)) => {
-            print(Reply::Idle, replies)?;
+            add_reply(Reply::Idle, replies)?;
             Ok(Some(hand))
         }
         Err(ApplyFault::TxidsSpent) => Err(WorkerFault::TxidsSpent),
         Err(ApplyFault::NoMemory) => Err(WorkerFault::NoMemory),
-    }
-}
-
-/// The events of a batch that was found; none of one that wasn't.
-fn all_of(found: &Option<Vec<Event>>) -> &[Event]
-    ensures { result.now ≡ unwrap_or (option_map (λ events. events.items) found.now) [] }
-{
-    match found {
-        Some(events) => events,
-        None => &[],
     }
 }
 
@@ -134,7 +123,7 @@ fn finish(
     ensures fault { IfErr result (λ fault. fault ≡ WorkerFault.NoMemory) }
 {
     finish_active(provider, hand.batch.id);
-    print(Reply::BatchFinished(hand.batch.id), replies)?;
+    add_reply(Reply::BatchFinished(hand.batch.id), replies)?;
     Ok(None)
 }
 

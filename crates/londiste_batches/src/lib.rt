@@ -8,10 +8,10 @@
 
 mod follow;
 mod hand;
-mod printing;
+mod replies;
 mod tables;
 
 pub use follow::{go_through, take_next};
 pub use hand::BatchHand;
-pub use printing::print;
+pub use replies::add_reply;
 pub use tables::move_table;

@@ -9,7 +9,7 @@ ghost use Rattle.sky_model.specs.WorkerMoves.{moves_to};
 ghost use Rattle.pgq_db.specs.Seen.{seen_database};
 ghost use Rattle.londiste_batches.specs.Moved.{MovesBy};
 
-use crate::printing::print;
+use crate::replies::add_reply;
 use londiste_state::TableState;
 use pgq_db::Db;
 use sky_model::Reply;
@@ -28,5 +28,5 @@ pub fn move_table(
     ensures { OnOk result ((p : Database) → MovesBy {H = BatchHand} (moves_to to table) p p (seen_database replica.old) (seen_database replica.new) replies.new.items None) }
 {
     replica.set_state(&table, to);
-    print(Reply::TableMoved(table, to), replies)
+    add_reply(Reply::TableMoved(table, to), replies)
 }

@@ -21,14 +21,14 @@ use Rattle.sky_model.specs.StepNode.{moving, parting}
 use Rattle.sky_model.specs.StepApply.{may_apply}
 use Rattle.sky_model.specs.WorkerMoves.{Move, handing, moves_to, only_prints}
 use Rattle.sky_model.specs.BatchMoves.{Follower, goes_through, takes_next}
-use Rattle.sky_model.specs.CopyMoves.{catches_up, copier, copy_consumer, copy_running, covers, goes_on, hands_over, has_caught_up, if_copied, table_at, table_move, moves_in, copy_move, with_batch}
+use Rattle.sky_model.specs.CopyMoves.{catches_up, copier, copy_consumer, copy_running, covers, starts_or_continues, hands_over, has_caught_up, if_copied, table_at, table_move, moves_in, copy_move, goes_through_or}
 use Rattle.sky_model.proofs.Cases.{by_test}
 use Rattle.pgq_db.specs.declared.faults.WorkerFault.{WorkerFault}
 use Rattle.pgq_db.specs.declared.faults.WorkerFault.TheVariants as fault
 use Rattle.pgq_db.specs.Served.{Serves}
-use Rattle.londiste_batches.specs.Moved.{MovesBy, MoveRefused}
+use Rattle.londiste_batches.specs.Moved.{ServesAll, MovesBy, MoveRefused}
 use Rattle.londiste_batches.proofs.Calls.{serves-none, serves-one}
-use Rattle.londiste_copy.specs.CatchingUp.{the_table}
+use Rattle.londiste_copy.specs.CatchingUp.{is_following, the_table, without_batch}
 
 -- ---- whether a snapshot covers another
 
@@ -93,6 +93,20 @@ move-in p r table hand state is = by (table_at table r.node) ∙ ap (λ s. moves
     by None = refl
     by (Some t) = refl
 
+-- of a table that goes through batches
+pub move-following : (p r : Database) (table : List ℕ) (hand : Option Hand) (state : TableState) → (the_table table r.node).state ≡ state → is_following state ≡ true
+    → copy_move p r table hand ≡ if_copied (the_table table r.node) hand (goes_through_or p r (the_table table r.node) (batch_in hand) (without_batch state p r (the_table table r.node)))
+move-following p r table hand state is follows = move-in p r table hand state is ∙ by state follows
+  where
+    by : (s : TableState) → is_following s ≡ true
+        → moves_in s p r (the_table table r.node) hand ≡ if_copied (the_table table r.node) hand (goes_through_or p r (the_table table r.node) (batch_in hand) (without_batch s p r (the_table table r.node)))
+    by CatchingUp follows = refl
+    by (DoSync tick) follows = refl
+    by Absent follows = absurd (cc)
+    by InCopy follows = absurd (cc)
+    by (WannaSync bound) follows = absurd (cc)
+    by Synced follows = absurd (cc)
+
 -- with what is in hand said another way
 pub handed : {H I : Type 0} (kind : H → I) (checked : Checked (Move H)) (p p_new r r_new : Database) (replies : List Reply) (hand : Option H) (now : Option I) → now ≡ option_map kind hand
     → MovesBy checked p p_new r r_new replies hand → MovesBy (handing kind checked) p p_new r r_new replies now
@@ -117,8 +131,8 @@ handed-refused kind fault.TxidsSpent checked p p_new r r_new hand other refused 
 handed-refused kind fault.NoMemory checked p p_new r r_new hand other refused = tt
 
 -- a copy that runs
-pub copies-as : (p r : Database) (table : List ℕ) (hand : Option Hand) → (the_table table r.node).state ≡ InCopy → copy_move p r table hand ≡ handing of_copy (goes_on p r table (copy_in hand) (copy_running r table))
-copies-as p r table hand is = move-in p r table hand InCopy is ∙ ap (λ name. handing of_copy (goes_on p r name (copy_in hand) (copy_running r name))) (name-of table r.node)
+pub copies-as : (p r : Database) (table : List ℕ) (hand : Option Hand) → (the_table table r.node).state ≡ InCopy → copy_move p r table hand ≡ handing of_copy (starts_or_continues p r table (copy_in hand) (copy_running r table))
+copies-as p r table hand is = move-in p r table hand InCopy is ∙ ap (λ name. handing of_copy (starts_or_continues p r name (copy_in hand) (copy_running r name))) (name-of table r.node)
 
 -- a table that was copied
 module _ (t : LeafTable) (hand : Option Hand) (move : Checked (Move BatchHand)) where
@@ -186,37 +200,45 @@ module _ (p r : Database) (table : List ℕ) (hand : BatchHand) (tick : ℕ) (na
   through-refused (Ok hand) p_new r_new was now refused = tt
   through-refused (Err f) p_new r_new was now refused = subst (λ x. MoveRefused f (goes_through p r x hand) p p_new r r_new was now) same-copier (refused (copy_consumer r.node))
 
--- nothing is in hand
-pub none-in : (o : Option BatchHand) → ((b : BatchHand) → o ≡ Some b → ⊥) → o ≡ None
-none-in None none = refl
-none-in (Some b) none = absurd (none b refl)
+-- ---- without one
 
--- what is done then
-pub with-none : (p r : Database) (t : LeafTable) (hand : Option BatchHand) (other : Checked (Move BatchHand)) → ((b : BatchHand) → hand ≡ Some b → ⊥) → with_batch p r t hand other ≡ other
-with-none p r t hand other none = ap (λ h. with_batch p r t h other) (none-in hand none)
+-- a table that isn't handed over catches up
+pub catching : (state : TableState) → is_following state ≡ true → ((tick : ℕ) → state ≡ DoSync tick → ⊥) → state ≡ CatchingUp
+catching CatchingUp follows other = refl
+catching (DoSync tick) follows other = absurd (other tick refl)
+catching Absent follows other = absurd (cc)
+catching InCopy follows other = absurd (cc)
+catching (WannaSync bound) follows other = absurd (cc)
+catching Synced follows other = absurd (cc)
 
 -- the table is in sync
-pub leaves-moves : (p p_new r r_new : Database) (table consumer : List ℕ) (tick : ℕ) (replies : List Reply) → (the_table table r.node).tick ≡ tick → consumer ≡ copy_consumer r.node → Serves p p_new (parting consumer)
-    → Serves r r_new (moving table Synced) → replies ≡ TableMoved table Synced ∷ [] → MovesBy (hands_over p r tick (the_table table r.node)) p p_new r r_new replies None
-leaves-moves p p_new r r_new table consumer tick replies come named parts moves printed = record {
+pub leaves-moves : (p p_new r r_new : Database) (table consumer name : List ℕ) (tick : ℕ) (replies : List Reply) → (the_table table r.node).tick ≡ tick → consumer ≡ copy_consumer r.node → name ≡ table → Serves p p_new (parting consumer)
+    → MovesBy {H = BatchHand} (moves_to Synced name) p p r r_new replies None → MovesBy (hands_over p r tick (the_table table r.node)) p p_new r r_new replies None
+leaves-moves p p_new r r_new table consumer name tick replies come named same parts moves = record {
   move = record { provider = parting (copy_consumer r.node) ∷ []; replica = moving (the_table table r.node).name Synced ∷ []; replies = TableMoved (the_table table r.node).name Synced ∷ []; hand = None };
   is = leaves-now p r (the_table table r.node) tick come;
   moved = record {
     provider = serves-one p p_new (parting (copy_consumer r.node)) (subst (λ x. Serves p p_new (parting x)) named parts);
-    replica = serves-one r r_new (moving (the_table table r.node).name Synced) (subst (λ x. Serves r r_new (moving x Synced)) (sym (name-of table r.node)) moves);
-    printed = printed ∙ ap (λ x. TableMoved x Synced ∷ []) (sym (name-of table r.node));
+    replica = subst (λ x. ServesAll r r_new (moving x Synced ∷ [])) called (subst (λ (m : Move BatchHand). ServesAll r r_new m.replica) (sym one) moves.moved.replica);
+    printed = moves.moved.printed ∙ ap Move.replies (sym one) ∙ ap (λ x. TableMoved x Synced ∷ []) called;
     in_hand = refl;
   };
 }
+  where
+    called : name ≡ (the_table table r.node).name
+    called = same ∙ sym (name-of table r.node)
+
+    one : ◌≡◌ {A = Move BatchHand} (record { provider = []; replica = moving name Synced ∷ []; replies = TableMoved name Synced ∷ []; hand = None }) moves.move
+    one = let is = moves.is in cc
 
 -- a move by what is done with a batch
 pub batch-moves : (p p_new r r_new : Database) (table : List ℕ) (hand left : Option Hand) (batch now : Option BatchHand) (other : Checked (Move BatchHand)) (replies : List Reply)
-    → copy_move p r table hand ≡ if_copied (the_table table r.node) hand (with_batch p r (the_table table r.node) (batch_in hand) other) → is_some (the_table table r.node).snapshot ≡ true → batch ≡ batch_in hand
-    → left ≡ option_map of_batch now → MovesBy (with_batch p r (the_table table r.node) batch other) p p_new r r_new replies now → MovesBy (copy_move p r table hand) p p_new r r_new replies left
+    → copy_move p r table hand ≡ if_copied (the_table table r.node) hand (goes_through_or p r (the_table table r.node) (batch_in hand) other) → is_some (the_table table r.node).snapshot ≡ true → batch ≡ batch_in hand
+    → left ≡ option_map of_batch now → MovesBy (goes_through_or p r (the_table table r.node) batch other) p p_new r r_new replies now → MovesBy (copy_move p r table hand) p p_new r r_new replies left
 batch-moves p p_new r r_new table hand left batch now other replies is kept same to moves =
-    subst (λ checked. MovesBy checked p p_new r r_new replies left) (sym (is ∙ if-kept (the_table table r.node) hand (with_batch p r (the_table table r.node) (batch_in hand) other) kept))
-    (handed of_batch (with_batch p r (the_table table r.node) (batch_in hand) other) p p_new r r_new replies now left to
-    (subst (λ b. MovesBy (with_batch p r (the_table table r.node) b other) p p_new r r_new replies now) same moves))
+    subst (λ checked. MovesBy checked p p_new r r_new replies left) (sym (is ∙ if-kept (the_table table r.node) hand (goes_through_or p r (the_table table r.node) (batch_in hand) other) kept))
+    (handed of_batch (goes_through_or p r (the_table table r.node) (batch_in hand) other) p p_new r r_new replies now left to
+    (subst (λ b. MovesBy (goes_through_or p r (the_table table r.node) b other) p p_new r r_new replies now) same moves))
 
 -- an error that is handed on
 pub err-same : {T E : Type 0} (Q : E → Type 0) (result : Result T E) (e : E) → IsErrAnd result (λ x. x ≡ e) → Q e → IfErr result Q

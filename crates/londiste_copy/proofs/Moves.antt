@@ -19,7 +19,7 @@ use Rattle.sky_model.specs.StepCopy.{copy_writes, insertions, all_fit, copies_ro
 use Rattle.sky_model.specs.StepNode.{NodeCall, copying_rows, ending_copy, letting_go, if_there, table_number, may_copy}
 use Rattle.sky_model.specs.Hands.{CopyHand}
 use Rattle.sky_model.specs.WorkerMoves.{Move, behind_calls}
-use Rattle.sky_model.specs.CopyMoves.{columns_for, continues, copies_piece, goes_on, held_snapshot, last_key, next_piece, rows_from, rows_of, starts_copy, under_way}
+use Rattle.sky_model.specs.CopyMoves.{columns_for, continues, copies_piece, starts_or_continues, held_snapshot, last_key, next_piece, rows_from, rows_of, starts_copy, under_way}
 use Rattle.sky_model.specs.DatabaseSteps.{IsMade}
 use Rattle.sky_model.proofs.NodeDeeds.{is-served}
 use Rattle.pgq_db.specs.Served.{Serves}
@@ -203,10 +203,10 @@ moves-not p r name before now replies none same printed =
     })
 
 -- by whether a copy runs
-pub goes-first : (p r : Database) (name : List ℕ) (hand : Option CopyHand) (running : Option ℕ) → is_some running ≡ false → goes_on p r name hand running ≡ starts_copy p r name
+pub goes-first : (p r : Database) (name : List ℕ) (hand : Option CopyHand) (running : Option ℕ) → is_some running ≡ false → starts_or_continues p r name hand running ≡ starts_copy p r name
 goes-first p r name hand None none = refl
 goes-first p r name hand (Some t) none = absurd (cc)
 
-pub goes-more : (p r : Database) (name : List ℕ) (hand : Option CopyHand) (running : Option ℕ) → is_some running ≡ true → goes_on p r name hand running ≡ continues p name hand (under_way p hand)
+pub goes-more : (p r : Database) (name : List ℕ) (hand : Option CopyHand) (running : Option ℕ) → is_some running ≡ true → starts_or_continues p r name hand running ≡ continues p name hand (under_way p hand)
 goes-more p r name hand None some = absurd (cc)
 goes-more p r name hand (Some t) some = refl

@@ -5,18 +5,18 @@ ghost use Rattle.std.specs.Prelude.{◌≡◌, [], true, None, Some, IfOk, IfErr
 ghost use Rattle.londiste_state.specs.declared.state.TableState.TheVariants as state;
 ghost use Rattle.londiste_state.specs.Nodes.{LeafTable};
 ghost use Rattle.sky_model.specs.BatchMoves.{goes_through, takes_next};
-ghost use Rattle.sky_model.specs.CopyMoves.{catches_up, copier, copy_consumer, covers, hands_over, has_caught_up, with_batch};
+ghost use Rattle.sky_model.specs.CopyMoves.{catches_up, copier, copy_consumer, covers, goes_through_or, hands_over, has_caught_up};
 ghost use Rattle.sky_model.specs.DatabaseSteps.{IsMade};
 ghost use Rattle.sky_model.specs.History.{copy_of};
 ghost use Rattle.sky_model.specs.StepApply.{may_apply};
 ghost use Rattle.sky_model.specs.StepNode.{set_queue};
 ghost use Rattle.pgq_db.specs.Seen.{seen_database};
 ghost use Rattle.londiste_batches.specs.Moved.{MovesBy, MoveRefused};
-ghost use Rattle.londiste_copy.specs.CatchingUp.{the_table};
+ghost use Rattle.londiste_copy.specs.CatchingUp.{is_following, progress_of, the_table, without_batch};
 
 use crate::copying::copy_consumer;
-use crate::table::{table_at, tick_of};
-use londiste_batches::{BatchHand, go_through, move_table, print, take_next};
+use crate::table::{Progress, table_at};
+use londiste_batches::{BatchHand, go_through, move_table, take_next};
 use londiste_state::{Node, TableState};
 use pgq_db::{Db, Pick, WorkerFault};
 use sky_model::Reply;
@@ -24,87 +24,51 @@ use sky_txid::Snapshot;
 use sky_val::Text;
 use std::alloc::Global;
 
-/// A move for a table that catches up: once it has caught up, it waits until the leaf has come to its tick.
-pub(crate) fn catch_up(
+/// A move for a table that was copied: its batch is gone through. With none in hand, the table catches up or is handed
+/// over, by its state.
+pub(crate) fn follow(
     alloc: Global,
     provider: &mut Db,
     replica: &mut Db,
     table: &Text,
+    progress: Progress,
     hand: Option<BatchHand>,
     replies: &mut Vec<Reply>,
 ) -> Result<Option<BatchHand>, WorkerFault>
     requires replica_made { IsMade (seen_database replica.old) }
     requires root { is_some (set_queue (seen_database provider.old)) ≡ true }
-    requires state { (the_table table.now (seen_database replica.old).node).state ≡ state.CatchingUp }
+    requires progress { progress ≡ progress_of (the_table table.now (seen_database replica.old).node) }
+    requires state { is_following progress.state ≡ true }
     requires may { may_apply (copy_of table.now) (seen_database replica.old).node ≡ true }
     requires nothing { replies.old.items ≡ [] }
-    ensures moves { IfOk result (λ now. MovesBy (with_batch (seen_database provider.old) (seen_database replica.old) (the_table table.now (seen_database replica.old).node) hand
-        (catches_up (seen_database provider.old) (seen_database replica.old) (the_table table.now (seen_database replica.old).node)))
+    ensures moves { IfOk result (λ now. MovesBy (goes_through_or (seen_database provider.old) (seen_database replica.old) (the_table table.now (seen_database replica.old).node) hand (without_batch progress.state (seen_database provider.old) (seen_database replica.old) (the_table table.now (seen_database replica.old).node)))
         (seen_database provider.old) (seen_database provider.new) (seen_database replica.old) (seen_database replica.new) replies.new.items now) }
-    ensures fault { IfErr result (λ fault. MoveRefused fault (with_batch (seen_database provider.old) (seen_database replica.old) (the_table table.now (seen_database replica.old).node) hand
-        (catches_up (seen_database provider.old) (seen_database replica.old) (the_table table.now (seen_database replica.old).node)))
+    ensures fault { IfErr result (λ fault. MoveRefused fault (goes_through_or (seen_database provider.old) (seen_database replica.old) (the_table table.now (seen_database replica.old).node) hand (without_batch progress.state (seen_database provider.old) (seen_database replica.old) (the_table table.now (seen_database replica.old).node)))
         (seen_database provider.old) (seen_database provider.new) (seen_database replica.old) (seen_database replica.new) hand hand) }
 {
+    let tick = progress.tick;
     if let Some(hand) = hand {
-        return go_on(alloc, provider, replica, table, hand, replies);
+        return go_through_batch(alloc, provider, replica, table, tick, hand, replies);
     }
-    if has_caught_up(provider, replica.node(), table) {
-        let reached = tick_of(replica.node(), table);
-        let name = table.copy(alloc)?;
-        move_table(replica, name, TableState::WannaSync(reached), replies)?;
-        return Ok(None);
+    match progress.state {
+        TableState::DoSync(at) => hand_over(alloc, provider, replica, table, tick, at, replies),
+        _ => catch_up(alloc, provider, replica, table, tick, replies),
     }
-    take_next_of(alloc, provider, replica, replies)
 }
 
-/// A move for a table that is handed over at a tick: once its copy has come to that tick, it is in sync, and the
-/// consumer of its copy leaves.
-pub(crate) fn hand_over(
+/// What is done with a batch in hand of a table whose copy has come to this tick.
+fn go_through_batch(
     alloc: Global,
     provider: &mut Db,
     replica: &mut Db,
     table: &Text,
     tick: u64,
-    hand: Option<BatchHand>,
-    replies: &mut Vec<Reply>,
-) -> Result<Option<BatchHand>, WorkerFault>
-    requires replica_made { IsMade (seen_database replica.old) }
-    requires root { is_some (set_queue (seen_database provider.old)) ≡ true }
-    requires state { (the_table table.now (seen_database replica.old).node).state ≡ state.DoSync tick }
-    requires may { may_apply (copy_of table.now) (seen_database replica.old).node ≡ true }
-    requires nothing { replies.old.items ≡ [] }
-    ensures moves { IfOk result (λ now. MovesBy (with_batch (seen_database provider.old) (seen_database replica.old) (the_table table.now (seen_database replica.old).node) hand
-        (hands_over (seen_database provider.old) (seen_database replica.old) tick (the_table table.now (seen_database replica.old).node)))
-        (seen_database provider.old) (seen_database provider.new) (seen_database replica.old) (seen_database replica.new) replies.new.items now) }
-    ensures fault { IfErr result (λ fault. MoveRefused fault (with_batch (seen_database provider.old) (seen_database replica.old) (the_table table.now (seen_database replica.old).node) hand
-        (hands_over (seen_database provider.old) (seen_database replica.old) tick (the_table table.now (seen_database replica.old).node)))
-        (seen_database provider.old) (seen_database provider.new) (seen_database replica.old) (seen_database replica.new) hand hand) }
-{
-    if let Some(hand) = hand {
-        return go_on(alloc, provider, replica, table, hand, replies);
-    }
-    if tick_of(replica.node(), table) != tick {
-        return take_next_of(alloc, provider, replica, replies);
-    }
-    let consumer = copy_consumer(alloc, replica.node())?;
-    provider.part(&consumer);
-    replica.set_state(table, TableState::Synced);
-    let name = table.copy(alloc)?;
-    print(Reply::TableMoved(name, TableState::Synced), replies)?;
-    Ok(None)
-}
-
-/// What is done with a batch in hand.
-fn go_on(
-    alloc: Global,
-    provider: &mut Db,
-    replica: &mut Db,
-    table: &Text,
     hand: BatchHand,
     replies: &mut Vec<Reply>,
 ) -> Result<Option<BatchHand>, WorkerFault>
     requires replica_made { IsMade (seen_database replica.old) }
     requires root { is_some (set_queue (seen_database provider.old)) ≡ true }
+    requires tick { tick ≡ (the_table table.now (seen_database replica.old).node).tick }
     requires may { may_apply (copy_of table.now) (seen_database replica.old).node ≡ true }
     requires nothing { replies.old.items ≡ [] }
     ensures moves { IfOk result (λ now. MovesBy (goes_through (seen_database provider.old) (seen_database replica.old) (copier (seen_database replica.old).node (the_table table.now (seen_database replica.old).node)) hand)
@@ -112,13 +76,71 @@ fn go_on(
     ensures fault { IfErr result (λ fault. MoveRefused fault (goes_through (seen_database provider.old) (seen_database replica.old) (copier (seen_database replica.old).node (the_table table.now (seen_database replica.old).node)) hand)
         (seen_database provider.old) (seen_database provider.new) (seen_database replica.old) (seen_database replica.new) (Some hand) (Some hand)) }
 {
-    let tick = tick_of(replica.node(), table);
     let pick = Pick::CopyOf(table.copy(alloc)?);
     go_through(provider, replica, tick, &pick, hand, replies)
 }
 
+/// A table whose copy has come to this tick catches up: once it has caught up, it waits until the leaf has come to that
+/// tick.
+fn catch_up(
+    alloc: Global,
+    provider: &mut Db,
+    replica: &mut Db,
+    table: &Text,
+    reached: u64,
+    replies: &mut Vec<Reply>,
+) -> Result<Option<BatchHand>, WorkerFault>
+    requires replica_made { IsMade (seen_database replica.old) }
+    requires root { is_some (set_queue (seen_database provider.old)) ≡ true }
+    requires state { (the_table table.now (seen_database replica.old).node).state ≡ state.CatchingUp }
+    requires reached { reached ≡ (the_table table.now (seen_database replica.old).node).tick }
+    requires nothing { replies.old.items ≡ [] }
+    ensures moves { IfOk result (λ now. MovesBy (catches_up (seen_database provider.old) (seen_database replica.old) (the_table table.now (seen_database replica.old).node))
+        (seen_database provider.old) (seen_database provider.new) (seen_database replica.old) (seen_database replica.new) replies.new.items now) }
+    ensures fault { IfErr result (λ fault. MoveRefused fault (catches_up (seen_database provider.old) (seen_database replica.old) (the_table table.now (seen_database replica.old).node))
+        (seen_database provider.old) (seen_database provider.new) (seen_database replica.old) (seen_database replica.new) None None) }
+{
+    if has_caught_up(provider, replica.node(), table) {
+        let name = table.copy(alloc)?;
+        move_table(replica, name, TableState::WannaSync(reached), replies)?;
+        return Ok(None);
+    }
+    take_copy_batch(alloc, provider, replica, replies)
+}
+
+/// A table whose copy has come to this tick is handed over at a tick: once its copy has come to that tick, it is in
+/// sync, and the consumer of its copy leaves.
+fn hand_over(
+    alloc: Global,
+    provider: &mut Db,
+    replica: &mut Db,
+    table: &Text,
+    reached: u64,
+    at: u64,
+    replies: &mut Vec<Reply>,
+) -> Result<Option<BatchHand>, WorkerFault>
+    requires replica_made { IsMade (seen_database replica.old) }
+    requires root { is_some (set_queue (seen_database provider.old)) ≡ true }
+    requires state { (the_table table.now (seen_database replica.old).node).state ≡ state.DoSync at }
+    requires reached { reached ≡ (the_table table.now (seen_database replica.old).node).tick }
+    requires nothing { replies.old.items ≡ [] }
+    ensures moves { IfOk result (λ now. MovesBy (hands_over (seen_database provider.old) (seen_database replica.old) at (the_table table.now (seen_database replica.old).node))
+        (seen_database provider.old) (seen_database provider.new) (seen_database replica.old) (seen_database replica.new) replies.new.items now) }
+    ensures fault { IfErr result (λ fault. MoveRefused fault (hands_over (seen_database provider.old) (seen_database replica.old) at (the_table table.now (seen_database replica.old).node))
+        (seen_database provider.old) (seen_database provider.new) (seen_database replica.old) (seen_database replica.new) None None) }
+{
+    if reached != at {
+        return take_copy_batch(alloc, provider, replica, replies);
+    }
+    let consumer = copy_consumer(alloc, replica.node())?;
+    let name = table.copy(alloc)?;
+    provider.part(&consumer);
+    move_table(replica, name, TableState::Synced, replies)?;
+    Ok(None)
+}
+
 /// Takes the next batch of the copies' consumer in hand, if there is one.
-fn take_next_of(
+fn take_copy_batch(
     alloc: Global,
     provider: &mut Db,
     replica: &Db,

@@ -10,8 +10,8 @@ ghost use Rattle.londiste_batches.specs.Moved.{ServesAll, MovesAs, MovesBy, Move
 ghost use Rattle.londiste_copy.specs.Copying.{Begun, SameTable, last_row_key};
 
 use crate::hand::CopyHand;
-use crate::table::state_of;
-use londiste_batches::print;
+use crate::table::progress_of;
+use londiste_batches::add_reply;
 use londiste_state::{Node, TableState};
 use pgq_db::{Db, JoinFault, WorkerFault};
 use sky_model::Reply;
@@ -68,7 +68,7 @@ pub(crate) fn continue_copy(
             copy_piece(alloc, provider, replica, table, hand, replies)
         }
         hand => {
-            print(Reply::AwaitsTable(table.copy(alloc)?), replies)?;
+            add_reply(Reply::AwaitsTable(table.copy(alloc)?), replies)?;
             Ok(hand)
         }
     }
@@ -103,11 +103,9 @@ fn begin(
     provider.part(&consumer);
     let tick = match provider.join(&consumer) {
         Ok(tick) => tick,
-        Err(fault) => match fault {
-            JoinFault::NoMemory => return Err(WorkerFault::NoMemory),
-            // It has just left, so there is room for it, and an id was left.
-            _ => unreachable!(),
-        },
+        // It has just left, so there is room for it, and an id was left.
+        Err(fault) if fault != JoinFault::NoMemory => unreachable!(),
+        Err(_) => return Err(WorkerFault::NoMemory),
     };
     let hold = provider.hold()?;
     Ok(CopyHand {
@@ -167,7 +165,7 @@ pub(crate) fn give_up(replica: &mut Db, table: &Text)
     requires { IsMade (seen_database replica.old) }
     ensures { ServesAll (seen_database replica.old) (seen_database replica.new) (giving_up_copy table.now ∷ []) }
 {
-    if state_of(replica.node(), table) == TableState::InCopy {
+    if progress_of(replica.node(), table).state == TableState::InCopy {
         replica.copy_drop(table);
     }
 }

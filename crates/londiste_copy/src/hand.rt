@@ -25,10 +25,12 @@ impl Model for CopyHand {
     ghost view = { λ h. record { hold = h.hold; tick = h.tick; last = h.last } };
 }
 
-/// A copy, or, once the table catches up, a batch.
+/// What the worker of a table has in hand.
 #[derive(Drop)]
 pub enum Hand {
+    /// A copy that runs.
     Copy(CopyHand),
+    /// A batch, once the table catches up.
     Batch(BatchHand),
 }
 

@@ -1,8 +1,8 @@
 //! The table that a worker copies, in its leaf.
 
-ghost use Rattle.std.specs.Prelude.{◌≡◌, is_some, option_copied};
+ghost use Rattle.std.specs.Prelude.{◌≡◌, option_copied};
 ghost use Rattle.sky_model.specs.CopyMoves.{table_at};
-ghost use Rattle.londiste_copy.specs.CatchingUp.{the_table};
+ghost use Rattle.londiste_copy.specs.CatchingUp.{progress_of, the_table};
 
 use londiste_state::{LeafTable, Node, TableState};
 use sky_val::Text;
@@ -17,32 +17,30 @@ pub(crate) fn table_at<'a>(node: Option<&'a Node>, table: &Text) -> Option<&'a L
     }
 }
 
-/// Its state. Without such a table it is that of one that has just joined.
-pub(crate) fn state_of(node: Option<&Node>, table: &Text) -> TableState
-    ensures { result ≡ (the_table table.now (option_copied node.entry)).state }
-{
-    match table_at(node, table) {
-        Some(table) => table.state(),
-        None => TableState::Absent,
-    }
+/// How far a table has come.
+#[derive(Clone, Copy)]
+pub(crate) struct Progress {
+    pub(crate) state: TableState,
+    /// The tick to which its copy has come.
+    pub(crate) tick: u64,
+    /// Whether it was copied, that is, a snapshot of it is kept.
+    pub(crate) is_copied: bool,
 }
 
-/// The tick to which its copy has come. The same holds.
-pub(crate) fn tick_of(node: Option<&Node>, table: &Text) -> u64
-    ensures { result ≡ (the_table table.now (option_copied node.entry)).tick }
+/// How far the table of a name has come. Without such a table it is as if the table had just joined.
+pub(crate) fn progress_of(node: Option<&Node>, table: &Text) -> Progress
+    ensures { result ≡ progress_of (the_table table.now (option_copied node.entry)) }
 {
     match table_at(node, table) {
-        Some(table) => table.tick(),
-        None => 0,
-    }
-}
-
-/// Whether it was copied, that is, a snapshot of it is kept.
-pub(crate) fn is_copied(node: Option<&Node>, table: &Text) -> bool
-    ensures { result ≡ is_some (the_table table.now (option_copied node.entry)).snapshot }
-{
-    match table_at(node, table) {
-        Some(table) => table.snapshot().is_some(),
-        None => false,
+        Some(table) => Progress {
+            state: table.state(),
+            tick: table.tick(),
+            is_copied: table.snapshot().is_some(),
+        },
+        None => Progress {
+            state: TableState::Absent,
+            tick: 0,
+            is_copied: false,
+        },
     }
 }

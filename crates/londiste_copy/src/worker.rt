@@ -7,15 +7,15 @@ ghost use Rattle.sky_model.specs.DatabaseSteps.{IsMade};
 ghost use Rattle.sky_model.specs.StepNode.{set_queue};
 ghost use Rattle.pgq_db.specs.Seen.{seen_database};
 ghost use Rattle.londiste_batches.specs.Moved.{MovesAs, MovesBy, MoveRefused};
-ghost use Rattle.londiste_copy.specs.CatchingUp.{the_table};
+ghost use Rattle.londiste_copy.specs.CatchingUp.{is_following, progress_of, the_table};
 ghost use Rattle.londiste_copy.specs.Copying.{SameTable};
 ghost use Rattle.londiste_copy.specs.Hands.{hand_of};
 
-use crate::catching_up::{catch_up, hand_over};
+use crate::catching_up::follow;
 use crate::copying::{continue_copy, give_up, let_go, start_copy};
 use crate::hand::{Hand, batch_in, copy_in, of_batch, of_copy};
-use crate::table::{is_copied, state_of};
-use londiste_batches::print;
+use crate::table::{Progress, progress_of};
+use londiste_batches::add_reply;
 use londiste_state::TableState;
 use pgq_db::{Db, WorkerFault};
 use sky_model::Reply;
@@ -79,32 +79,47 @@ impl CopyWorker {
             (seen_database provider.old) (seen_database provider.new) (seen_database replica.old) (seen_database replica.new) self.old self.new) }
     {
         let mut replies = Vec::new(self.alloc);
-        match state_of(replica.node(), table) {
-            TableState::InCopy => {
-                self.go_on(provider, replica, table, &mut replies)?;
-                Ok(replies)
-            }
-            TableState::CatchingUp => {
-                self.catch_up(provider, replica, table, &mut replies)?;
-                Ok(replies)
-            }
-            TableState::DoSync(tick) => {
-                self.hand_over(provider, replica, table, tick, &mut replies)?;
-                Ok(replies)
+        self.step_into(provider, replica, table, &mut replies)?;
+        Ok(replies)
+    }
+
+    /// The same, with the list for what it prints.
+    fn step_into(
+        &mut self,
+        provider: &mut Db,
+        replica: &mut Db,
+        table: &Text,
+        replies: &mut Vec<Reply>,
+    ) -> Result<(), WorkerFault>
+        requires provider_made { IsMade (seen_database provider.old) }
+        requires replica_made { IsMade (seen_database replica.old) }
+        requires root { is_some (set_queue (seen_database provider.old)) ≡ true }
+        requires same { SameTable (seen_database provider.old) (seen_database replica.old) table.now }
+        requires nothing { replies.old.items ≡ [] }
+        ensures moves { OnOk result (MovesBy (copy_move (seen_database provider.old) (seen_database replica.old) table.now self.old)
+            (seen_database provider.old) (seen_database provider.new) (seen_database replica.old) (seen_database replica.new) replies.new.items self.new) }
+        ensures fault { IfErr result (λ fault. MoveRefused fault (copy_move (seen_database provider.old) (seen_database replica.old) table.now self.old)
+            (seen_database provider.old) (seen_database provider.new) (seen_database replica.old) (seen_database replica.new) self.old self.new) }
+    {
+        let progress = progress_of(replica.node(), table);
+        match progress.state {
+            TableState::InCopy => self.step_copy(provider, replica, table, replies),
+            TableState::CatchingUp | TableState::DoSync(_) => {
+                self.step_batches(provider, replica, table, progress, replies)
             }
             TableState::Synced => {
-                print(Reply::Idle, &mut replies)?;
-                Ok(replies)
+                add_reply(Reply::Idle, replies)?;
+                Ok(())
             }
             _ => {
-                print(Reply::AwaitsTable(table.copy(self.alloc)?), &mut replies)?;
-                Ok(replies)
+                add_reply(Reply::AwaitsTable(table.copy(self.alloc)?), replies)?;
+                Ok(())
             }
         }
     }
 
     /// A copy begins, unless one runs: then it goes on.
-    fn go_on(
+    fn step_copy(
         &mut self,
         provider: &mut Db,
         replica: &mut Db,
@@ -133,59 +148,33 @@ impl CopyWorker {
         Ok(())
     }
 
-    /// A table that has its rows catches up. One that wasn't copied is waited for.
-    fn catch_up(
+    /// A table that was copied goes through batches. One that wasn't is waited for.
+    fn step_batches(
         &mut self,
         provider: &mut Db,
         replica: &mut Db,
         table: &Text,
+        progress: Progress,
         replies: &mut Vec<Reply>,
     ) -> Result<(), WorkerFault>
-        requires provider_made { IsMade (seen_database provider.old) }
         requires replica_made { IsMade (seen_database replica.old) }
         requires root { is_some (set_queue (seen_database provider.old)) ≡ true }
-        requires state { (the_table table.now (seen_database replica.old).node).state ≡ state.CatchingUp }
+        requires progress { progress ≡ progress_of (the_table table.now (seen_database replica.old).node) }
+        requires state { is_following progress.state ≡ true }
         requires nothing { replies.old.items ≡ [] }
         ensures moves { OnOk result (MovesBy (copy_move (seen_database provider.old) (seen_database replica.old) table.now self.old)
             (seen_database provider.old) (seen_database provider.new) (seen_database replica.old) (seen_database replica.new) replies.new.items self.new) }
         ensures fault { IfErr result (λ fault. MoveRefused fault (copy_move (seen_database provider.old) (seen_database replica.old) table.now self.old)
             (seen_database provider.old) (seen_database provider.new) (seen_database replica.old) (seen_database replica.new) self.old self.new) }
     {
-        if !is_copied(replica.node(), table) {
-            print(Reply::AwaitsTable(table.copy(self.alloc)?), replies)?;
+        if !progress.is_copied {
+            add_reply(Reply::AwaitsTable(table.copy(self.alloc)?), replies)?;
             return Ok(());
         }
         let hand = batch_in(&self.hand);
-        let hand = catch_up(self.alloc, provider, replica, table, hand, replies)?;
-        self.hand = of_batch(hand);
-        Ok(())
-    }
-
-    /// A table that has caught up is handed over, at a tick. The same holds.
-    fn hand_over(
-        &mut self,
-        provider: &mut Db,
-        replica: &mut Db,
-        table: &Text,
-        tick: u64,
-        replies: &mut Vec<Reply>,
-    ) -> Result<(), WorkerFault>
-        requires provider_made { IsMade (seen_database provider.old) }
-        requires replica_made { IsMade (seen_database replica.old) }
-        requires root { is_some (set_queue (seen_database provider.old)) ≡ true }
-        requires state { (the_table table.now (seen_database replica.old).node).state ≡ state.DoSync tick }
-        requires nothing { replies.old.items ≡ [] }
-        ensures moves { OnOk result (MovesBy (copy_move (seen_database provider.old) (seen_database replica.old) table.now self.old)
-            (seen_database provider.old) (seen_database provider.new) (seen_database replica.old) (seen_database replica.new) replies.new.items self.new) }
-        ensures fault { IfErr result (λ fault. MoveRefused fault (copy_move (seen_database provider.old) (seen_database replica.old) table.now self.old)
-            (seen_database provider.old) (seen_database provider.new) (seen_database replica.old) (seen_database replica.new) self.old self.new) }
-    {
-        if !is_copied(replica.node(), table) {
-            print(Reply::AwaitsTable(table.copy(self.alloc)?), replies)?;
-            return Ok(());
-        }
-        let hand = batch_in(&self.hand);
-        let hand = hand_over(self.alloc, provider, replica, table, tick, hand, replies)?;
+        let hand = follow(
+            self.alloc, provider, replica, table, progress, hand, replies,
+        )?;
         self.hand = of_batch(hand);
         Ok(())
     }

@@ -1,33 +1,19 @@
 //! Which of a leaf's tables its worker has to see to.
 
-ghost use Rattle.std.specs.Prelude.{◌≡◌, find, option_copied, option_map};
+ghost use Rattle.std.specs.Prelude.{◌≡◌, Bool, option_copied};
 ghost use Rattle.std.specs.List.{list_any};
-ghost use Rattle.londiste_state.specs.Nodes.{LeafTable};
+ghost use Rattle.londiste_state.specs.declared.state.TableState.{TableState};
 ghost use Rattle.sky_model.specs.ReplayMoves.{first_in, is_absent, is_handed_over, is_met, is_on_way, next_to_copy};
 
 use londiste_state::{Leaf, TableState};
 use sky_val::Text;
 
-/// The first table that is being handed over.
-pub(crate) fn handed_over(leaf: &Leaf) -> Option<&Text>
-    ensures { option_copied result ≡ first_in is_handed_over leaf.now }
+/// The first table in such a state.
+pub(crate) fn first_in<F: Fn(TableState) -> bool>(leaf: &Leaf, is: F) -> Option<&Text>
+    requires calls { F.IsAlwaysCallable is }
+    ensures { (p : TableState → Bool) → ((state : TableState) (b : Bool) → F.post is state b → b ≡ p state) → option_copied result ≡ first_in p leaf.now }
 {
-    let table = leaf
-        .tables()
-        .iter()
-        .find(|table| is_handed_over(table.state()))?;
-    Some(table.name())
-}
-
-/// The first table that waits for the leaf to come to its tick, and need wait no longer.
-pub(crate) fn met(leaf: &Leaf) -> Option<&Text>
-    ensures { option_copied result ≡ first_in (is_met leaf.now.tick) leaf.now }
-{
-    let tick = leaf.tick();
-    let table = leaf
-        .tables()
-        .iter()
-        .find(|table| is_met(tick, table.state()))?;
+    let table = leaf.tables().iter().find(|table| is(table.state()))?;
     Some(table.name())
 }
 
@@ -38,7 +24,7 @@ pub(crate) fn next_to_copy(leaf: &Leaf) -> Option<&Text>
     if has_one_on_way(leaf) {
         None
     } else {
-        first_absent(leaf)
+        first_in(leaf, is_absent)
     }
 }
 
@@ -47,14 +33,6 @@ fn has_one_on_way(leaf: &Leaf) -> bool
     ensures { result ≡ list_any (λ t. is_on_way t.state) leaf.now.tables }
 {
     leaf.tables().iter().any(|table| is_on_way(table.state()))
-}
-
-/// The first table that isn't copied yet.
-fn first_absent(leaf: &Leaf) -> Option<&Text>
-    ensures { option_copied result ≡ option_map LeafTable.name (find (λ t. is_absent t.state) leaf.now.tables) }
-{
-    let table = leaf.tables().iter().find(|table| is_absent(table.state()))?;
-    Some(table.name())
 }
 
 /// Whether a table is on its way from one that isn't copied to one in sync.
@@ -75,14 +53,14 @@ fn is_absent(state: TableState) -> bool
 }
 
 /// Whether a table is being handed over.
-fn is_handed_over(state: TableState) -> bool
+pub(crate) fn is_handed_over(state: TableState) -> bool
     ensures { result ≡ is_handed_over state }
 {
     matches!(state, TableState::DoSync(_))
 }
 
 /// Whether a table waits for the leaf to come to its tick, and the leaf, at this one, has.
-fn is_met(tick: u64, state: TableState) -> bool
+pub(crate) fn is_met(tick: u64, state: TableState) -> bool
     ensures { result ≡ is_met tick state }
 {
     match state {

@@ -6,13 +6,13 @@ ghost use Rattle.londiste_state.specs.Nodes.{of_leaf};
 ghost use Rattle.sky_model.specs.Nodes.{is_leaf};
 ghost use Rattle.sky_model.specs.BatchMoves.{takes_next};
 ghost use Rattle.sky_model.specs.DatabaseSteps.{IsMade};
-ghost use Rattle.sky_model.specs.ReplayMoves.{goes_on, replay_move, replayer};
+ghost use Rattle.sky_model.specs.ReplayMoves.{empty_handed_move, replay_move, replayer};
 ghost use Rattle.sky_model.specs.StepNode.{set_queue};
 ghost use Rattle.pgq_db.specs.Seen.{seen_database};
 ghost use Rattle.londiste_batches.specs.Moved.{MovesBy, MoveRefused};
 
-use crate::tables::{handed_over, met, next_to_copy};
-use londiste_batches::{BatchHand, go_through, move_table, print, take_next};
+use crate::tables::{first_in, is_handed_over, is_met, next_to_copy};
+use londiste_batches::{BatchHand, add_reply, go_through, move_table, take_next};
 use londiste_state::{Leaf, Node, TableState};
 use pgq_db::{Db, Pick, WorkerFault};
 use sky_model::Reply;
@@ -70,7 +70,7 @@ impl ReplayWorker {
     {
         let mut replies = Vec::new(self.alloc);
         let Some(hand) = self.hand else {
-            self.hand = self.go_on(provider, replica, &mut replies)?;
+            self.hand = self.step_empty_handed(provider, replica, &mut replies)?;
             return Ok(replies);
         };
         let tick = leaf_in(replica.node()).tick();
@@ -80,7 +80,7 @@ impl ReplayWorker {
 
     /// A move with nothing in hand: a table that is being handed over is waited for; one that the leaf has come up to is
     /// handed over, at the leaf's tick; the next copy is begun; or the next batch is taken.
-    fn go_on(
+    fn step_empty_handed(
         &self,
         provider: &mut Db,
         replica: &mut Db,
@@ -91,17 +91,17 @@ impl ReplayWorker {
         requires root { is_some (set_queue (seen_database provider.old)) ≡ true }
         requires leaf { (seen_database replica.old).node ≡ Some (of_leaf leaf) }
         requires nothing { replies.old.items ≡ [] }
-        ensures moves { IfOk result (λ now. MovesBy (goes_on (seen_database provider.old) leaf)
+        ensures moves { IfOk result (λ now. MovesBy (empty_handed_move (seen_database provider.old) leaf)
             (seen_database provider.old) (seen_database provider.new) (seen_database replica.old) (seen_database replica.new) replies.new.items now) }
-        ensures fault { IfErr result (λ fault. MoveRefused fault (goes_on (seen_database provider.old) leaf)
+        ensures fault { IfErr result (λ fault. MoveRefused fault (empty_handed_move (seen_database provider.old) leaf)
             (seen_database provider.old) (seen_database provider.new) (seen_database replica.old) (seen_database replica.new) None None) }
     {
         let leaf = leaf_in(replica.node());
-        if let Some(table) = handed_over(leaf) {
-            print(Reply::AwaitsTable(table.copy(self.alloc)?), replies)?;
+        if let Some(table) = first_in(leaf, is_handed_over) {
+            add_reply(Reply::AwaitsTable(table.copy(self.alloc)?), replies)?;
             return Ok(None);
         }
-        if let Some(table) = met(leaf) {
+        if let Some(table) = first_in(leaf, |state| is_met(leaf.tick(), state)) {
             let to = TableState::DoSync(leaf.tick());
             let table = table.copy(self.alloc)?;
             move_table(replica, table, to, replies)?;
@@ -112,7 +112,7 @@ impl ReplayWorker {
             move_table(replica, table, TableState::InCopy, replies)?;
             return Ok(None);
         }
-        take_next_of(provider, replica, replies)
+        take_leaf_batch(provider, replica, replies)
     }
 
     /// What the worker has in hand is lost: the batch comes again.
@@ -124,7 +124,7 @@ impl ReplayWorker {
 }
 
 /// Takes the leaf's next batch in hand, if there is one.
-fn take_next_of(
+fn take_leaf_batch(
     provider: &mut Db,
     replica: &Db,
     replies: &mut Vec<Reply>,

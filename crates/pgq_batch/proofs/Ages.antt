@@ -12,13 +12,10 @@ use Rattle.pgq_tables.specs.Order.{by_txid}
 use Rattle.pgq_tables.specs.ById.{by_id}
 use Rattle.pgq_batch.specs.Bound.{is_between, looks_for_ends, most_looks}
 use Rattle.pgq_batch.specs.Placed.{with_place, by_place}
+use Rattle.pgq_batch.specs.Looked.{ages}
 use Rattle.pgq_batch.proofs.Keyed.{length-in_order_by}
 use Rattle.pgq_batch.proofs.ByTxid.{passing-by_txid, placed-in_order, without_places}
 use Rattle.pgq_batch.proofs.Sorted.{by_id-is, by_place-is, equal_ids_stay}
-
--- the tables, the oldest first
-abbrev pub ages : Tables → List (List Stored)
-ages ts = drop (ts.current + 1) ts.lists ++ take (ts.current + 1) ts.lists
 
 -- those events of tables that pass a test
 abbrev pub passing_of : (Stored → Bool) → List (List Stored) → List Event

@@ -7,3 +7,4 @@ pub mod Between
 pub mod Earliest
 pub mod Ages
 pub mod Holds
+pub mod Lent

@@ -3,7 +3,7 @@ use Rattle.std.proofs.Common.{◌≡◌, ℕ, ◌+◌, ◌-◌, ◌^◌, ◌/◌
 use Rattle.std.proofs.lemmas.Bool.{cond_both, ltb-false}
 use Rattle.pgq_tables.specs.Tables.{Stored}
 use Rattle.pgq_tables.specs.Order.{by_txid}
-use Rattle.pgq_tables.specs.Views.{one_more}
+use Rattle.pgq_tables.specs.Views.{one_more, so_many_more}
 use Rattle.pgq_batch.specs.Bound.{digits}
 use Rattle.pgq_batch.proofs.Digits.{digits-half}
 use Rattle.pgq_batch.proofs.Keyed.{first_below}
@@ -19,6 +19,15 @@ pub one_more-counts : (reads : ℕ) → one_more reads < 2 ^ 64 - 1 → reads + 
 one_more-counts reads =
     cond_both (nat_lt reads (2 ^ 64 - 1)) (reads + 1) reads (λ n. n < 2 ^ 64 - 1 → reads + 1 ≤ n) (λ _ _. omega arith)
     (λ past less. let most = ltb-false reads (2 ^ 64 - 1) past in omega arith)
+
+-- so many looks at once
+pub so_many-upper : (many reads : ℕ) → so_many_more many reads ≤ reads + many
+so_many-upper many reads =
+    cond_both (nat_lt (reads + many) (2 ^ 64 - 1)) (reads + many) (2 ^ 64 - 1) (λ n. n ≤ reads + many) (λ _. omega arith) (λ past. ltb-false (reads + many) (2 ^ 64 - 1) past)
+
+pub so_many-counts : (many reads : ℕ) → so_many_more many reads < 2 ^ 64 - 1 → reads + many ≤ so_many_more many reads
+so_many-counts many reads =
+    cond_both (nat_lt (reads + many) (2 ^ 64 - 1)) (reads + many) (2 ^ 64 - 1) (λ n. n < 2 ^ 64 - 1 → reads + many ≤ n) (λ _ _. omega arith) (λ _ less. omega arith)
 
 -- what is got is there
 pub got : {X : Type 0} (xs : List X) (i : ℕ) (x d : X) → slice_get xs i ≡ Some x → get_or xs i d ≡ x

@@ -1,11 +1,13 @@
 -- What a stable sort leaves, and what was in order before it, is in order of its keys.
-use Rattle.std.proofs.Common.{◌≡◌, ℕ, pos, ◌+◌, zero, suc, ◌<◌, ◌≤◌, true, List, [], ◌∷◌, None, length, get_or, filter, ◌==◌, nat_lt, nat_cmp, is_lt, is_le, refl, sym, ap, subst, ◌∙◌, arith, zero-le, if◌then◌else◌}
+use Rattle.std.proofs.Common.{◌≡◌, ℕ, ◌+◌, zero, suc, ◌<◌, ◌≤◌, Bool, true, false, List, [], ◌∷◌, length, get_or, filter, map, ◌==◌, nat_lt, nat_cmp, is_lt, is_le, refl, sym, ap, subst, ◌∙◌, arith, zero-le, if◌then◌else◌, Bor}
 use Rattle.std.specs.List.{All}
 use Rattle.std.proofs.lemmas.Bool.Decides.{nat_tests}
 use Rattle.std.specs.List.Sorted.{ties, IsNonDecreasingBy, IsStableByKey}
 use Rattle.sky_val.specs.declared.event.Event.{Event}
 use Rattle.pgq_tables.specs.ById.{with_event, by_id_onto, by_id, with_id, InOrder}
+use Rattle.pgq_tables.specs.Tables.{Stored}
 use Rattle.pgq_batch.specs.Placed.{put_by_place, by_place_onto, by_place}
+use Rattle.pgq_batch.specs.Looked.{events_of, placed_events}
 use Rattle.pgq_batch.proofs.Keyed.{put_by, put_all_by, in_order_by, Rises, with_key, is_in_order_by, in_order_by-rising, All-in_order_by, Rises-in_order_by, with_key-in_order_by}
 use Rattle.pgq_batch.proofs.ByTxid.{place_of}
 
@@ -45,15 +47,48 @@ tie_at m n = grind (arith, nat_tests)
 tied : {X : Type 0} (key : X → ℕ) (x : X) (xs : List X) → filter (ties (λ y z. is_lt (nat_cmp (key y) (key z))) x) xs ≡ with_key key (key x) xs
 tied key x xs = ap (λ p. filter p xs) (λ i y. tie_at (key x) (key y) i)
 
-sorted : {X : Type 0} (key : X → ℕ) (numbered : ℕ → X) → ((k : ℕ) → key (numbered k) ≡ k) → (xs ys : List X) → IsNonDecreasingBy key ys → IsStableByKey key nat_cmp xs ys → ys ≡ in_order_by key xs
-sorted key numbered is xs ys up stable =
-    is_in_order_by key 0 xs ys (Rises-sorted key ys up)
-    (λ k. ap (λ n. with_key key n ys) (sym (is k)) ∙ sym (tied key (numbered k) ys) ∙ stable (numbered k) ∙ tied key (numbered k) xs ∙ ap (λ n. with_key key n xs) (is k))
+-- the first one with a key has it
+key_first : {X : Type 0} (key : X → ℕ) (k : ℕ) (x : X) (rest xs : List X) → with_key key k xs ≡ x ∷ rest → key x ≡ k
+key_first key k x rest [] is = absurd (cc is)
+key_first {X} key k x rest (y ∷ ys) is = by (key_first key k x rest ys) (key y == k) refl is
+  where
+    by : (with_key key k ys ≡ x ∷ rest → key x ≡ k) → (b : Bool) → (key y == k) ≡ b → (if b then y ∷ with_key key k ys else with_key key k ys) ≡ x ∷ rest → key x ≡ k
+    by later true same is = let first : y ≡ x = cc in ap key (sym first) ∙ grind (arith, nat_tests, same)
+    by later false same is = later is
+
+same_keys : {X : Type 0} (key : X → ℕ) (xs ys : List X) → IsStableByKey key nat_cmp xs ys → (k : ℕ) → with_key key k ys ≡ with_key key k xs
+same_keys {X} key xs ys stable k = by (with_key key k ys) refl (with_key key k xs) refl
+  where
+    at_one : (x : X) → key x ≡ k → with_key key k ys ≡ with_key key k xs
+    at_one x has = ap (λ n. with_key key n ys) (sym has) ∙ sym (tied key x ys) ∙ stable x ∙ tied key x xs ∙ ap (λ n. with_key key n xs) has
+
+    by : (now : List X) → with_key key k ys ≡ now → (was : List X) → with_key key k xs ≡ was → with_key key k ys ≡ with_key key k xs
+    by (y ∷ rest) is was other = at_one y (key_first key k y rest ys is)
+    by [] is (x ∷ rest) other = at_one x (key_first key k x rest xs other)
+    by [] is [] other = is ∙ sym other
+
+sorted : {X : Type 0} (key : X → ℕ) (xs ys : List X) → IsNonDecreasingBy key ys → IsStableByKey key nat_cmp xs ys → ys ≡ in_order_by key xs
+sorted key xs ys up stable = is_in_order_by key 0 xs ys (Rises-sorted key ys up) (same_keys key xs ys stable)
+
+-- ---- as they are seen
+
+map-put_by : {X Y : Type 0} (f : X → Y) (key : Y → ℕ) (x : X) (xs : List X) → map f (put_by (λ z. key (f z)) x xs) ≡ put_by key (f x) (map f xs)
+map-put_by f key x [] = refl
+map-put_by f key x (y ∷ ys) =
+    elim (nat_lt (key (f x)) (key (f y))) as (λ b. map f (if b then x ∷ y ∷ ys else y ∷ put_by (λ z. key (f z)) x ys) ≡ (if b then f x ∷ f y ∷ map f ys else f y ∷ put_by key (f x) (map f ys))) [
+      | true ↦ refl
+      | false ↦ ap (λ zs. f y ∷ zs) (map-put_by f key x ys)
+    ]
+
+map-put_all_by : {X Y : Type 0} (f : X → Y) (key : Y → ℕ) (done xs : List X) → map f (put_all_by (λ z. key (f z)) done xs) ≡ put_all_by key (map f done) (map f xs)
+map-put_all_by f key done [] = refl
+map-put_all_by f key done (x ∷ xs) = map-put_all_by f key (put_by (λ z. key (f z)) x done) xs ∙ ap (λ zs. put_all_by key zs (map f xs)) (map-put_by f key x done)
+
+-- elements that are in order as they are seen
+map-in_order_by : {X Y : Type 0} (f : X → Y) (key : Y → ℕ) (xs : List X) → map f (in_order_by (λ z. key (f z)) xs) ≡ in_order_by key (map f xs)
+map-in_order_by f key xs = map-put_all_by f key [] xs
 
 -- ---- events by id
-
-numbered : ℕ → Event
-numbered id = record { ev_id = id; ev_time = pos 0; ev_txid = 0; ev_owner = None; ev_retry = None; ev_type = None; ev_data = None; ev_extra1 = None; ev_extra2 = None; ev_extra3 = None; ev_extra4 = None }
 
 with_event-is : (e : Event) (es : List Event) → with_event e es ≡ put_by Event.ev_id e es
 with_event-is e [] = refl
@@ -66,12 +101,15 @@ by_id_onto-is done (e ∷ es) = ap (λ zs. by_id_onto zs es) (with_event-is e do
 pub by_id-is : (es : List Event) → by_id es ≡ in_order_by Event.ev_id es
 by_id-is es = by_id_onto-is [] es
 
-pub by_id-rising : (es : List Event) → Climbs Event.ev_id es → es ≡ by_id es
-by_id-rising es up = rising Event.ev_id es up ∙ sym (by_id-is es)
+-- the id of an event that is lent
+abbrev pub id_of : Bor Stored → ℕ
+id_of s = s.now.event.ev_id
 
-pub by_id-sorted : (xs ys : List Event) → IsNonDecreasingBy Event.ev_id ys → IsStableByKey Event.ev_id nat_cmp xs ys → ys ≡ by_id xs
-unfolding numbered
-by_id-sorted xs ys up stable = sorted Event.ev_id numbered (λ k. refl) xs ys up stable ∙ sym (by_id-is xs)
+pub by_id-rising : (xs : List (Bor Stored)) → Climbs id_of xs → events_of xs ≡ by_id (events_of xs)
+by_id-rising xs up = ap events_of (rising id_of xs up) ∙ map-in_order_by (λ (s : Bor Stored). s.now.event) Event.ev_id xs ∙ sym (by_id-is (events_of xs))
+
+pub by_id-sorted : (xs ys : List (Bor Stored)) → IsNonDecreasingBy id_of ys → IsStableByKey id_of nat_cmp xs ys → events_of ys ≡ by_id (events_of xs)
+by_id-sorted xs ys up stable = ap events_of (sorted id_of xs ys up stable) ∙ map-in_order_by (λ (s : Bor Stored). s.now.event) Event.ev_id xs ∙ sym (by_id-is (events_of xs))
 
 -- what holds of each event holds of each by id
 pub All-by_id : (P : Event → Type 0) (es : List Event) → All P es → All P (by_id es)
@@ -92,9 +130,6 @@ equal_ids_stay es id = ap (with_id id) (by_id-is es) ∙ with_key-in_order_by Ev
 
 -- ---- events by place
 
-at_place : ℕ → ℕ × Event
-at_place place = (place, numbered 0)
-
 put_by_place-is : (x : ℕ × Event) (xs : List (ℕ × Event)) → put_by_place x xs ≡ put_by place_of x xs
 put_by_place-is x [] = refl
 put_by_place-is x (y ∷ ys) = ap (λ zs. if nat_lt x.0 y.0 then x ∷ y ∷ ys else y ∷ zs) (put_by_place-is x ys)
@@ -106,9 +141,12 @@ by_place_onto-is done (x ∷ xs) = ap (λ zs. by_place_onto zs xs) (put_by_place
 pub by_place-is : (xs : List (ℕ × Event)) → by_place xs ≡ in_order_by place_of xs
 by_place-is xs = by_place_onto-is [] xs
 
-pub by_place-rising : (xs : List (ℕ × Event)) → Climbs place_of xs → xs ≡ by_place xs
-by_place-rising xs up = rising place_of xs up ∙ sym (by_place-is xs)
+-- the event of one that is lent, with its place
+abbrev pub placed_event : ℕ × Bor Stored → ℕ × Event
+placed_event x = (x.0, x.1.now.event)
 
-pub by_place-sorted : (xs ys : List (ℕ × Event)) → IsNonDecreasingBy place_of ys → IsStableByKey place_of nat_cmp xs ys → ys ≡ by_place xs
-unfolding at_place
-by_place-sorted xs ys up stable = sorted place_of at_place (λ k. refl) xs ys up stable ∙ sym (by_place-is xs)
+pub by_place-rising : (xs : List (ℕ × Bor Stored)) → Climbs place_of xs → placed_events xs ≡ by_place (placed_events xs)
+by_place-rising xs up = ap placed_events (rising place_of xs up) ∙ map-in_order_by placed_event place_of xs ∙ sym (by_place-is (placed_events xs))
+
+pub by_place-sorted : (xs ys : List (ℕ × Bor Stored)) → IsNonDecreasingBy place_of ys → IsStableByKey place_of nat_cmp xs ys → placed_events ys ≡ by_place (placed_events xs)
+by_place-sorted xs ys up stable = ap placed_events (sorted place_of xs ys up stable) ∙ map-in_order_by placed_event place_of xs ∙ sym (by_place-is (placed_events xs))

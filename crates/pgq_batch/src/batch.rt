@@ -1,13 +1,62 @@
-ghost use Rattle.std.specs.Prelude.{◌≡◌, ◌==◌, ◌+◌, ◌-◌, ◌^◌, ◌<◌, ◌≤◌, ◌++◌, [], length, find, take, drop, slice_index_or, IfOk, OnOk};
+ghost use Rattle.std.specs.Prelude.{◌≡◌, ℕ, ◌==◌, ◌+◌, ◌-◌, ◌^◌, ◌<◌, ◌≤◌, ◌++◌, [], length, find, map, take, drop, slice_index_or, IfOk, OnOk};
 ghost use Rattle.pgq_tables.specs.Listed.{listed};
+ghost use Rattle.pgq_tables.specs.Tables.{recorded_part};
 ghost use Rattle.pgq_batch.specs.Bound.{most_looks};
+ghost use Rattle.pgq_batch.specs.Looked.{events_of, AreLookedAt};
 
+use crate::ends::ends_between;
 use crate::placed::{move_to, sort_by_id, sort_by_place};
 use crate::table::{collect, first_with_id};
-use pgq_tables::EventTables;
+use pgq_tables::{EventTables, Looked, Recorded, Stored};
 use sky_txid::Snapshot;
 use sky_val::{Event, NoMemory};
 use std::alloc::Global;
+
+/// Looks at the events of each table that a batch may list, from the oldest table on: those from the lower bound of the
+/// earlier snapshot on and below the upper bound of the later one.
+pub fn look(
+    alloc: Global,
+    tables: &mut EventTables,
+    prev: &Snapshot,
+    cur: &Snapshot,
+) -> Result<Vec<Looked>, NoMemory>
+    ensures looked { IfOk result (λ looks. AreLookedAt prev.now cur.now tables.old.tables looks.items) }
+    ensures same { tables.new.tables ≡ tables.old.tables }
+
+    // Each event that is listed was looked at, unless so many were that they are no longer counted.
+    ensures lower { OnOk result ((sub : ℕ) → tables.new.reads < 2 ^ 64 - 1 → length (listed prev.now cur.now sub tables.old.tables) + tables.old.reads ≤ tables.new.reads) }
+    ensures upper { OnOk result (tables.new.reads ≤ tables.old.reads + most_looks prev.now cur.now tables.old.tables) }
+{
+    let mut looks = Vec::with_capacity(alloc, tables.len())?;
+    for turn in 0..tables.len() {
+        let table = table_by_age(tables, turn);
+        let (first, end) = ends_between(tables, table, prev, cur);
+        looks.push(tables.look(table, first, end))?;
+    }
+    Ok(looks)
+}
+
+/// Those that it lists: they are between two snapshots, for a subscription and not dead, and are in order of their ids.
+pub fn lend<'a>(
+    alloc: Global,
+    tables: &'a EventTables,
+    looks: Vec<Looked>,
+    prev: &Snapshot,
+    cur: &Snapshot,
+    sub: u64,
+) -> Result<Vec<&'a Stored>, NoMemory>
+    requires { AreLookedAt prev.now cur.now tables.now.tables looks.items }
+    ensures { IfOk result (λ found. events_of found.items ≡ listed prev.now cur.now sub tables.now.tables) }
+{
+    let mut events = Vec::new(alloc);
+    for looked in looks {
+        let mut found = collect(alloc, tables, looked, prev, cur, sub)?;
+        sort_by_place(&mut found)?;
+        move_to(&mut events, found)?;
+    }
+    sort_by_id(&mut events)?;
+    Ok(events)
+}
 
 /// The events that a batch lists: those between two snapshots that are for a subscription and not dead, by id.
 pub fn select(
@@ -24,15 +73,30 @@ pub fn select(
     ensures lower { IfOk result (λ events. tables.new.reads < 2 ^ 64 - 1 → length events.items + tables.old.reads ≤ tables.new.reads) }
     ensures upper { OnOk result (tables.new.reads ≤ tables.old.reads + most_looks prev.now cur.now tables.old.tables) }
 {
-    let mut events = Vec::new(alloc);
-    let mut found = Vec::new(alloc);
-    for turn in 0..tables.len() {
-        let table = table_by_age(tables, turn);
-        collect(alloc, tables, table, prev, cur, sub, &mut found)?;
-        sort_by_place(&mut found)?;
-        move_to(&mut events, &mut found)?;
+    let looks = look(alloc, tables, prev, cur)?;
+    let found = lend(alloc, tables, looks, prev, cur, sub)?;
+    copies(alloc, &found)
+}
+
+/// Equal events.
+fn copies(alloc: Global, found: &[&Stored]) -> Result<Vec<Event>, NoMemory>
+    ensures { IfOk result (λ events. events.items ≡ events_of found.now) }
+{
+    let mut events = Vec::with_capacity(alloc, found.len())?;
+    for stored in found {
+        events.push(stored.event(alloc)?)?;
     }
-    sort_by_id(&mut events)?;
+    Ok(events)
+}
+
+/// What of events records changes of rows.
+pub fn recorded<'a>(alloc: Global, found: &[&'a Stored]) -> Result<Vec<Recorded<'a>>, NoMemory>
+    ensures { IfOk result (λ events. events.items ≡ map recorded_part (events_of found.now)) }
+{
+    let mut events = Vec::with_capacity(alloc, found.len())?;
+    for stored in found {
+        events.push(stored.recorded())?;
+    }
     Ok(events)
 }
 

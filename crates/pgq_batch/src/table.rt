@@ -1,43 +1,41 @@
-ghost use Rattle.std.specs.Prelude.{◌≡◌, ◌==◌, ◌&&◌, ◌+◌, ◌-◌, ◌^◌, ◌<◌, ◌≤◌, ◌++◌, [], length, filter, find, map, slice_index_or, IfOk, OnOk};
-ghost use Rattle.pgq_tables.specs.Tables.{Stored};
+ghost use Rattle.std.specs.Prelude.{◌≡◌, true, ◌==◌, ◌&&◌, ◌+◌, ◌-◌, ◌^◌, ◌<◌, ◌≤◌, ◌++◌, [], length, filter, find, map, slice_index_or, IfOk, OnOk};
+ghost use Rattle.sky_txid.specs.Snapshot.{is_snapshot};
 ghost use Rattle.pgq_tables.specs.Order.{by_txid};
 ghost use Rattle.pgq_tables.specs.Listed.{is_listed};
 ghost use Rattle.pgq_batch.specs.Bound.{is_between, looks_for_ends};
 ghost use Rattle.pgq_batch.specs.Placed.{with_place, is_before};
+ghost use Rattle.pgq_batch.specs.Looked.{looked_in, placed_events};
 
 use crate::ends::ends_between;
 use crate::listed::is_listed;
-use pgq_tables::EventTables;
+use pgq_tables::{EventTables, Looked, Stored};
 use sky_txid::Snapshot;
 use sky_val::{Event, NoMemory};
 use std::alloc::Global;
 
-/// Collects those events of a table that a batch lists, each with its place there, in order of their transactions.
-pub(crate) fn collect(
+/// Those of the events of a table that were looked at that a batch lists, each with its place there, in order of their
+/// transactions.
+pub(crate) fn collect<'a>(
     alloc: Global,
-    tables: &mut EventTables,
-    table: usize,
+    tables: &'a EventTables,
+    mut looked: Looked,
     prev: &Snapshot,
     cur: &Snapshot,
     sub: u64,
-    found: &mut Vec<(usize, Event)>,
-) -> Result<(), NoMemory>
-    requires { table < length tables.old.tables.lists }
-    ensures found { OnOk result (found.new.items
-        ≡ found.old.items ++ map with_place (filter (λ x. is_listed prev.now cur.now sub x.1) (by_txid (slice_index_or tables.old.tables.lists table [])))) }
-    ensures same { tables.new.tables ≡ tables.old.tables }
-    ensures upper { OnOk result (tables.new.reads ≤ tables.old.reads
-        + (length (filter (is_between prev.now cur.now) (slice_index_or tables.old.tables.lists table [])) + looks_for_ends (slice_index_or tables.old.tables.lists table []))) }
-    ensures lower { OnOk result (tables.new.reads < 2 ^ 64 - 1 → length found.new.items + tables.old.reads ≤ tables.new.reads + length found.old.items) }
+) -> Result<Vec<(usize, &'a Stored)>, NoMemory>
+    requires table { looked.table < length tables.now.tables.lists }
+    requires sound { is_snapshot cur.now ≡ true }
+    requires ends { looked ≡ looked_in prev.now cur.now looked.table (slice_index_or tables.now.tables.lists looked.table []) }
+    ensures { IfOk result (λ found. placed_events found.items
+        ≡ map with_place (filter (λ x. is_listed prev.now cur.now sub x.1) (by_txid (slice_index_or tables.now.tables.lists looked.table [])))) }
 {
-    let (first, end) = ends_between(tables, table, prev, cur);
-    for index in first..end {
-        let (place, stored) = tables.by_txid(table, index);
+    let mut found = Vec::with_capacity(alloc, looked.len())?;
+    while let Some((place, stored)) = tables.next_looked(&mut looked) {
         if is_listed(stored, prev, cur, sub) {
-            found.push((place, stored.event(alloc)?))?;
+            found.push((place, stored))?;
         }
     }
-    Ok(())
+    Ok(found)
 }
 
 /// The first event of a table with an id, of those that a batch lists.
@@ -52,7 +50,7 @@ pub(crate) fn first_with_id(
 ) -> Result<Option<Event>, NoMemory>
     requires { table < length tables.old.tables.lists }
     ensures found { IfOk result (λ found. found
-        ≡ find (λ e. e.ev_id == id) (map Stored.event (filter (is_listed prev.now cur.now sub) (slice_index_or tables.old.tables.lists table [])))) }
+        ≡ find (λ e. e.ev_id == id) (map (λ s. s.event) (filter (is_listed prev.now cur.now sub) (slice_index_or tables.old.tables.lists table [])))) }
     ensures same { tables.new.tables ≡ tables.old.tables }
     ensures upper { OnOk result (tables.new.reads ≤ tables.old.reads
         + (length (filter (is_between prev.now cur.now) (slice_index_or tables.old.tables.lists table [])) + looks_for_ends (slice_index_or tables.old.tables.lists table []))) }

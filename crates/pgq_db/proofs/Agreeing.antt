@@ -94,16 +94,16 @@ agree-entered old new who place (Err no_memory) q enters err are = agree-same ol
 
 -- what is kept of triggers and tables stays the same in the queues as the gate
 keeps-passed : (q : QueuesView) (mark : Mark) → KeepsRest q (passed event_rule q mark)
-keeps-passed q (tabled (wrote (of_session who) t table key old new)) = record { time = refl; triggers = refl; traced = refl; rounds = refl }
-keeps-passed q (ended whose t false) = record { time = refl; triggers = refl; traced = refl; rounds = refl }
-keeps-passed q mark = record { time = refl; triggers = refl; traced = refl; rounds = refl }
+keeps-passed q (tabled (wrote (of_session who) t table key old new)) = record { time = refl; triggers = refl; traced_tables = refl; rounds = refl }
+keeps-passed q (ended whose t false) = record { time = refl; triggers = refl; traced_tables = refl; rounds = refl }
+keeps-passed q mark = record { time = refl; triggers = refl; traced_tables = refl; rounds = refl }
 
 keeps-all : (q : QueuesView) (marks : List Mark) → KeepsRest q (passed_all event_rule q marks)
-keeps-all q [] = record { time = refl; triggers = refl; traced = refl; rounds = refl }
+keeps-all q [] = record { time = refl; triggers = refl; traced_tables = refl; rounds = refl }
 keeps-all q (mark ∷ marks) =
     let one = keeps-passed q mark in
     let rest = keeps-all (passed event_rule q mark) marks in
-    record { time = rest.time ∙ one.time; triggers = rest.triggers ∙ one.triggers; traced = rest.traced ∙ one.traced; rounds = rest.rounds ∙ one.rounds }
+    record { time = rest.time ∙ one.time; triggers = rest.triggers ∙ one.triggers; traced_tables = rest.traced_tables ∙ one.traced_tables; rounds = rest.rounds ∙ one.rounds }
 
 -- after marks of rows
 pub agree-passed : (old new : RowPart) (was left : QueuesView) (marks : List Mark) → new ≡ after_part_marks old marks → left ≡ passed_all event_rule was marks → Agree old was → Agree new left

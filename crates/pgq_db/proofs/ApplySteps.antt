@@ -1,11 +1,12 @@
 -- What a worker makes of the events of a batch, and what the call gives by which a leaf applies it.
-use Rattle.std.proofs.Common.{◌≡◌, ℕ, suc, ◌+◌, ◌<◌, ◌≤◌, Bool, true, false, not, cond, List, [], ◌∷◌, ◌++◌, All, length, drop, get_or, filter, Option, Some, None, IfSome, Result, ◌↔◌, Ok, Err, IfOk, option_and_then, refl, sym, ◌∙◌, ap, subst, arith, add-one, if◌then◌else◌}
+use Rattle.std.proofs.Common.{◌≡◌, ℕ, suc, ◌+◌, ◌<◌, ◌≤◌, Bool, true, false, not, cond, List, [], ◌∷◌, ◌++◌, All, length, drop, get_or, filter, map, Option, Some, None, IfSome, Result, ◌↔◌, Ok, Err, IfOk, OnOk, option_and_then, refl, sym, ◌∙◌, ap, subst, arith, add-one, if◌then◌else◌}
+use Rattle.std.specs.Prelude.{option_map, unwrap_or}
 use Rattle.std.specs.List.{list_any}
 use Rattle.std.specs.Result.{result_ok}
 use Rattle.std.specs.Ordering.{eq_by_cmp}
 use Rattle.std.proofs.lemmas.List.Filters.{length-filter_both}
 use Rattle.std.proofs.lemmas.List.Elements.{All-nil, All-cons, All-head, All-tail}
-use Rattle.std.proofs.lemmas.List.{drop_all}
+use Rattle.std.proofs.lemmas.List.{drop_all, length-map}
 use Rattle.std.proofs.Math.Seq.{drop-cons}
 use Rattle.sky_val.specs.declared.val.Val.{Val}
 use Rattle.sky_val.specs.declared.column.Column.{Column}
@@ -13,7 +14,7 @@ use Rattle.sky_val.specs.declared.event.Event.{Event}
 use Rattle.sky_val.specs.declared.op.Op.{Op}
 use Rattle.sky_val.specs.Order.{key_cmp}
 use Rattle.sky_val.specs.Schemas.{key_of}
-use Rattle.sky_urlenc.specs.Changes.{op_of, Change, change_of}
+use Rattle.sky_urlenc.specs.Changes.{op_named, Change, change_of}
 use Rattle.sky_urlenc.specs.ReadRow.{read_row}
 use Rattle.sky_txid.specs.Ids.{contains}
 use Rattle.sky_txid.specs.Snapshot.{SnapshotView}
@@ -27,9 +28,10 @@ use Rattle.sky_trans.specs.declared.trans.TransFault.TheVariants as trans
 use Rattle.londiste_state.specs.Nodes.{Leaf, Node, of_root, of_leaf}
 use Rattle.sky_model.specs.declared.reply.Reply.TheVariants.{Number, Null}
 use Rattle.sky_model.specs.declared.reply.Refusal.TheVariants.{TxidsSpent}
-use Rattle.sky_model.specs.History.{Mark, Pick, of_worker, began, ended, noded, applied}
+use Rattle.sky_model.specs.History.{Mark, Pick, of_synced, copy_of, of_worker, began, ended, noded, applied}
 use Rattle.sky_model.specs.Nodes.{after_node}
 use Rattle.sky_model.specs.Rows.{Write}
+use Rattle.sky_model.specs.Selection.{selected, selected_in}
 use Rattle.sky_model.specs.ShownRows.{snapshot_now}
 use Rattle.sky_model.specs.State.{RowPart, after_part, after_part_marks, Database, after_mark, after_marks}
 use Rattle.sky_model.specs.OwnTransaction.{next_id}
@@ -45,18 +47,20 @@ use Rattle.sky_model.proofs.NodeDeeds.{is-served}
 use Rattle.sky_model.proofs.MadeCopies.{CopyMayBegin, picked-may-write, picked-uncopied}
 use Rattle.sky_state.specs.Views.{RowStateView}
 use Rattle.sky_state.specs.Seen.{seen}
+use Rattle.pgq_tables.specs.Tables.{recorded_part}
 use Rattle.pgq_queues.specs.Views.{QueuesView}
-use Rattle.pgq_queues.specs.Seen.{seen_with}
+use Rattle.pgq_queues.specs.Seen.{queue_at, Beside, seen_with, seen_batch, seen_span, batch_at}
+use Rattle.pgq_queues.specs.declared.batch.Batch as read
+use Rattle.pgq_queues.specs.declared.batch.Span.{Span}
 use Rattle.pgq_queues.specs.EventRule.{event_rule}
 use Rattle.pgq_db.specs.Agreeing.{Agree}
-use Rattle.pgq_db.specs.Applying.{leaf_of, apply_fault_of, MayWriteFor, Makes, Works, IsBad, ApplyRefused}
+use Rattle.pgq_db.specs.Applying.{as_leaf, batch_list, apply_fault_of, MayWriteFor, Makes, Works, IsBad, ApplyRefused}
 use Rattle.pgq_db.specs.Copying.{is_own_last, MayWrite}
 use Rattle.pgq_db.specs.Seen.{with_node, seen_database}
 use Rattle.pgq_db.specs.Served.{Serves}
 use Rattle.pgq_db.specs.Views.{DbView}
 use Rattle.pgq_db.specs.declared.apply.Work.{Work}
 use Rattle.pgq_db.specs.declared.faults.ApplyFault.{ApplyFault}
-use Rattle.pgq_db.specs.declared.faults.ApplyFault.TheVariants as apply
 use Rattle.pgq_db.proofs.Agreeing.{agree-then, agree-same}
 use Rattle.pgq_db.proofs.CopySteps.{own-with, own-fresh, contains-last, next-is}
 use Rattle.pgq_db.proofs.EventsAlike.{undone-shown}
@@ -79,7 +83,7 @@ data-row columns o = option_and_then (λ text. result_ok (read_row columns text)
 abbrev by-data : List Column → Option (List ℕ) → Op → Option Change
 by-data columns o op = option_and_then (λ text. option_and_then (with-row op) (result_ok (read_row columns text))) o
 
-changes-by : (columns : List Column) (event : Event) → change_of columns event ≡ change-by (option_and_then op_of event.ev_type) (data-row columns event.ev_data)
+changes-by : (columns : List Column) (event : Event) → change_of columns event ≡ change-by (option_and_then op_named event.ev_type) (data-row columns event.ev_data)
 changes-by columns event = by_type event.ev_type
   where
     by_text : (o : Option (List ℕ)) (op : Op) → by-data columns o op ≡ option_and_then (with-row op) (data-row columns o)
@@ -90,19 +94,19 @@ changes-by columns event = by_type event.ev_type
     by_op None = refl
     by_op (Some op) = by_text event.ev_data op
 
-    by_type : (o : Option (List ℕ)) → option_and_then (λ name. option_and_then (by-data columns event.ev_data) (op_of name)) o ≡ change-by (option_and_then op_of o) (data-row columns event.ev_data)
+    by_type : (o : Option (List ℕ)) → option_and_then (λ name. option_and_then (by-data columns event.ev_data) (op_named name)) o ≡ change-by (option_and_then op_named o) (data-row columns event.ev_data)
     by_type None = refl
-    by_type (Some name) = by_op (op_of name)
+    by_type (Some name) = by_op (op_named name)
 
 -- none if its type says nothing of the kind, or its data aren't a row
-pub change-untyped : (columns : List Column) (event : Event) → None ≡ option_and_then op_of event.ev_type → None ≡ change_of columns event
+pub change-untyped : (columns : List Column) (event : Event) → None ≡ option_and_then op_named event.ev_type → None ≡ change_of columns event
 change-untyped columns event none = ap (λ o. change-by o (data-row columns event.ev_data)) none ∙ sym (changes-by columns event)
 
-pub change-unread : (columns : List Column) (event : Event) (op : Op) → Some op ≡ option_and_then op_of event.ev_type → None ≡ option_and_then (λ text. result_ok (read_row columns text)) event.ev_data
+pub change-unread : (columns : List Column) (event : Event) (op : Op) → Some op ≡ option_and_then op_named event.ev_type → None ≡ option_and_then (λ text. result_ok (read_row columns text)) event.ev_data
     → None ≡ change_of columns event
 change-unread columns event op typed none = (λ i. change-by (typed i) (none i)) ∙ sym (changes-by columns event)
 
-pub change-read : (columns : List Column) (event : Event) (op : Op) → Some op ≡ option_and_then op_of event.ev_type → (row : List Val) → Some row ≡ option_and_then (λ text. result_ok (read_row columns text)) event.ev_data
+pub change-read : (columns : List Column) (event : Event) (op : Op) → Some op ≡ option_and_then op_named event.ev_type → (row : List Val) → Some row ≡ option_and_then (λ text. result_ok (read_row columns text)) event.ev_data
     → Some (record { op = op; row = row }) ≡ change_of columns event
 change-read columns event op typed row read = (λ i. change-by (typed i) (read i)) ∙ sym (changes-by columns event)
 
@@ -122,6 +126,15 @@ module _ (d : RowPart) (table t : ℕ) (change : Change) (key : List Val) (keyed
   makes-one old is may row leaves new wrote =
       subst (λ b. Makes true d new (if b then Some (work_write d table t (record { key = key_of (d.columns table) change.row; row = row_left change.op change.row })) else None)) (sym (sym (meets old is) ∙ may))
       (refl, wrote ∙ (λ i. after_part d (work_write d table t (record { key = keyed i; row = leaves i }))))
+
+  -- it was made if it may meet the row that is there
+  pub makes-as-met : {E : Type 0} → (r : Result Bool E) (new : RowPart) (row : Option (List Val)) → row ≡ row_left change.op change.row
+      → IfOk r (λ made. made ≡ may_meet change.op (read s (Some t) (versions_at key (d.versions table))))
+      → IfOk r (λ made. made ≡ true → new ≡ after_part d (work_write d table t (record { key = key; row = row }))) → IfOk r (λ made. made ≡ false → new ≡ d)
+      → IfOk r (λ made. Makes made d new (changes_row d table t (Some change)))
+  makes-as-met (Ok true) new row leaves met wrote same = makes-one _ refl (sym met) row leaves new (wrote refl)
+  makes-as-met (Ok false) new row leaves met wrote same = subst (λ n. Makes false d n (changes_row d table t (Some change))) (sym (same refl)) (makes-none _ refl (sym met))
+  makes-as-met (Err e) new row leaves met wrote same = tt
 
 -- ---- an event is applied, or can't be
 
@@ -284,12 +297,12 @@ works-none d t runs = record { runs = runs; left = refl; bad = refl; many = λ _
 -- ---- those that are picked, among those that are looked at
 
 -- a leaf picks some, and no other node does
-pub picked-leaf : (n : Option Node) (l : Leaf) → Some l ≡ leaf_of n → (pick : Pick) (events : List Event) → picked n pick events ≡ filter (picks l pick) events
+pub picked-leaf : (n : Option Node) (l : Leaf) → Some l ≡ as_leaf n → (pick : Pick) (events : List Event) → picked n pick events ≡ filter (picks l pick) events
 picked-leaf None l is pick events = absurd (cc)
 picked-leaf (Some (of_root r)) l is pick events = absurd (cc)
 picked-leaf (Some (of_leaf m)) l is pick events = let same : m ≡ l = cc in ap (λ (x : Leaf). filter (picks x pick) events) same
 
-pub picked-none : (n : Option Node) → None ≡ leaf_of n → (pick : Pick) (events : List Event) → picked n pick events ≡ []
+pub picked-none : (n : Option Node) → None ≡ as_leaf n → (pick : Pick) (events : List Event) → picked n pick events ≡ []
 picked-none None is pick events = refl
 picked-none (Some (of_root r)) is pick events = refl
 picked-none (Some (of_leaf l)) is pick events = absurd (cc)
@@ -473,3 +486,76 @@ module _ (v now : DbView) (same : v ≡ now) (events : List Event) (pick : Pick)
     pub apply-bad : (id : ℕ) → work.bad ≡ Some id → (new : Database) → new ≡ after_mark (seen_database (record v { rows = after })) (ended of_worker t false)
         → IsBad id (seen_database now) new events pick tick
     apply-bad id bad new is = here (λ w. IsBad id (seen_database w) new events pick tick) (λ m i. bad-here v events pick tick m i t left begun after begins work works id bad new is)
+
+-- ---- what events record is applied as they are
+
+picks-recorded : (l : Leaf) (pick : Pick) (event : Event) → picks l pick (recorded_part event) ≡ picks l pick event
+picks-recorded l of_synced event = refl
+picks-recorded l (copy_of name) event = refl
+
+picked-of : (l : Leaf) (pick : Pick) (events : List Event) → filter (picks l pick) (map recorded_part events) ≡ map recorded_part (filter (picks l pick) events)
+picked-of l pick [] = refl
+picked-of l pick (event ∷ events) =
+    ap (λ b. if b then recorded_part event ∷ filter (picks l pick) (map recorded_part events) else filter (picks l pick) (map recorded_part events)) (picks-recorded l pick event)
+    ∙ by (picks l pick event) (picked-of l pick events)
+  where
+    by : (b : Bool) → filter (picks l pick) (map recorded_part events) ≡ map recorded_part (filter (picks l pick) events)
+        → (if b then recorded_part event ∷ filter (picks l pick) (map recorded_part events) else filter (picks l pick) (map recorded_part events)) ≡ map recorded_part (if b then event ∷ filter (picks l pick) events else filter (picks l pick) events)
+    by true rest = ap (λ es. recorded_part event ∷ es) rest
+    by false rest = rest
+
+picked-recorded : (n : Option Node) (pick : Pick) (events : List Event) → picked n pick (map recorded_part events) ≡ map recorded_part (picked n pick events)
+picked-recorded None pick events = refl
+picked-recorded (Some (of_root r)) pick events = refl
+picked-recorded (Some (of_leaf l)) pick events = picked-of l pick events
+
+applies-recorded : (d : RowPart) (t : ℕ) (events : List Event) → applies_events d t (map recorded_part events) ≡ applies_events d t events
+applies-recorded d t [] = refl
+applies-recorded d t (event ∷ events) = by (λ mark. applies-recorded (after_part d mark) t events) (applies_event d t event)
+  where
+    by : ((mark : Mark) → applies_events (after_part d mark) t (map recorded_part events) ≡ applies_events (after_part d mark) t events) → (o : Option Mark)
+        → write_then (recorded_part event) o (λ mark. applies_events (after_part d mark) t (map recorded_part events)) ≡ write_then event o (λ mark. applies_events (after_part d mark) t events)
+    by rest None = refl
+    by rest (Some mark) = ap (λ (a : Applying). record { marks = mark ∷ a.marks; bad = a.bad }) (rest mark)
+
+pub works-recorded : (work : Work) (old new : RowPart) (t : ℕ) (n : Option Node) (pick : Pick) (recorded events : List Event) → recorded ≡ map recorded_part events → Works work old new t (picked n pick recorded)
+    → Works work old new t (picked n pick events)
+works-recorded work old new t n pick recorded events is works = as-they-are (subst (λ es. Works work old new t es) (ap (picked n pick) is ∙ picked-recorded n pick events) works)
+  where
+    as-they-are : Works work old new t (map recorded_part (picked n pick events)) → Works work old new t (picked n pick events)
+    as-they-are w = record {
+      runs = w.runs;
+      left = w.left ∙ ap (λ (a : Applying). after_part_marks old a.marks) (applies-recorded old t (picked n pick events));
+      bad = w.bad ∙ ap Applying.bad (applies-recorded old t (picked n pick events));
+      many = λ none. w.many none ∙ length-map (picked n pick events) recorded_part;
+    }
+
+-- ---- what the events of a batch record
+
+module _ (v now : DbView) (same : v ≡ now) (id : ℕ) where
+  -- one that is active, whose events were looked at
+  pub batch-recorded : (batch : read.Batch) (span : Span) (looked : QueuesView) (recorded : List Event) → Some (seen_batch batch) ≡ batch_at v.queues id
+      → span ≡ record { queue = batch.queue; sub = batch.sub; prev = batch.prev; cur = batch.cur } → ((beside : Beside) → seen_with beside looked ≡ seen_with beside v.queues)
+      → ((beside : Beside) → recorded ≡ map recorded_part (selected (seen_with beside looked) (seen_span span))) → recorded ≡ map recorded_part (batch_list (seen_database now) id)
+  batch-recorded batch span looked recorded there spans stays are =
+      are (with_node v.node (seen v.rows))
+      ∙ ap (λ (d : Database). map recorded_part (selected d (seen_span span))) (stays (with_node v.node (seen v.rows)))
+      ∙ ap (λ (s : Span). map recorded_part (selected (seen_database v) (seen_span s))) spans
+      ∙ ap (λ o. map recorded_part (unwrap_or (option_map (selected (seen_database v)) o) [])) there
+      ∙ ap (λ (w : DbView). map recorded_part (batch_list (seen_database w) id)) same
+
+  pub batch-listed : (batch : read.Batch) (span : Span) → Some (seen_batch batch) ≡ batch_at v.queues id → span ≡ record { queue = batch.queue; sub = batch.sub; prev = batch.prev; cur = batch.cur }
+      → selected_in (queue_at v.queues span.queue) (seen_span span) ≡ batch_list (seen_database now) id
+  batch-listed batch span there spans =
+      ap (λ (s : Span). selected (seen_database v) (seen_span s)) spans ∙ ap (λ o. unwrap_or (option_map (selected (seen_database v)) o) []) there
+      ∙ ap (λ (w : DbView). batch_list (seen_database w) id) same
+
+  -- one that isn't active has none
+  pub none-recorded : None ≡ batch_at v.queues id → [] ≡ map recorded_part (batch_list (seen_database now) id)
+  none-recorded none =
+      ap (λ o. map recorded_part (unwrap_or (option_map (selected (seen_database v)) o) [])) none ∙ ap (λ (w : DbView). map recorded_part (batch_list (seen_database w) id)) same
+
+-- what holds anyway holds of a call that succeeded
+pub on-ok : {T E : Type 0} (result : Result T E) (P : Type 0) → P → OnOk result P
+on-ok (Ok value) P holds = holds
+on-ok (Err fault) P holds = tt

@@ -357,7 +357,7 @@ aborted-as v now rows queues copies table t same part undone left =
 
 pub agree-undone : (old new : RowPart) (was q : QueuesView) (t : ℕ) → new ≡ after_part old (ended of_worker t false) → q ≡ event_rule.undone was t → Agree old was → Agree new q
 agree-undone old new was q t is undone are =
-    agree-then old new (ended of_worker t false ∷ []) q is (subst (Agree old) (sym undone) (agree-stay old was (event_rule.undone was t) (record { time = refl; triggers = refl; traced = refl; rounds = refl }) are))
+    agree-then old new (ended of_worker t false ∷ []) q is (subst (Agree old) (sym undone) (agree-stay old was (event_rule.undone was t) (record { time = refl; triggers = refl; traced_tables = refl; rounds = refl }) are))
 
 -- a copy that runs is given up
 pub gives-up : (d new : Database) (table t : ℕ) (name : List ℕ) (o : Option ℕ) → Some t ≡ o → new ≡ after_mark d (ended (of_copy table) t false) → new ≡ after_marks d (given_up table name o)

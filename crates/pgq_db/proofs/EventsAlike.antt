@@ -16,7 +16,7 @@ use Rattle.sky_model.specs.Triggers.{TableTrigger, triggers_of}
 use Rattle.sky_model.specs.Queues.{without_transaction}
 use Rattle.sky_model.specs.State.{Queue, RowPart, after_part, after_part_marks, Database, changed_at, with_tables, after_mark, after_marks}
 use Rattle.sky_model.specs.Outcome.{Checked, ◌>>=◌, ◌>>◌, refused_if}
-use Rattle.sky_model.specs.Telling.{write_in, events_in, told_event, event_marks, told_by, told_of}
+use Rattle.sky_model.specs.Telling.{write_in, events_of_write, told_event, event_marks, told_by, told_of}
 use Rattle.sky_model.specs.Reader.{part_by_itself, database_by_itself, within_part}
 use Rattle.sky_model.specs.Gates.{RowWrite, takes, passed, passed_all, by_gate}
 use Rattle.sky_model.specs.Settling.{Turn, settling}
@@ -226,8 +226,8 @@ module _ (now : ℤ) (node : NodePart) where
 
   -- the events of a write are those that the queues store
   same-events : (d : Database) (p : RowPart) (q : QueuesView) (table : ℕ) (old new : Option (List Val)) → Here d p q
-      → events_in d table old new ≡ events_at (traced_at q table) (record { table = table; old = old; new = new })
-  same-events d p q table old new is = ap (λ x. events_in x table old new) is.whole ∙ by (kept q.traced table) (is.tables table)
+      → events_of_write d table old new ≡ events_at (traced_at q table) (record { table = table; old = old; new = new })
+  same-events d p q table old new is = ap (λ x. events_of_write x table old new) is.whole ∙ by (kept q.traced_tables table) (is.tables table)
     where
       told_by_them : RowPart → List TableTrigger → List RowEvent
       told_by_them x ts = events_of (record { table = unwrap_or (slice_get x.tables table) []; columns = x.columns table; old = old; new = new }) (map TableTrigger.trigger ts)
@@ -242,8 +242,8 @@ module _ (now : ℤ) (node : NodePart) where
       ≡ is_ok (told_of (after_mark d (tabled (wrote (of_session who) t table key old new))) now (tabled (wrote (of_session who) t table key old new)))
   room-alike d p q who t table key old new is =
       ap (λ es. ids_left (sequences q.queues) es) (sym (same-events d p q table old new is))
-      ∙ ap (λ (x : Database). ids_left (λ n. (x.queue n).seq) (events_in d table old new)) (sym is.whole)
-      ∙ sym (told-ids (events_in d table old new) (after_mark d (tabled (wrote (of_session who) t table key old new))) now t)
+      ∙ ap (λ (x : Database). ids_left (λ n. (x.queue n).seq) (events_of_write d table old new)) (sym is.whole)
+      ∙ sym (told-ids (events_of_write d table old new) (after_mark d (tabled (wrote (of_session who) t table key old new))) now t)
 
   wrote-alike : (d : Database) (p : RowPart) (q : QueuesView) (who t table : ℕ) (key : List Val) (old new : Option (List Val)) (told : List Mark) → Here d p q
       → told_of (after_mark d (tabled (wrote (of_session who) t table key old new))) now (tabled (wrote (of_session who) t table key old new)) ≡ Ok told
@@ -267,7 +267,7 @@ module _ (now : ℤ) (node : NodePart) where
       change = record { table = table; old = old; new = new }
 
       events : List RowEvent
-      events = events_in d table old new
+      events = events_of_write d table old new
 
       within : All (λ e. e.queue < length q.queues) events
       within =

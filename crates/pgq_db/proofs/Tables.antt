@@ -32,7 +32,7 @@ table-kept p (ended who t true) n called shape is = is
 table-kept p mark n called shape is = is
 
 pub tables-kept : (p : RowPart) (mark : Mark) (q : QueuesView) → AreTables p q → AreTables (after_part p mark) q
-tables-kept p mark q are n = of (kept q.traced n) (are n)
+tables-kept p mark q are n = of (kept q.traced_tables n) (are n)
   where
     of : (o : Option TracedTableView) → IsTraced p n q.triggers o → IsTraced (after_part p mark) n q.triggers o
     of None is = is
@@ -44,7 +44,7 @@ tables-behind p (mark ∷ marks) q are = tables-behind (after_part p mark) marks
 
 -- queues that keep of tables what they kept
 pub tables-stay : (p : RowPart) (old new : QueuesView) → KeepsRest old new → AreTables p old → AreTables p new
-tables-stay p old new keeps = subst (λ (s : List TableTrigger × List (ℕ × TracedTableView)). (n : ℕ) → IsTraced p n s.0 (kept s.1 n)) (λ i. (sym keeps.triggers i, sym keeps.traced i))
+tables-stay p old new keeps = subst (λ (s : List TableTrigger × List (ℕ × TracedTableView)). (n : ℕ) → IsTraced p n s.0 (kept s.1 n)) (λ i. (sym keeps.triggers i, sym keeps.traced_tables i))
 
 -- the table of a name
 pub is-table : (part : RowPart) (name : List ℕ) (n found : ℕ) (columns : List Column) → place_of name part.tables ≡ Some n → place_of name part.tables ≡ Some found → columns ≡ part.columns found

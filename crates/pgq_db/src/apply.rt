@@ -1,7 +1,8 @@
 //! Batches of events that a leaf applies to its tables. A batch is one transaction of a worker, which writes the rows
 //! of the events that are picked, one after another, and stores the tick.
 
-ghost use Rattle.std.specs.Prelude.{◌≡◌, [], ◌∷◌, true, false, Some, IfErr, IfOk, OnErr, OnOk, All, filter, option_copied};
+ghost use Rattle.std.specs.Prelude.{◌≡◌, List, [], ◌∷◌, true, false, Some, IfErr, IfOk, OnErr, OnOk, All, filter, map, option_copied};
+ghost use Rattle.sky_val.specs.declared.event.Event.{Event};
 ghost use Rattle.sky_txid.specs.Ids.{contains};
 ghost use Rattle.sky_val.specs.Schemas.{key_of};
 ghost use Rattle.sky_model.specs.declared.reply.Reply.TheVariants.{Number};
@@ -13,13 +14,16 @@ ghost use Rattle.sky_model.specs.Nodes.{after_node};
 ghost use Rattle.sky_model.specs.Outcome.{reply_of};
 ghost use Rattle.sky_model.specs.ShownRows.{snapshot_now};
 ghost use Rattle.sky_model.specs.State.{after_part, after_mark, after_marks};
-ghost use Rattle.sky_model.specs.StepApply.{picks, picked, changes_row, work_write, applies_event};
+ghost use Rattle.sky_model.specs.StepApply.{may_apply, picks, picked, changes_row, work_write, applies_event};
 ghost use Rattle.sky_model.specs.StepNode.{applying, may_serve, node_does};
 ghost use Rattle.sky_state.specs.Seen.{seen};
+ghost use Rattle.pgq_tables.specs.Tables.{recorded_part};
+ghost use Rattle.pgq_queues.specs.Seen.{batch_at};
 ghost use Rattle.pgq_queues.specs.Views.{QueuesView};
 ghost use Rattle.pgq_db.specs.Agreeing.{Agree};
-ghost use Rattle.pgq_db.specs.Applying.{pick_of, leaf_of, MayWriteFor, Makes, Works, ApplyRefused};
+ghost use Rattle.pgq_db.specs.Applying.{pick_of, as_leaf, batch_list, MayWriteFor, Makes, Works, ApplyRefused};
 ghost use Rattle.pgq_db.specs.Copying.{MayWrite};
+ghost use Rattle.pgq_db.specs.Looks.{LooksFor, LooksFrom, LooksAtNoOther};
 ghost use Rattle.pgq_db.specs.Seen.{seen_database};
 ghost use Rattle.pgq_db.specs.Served.{Serves};
 
@@ -28,6 +32,7 @@ use crate::db::Db;
 use crate::faults::ApplyFault;
 use crate::pick::Pick;
 use londiste_state::{Leaf, Node};
+use pgq_tables::Recorded;
 use sky_model::WriteGate;
 use sky_session::RowDb;
 use sky_txid::Snapshot;
@@ -52,6 +57,59 @@ impl Db {
         ensures serves { OnOk result (Serves (seen_database self.old) (seen_database self.new) (applying events.now (pick_of pick.now) tick)) }
         ensures fault { IfErr result (λ fault. ApplyRefused fault (seen_database self.old) (seen_database self.new) events.now (pick_of pick.now) tick) }
         ensures steps { OnOk result (DatabaseSteps (seen_database self.old) (seen_database self.new) (served (applying events.now (pick_of pick.now) tick)) (quietly (node_does (seen_database self.old) (applying events.now (pick_of pick.now) tick)))) }
+    {
+        let recorded = recorded(self.alloc, events)?;
+        self.apply_recorded(&recorded, pick, tick)
+    }
+
+    /// The same for the events of a batch of another database, of which there are none if it isn't active there. They are
+    /// read where they are stored, and nothing changes there but how many events of the batch's queue were looked at.
+    pub fn apply_batch(
+        &mut self,
+        provider: &mut Db,
+        batch: u64,
+        pick: &Pick,
+        tick: u64,
+    ) -> Result<u64, ApplyFault>
+        requires made { IsMade (seen_database self.old) }
+        requires may { may_apply (pick_of pick.now) (seen_database self.old).node ≡ true }
+        ensures number { let events = batch_list (seen_database provider.old) batch in
+            IfOk result (λ many. reply_of (node_does (seen_database self.old) (applying events (pick_of pick.now) tick)) ≡ Number many) }
+        ensures serves { OnOk result (Serves (seen_database self.old) (seen_database self.new) (applying (batch_list (seen_database provider.old) batch) (pick_of pick.now) tick)) }
+        ensures fault { IfErr result (λ fault. ApplyRefused fault (seen_database self.old) (seen_database self.new) (batch_list (seen_database provider.old) batch) (pick_of pick.now) tick) }
+        ensures steps { let events = batch_list (seen_database provider.old) batch in
+            OnOk result (DatabaseSteps (seen_database self.old) (seen_database self.new) (served (applying events (pick_of pick.now) tick)) (quietly (node_does (seen_database self.old) (applying events (pick_of pick.now) tick)))) }
+        ensures provider { seen_database provider.new ≡ seen_database provider.old }
+        ensures looks { OnOk result (LooksFor provider.old.queues provider.new.queues batch) }
+        ensures lists { OnOk result (LooksFrom provider.old.queues provider.new.queues (batch_list (seen_database provider.old) batch) (batch_at provider.old.queues batch)) }
+        ensures others { LooksAtNoOther provider.old.queues provider.new.queues (batch_at provider.old.queues batch) }
+    {
+        let Some(batch) = provider.queues.batch(batch) else {
+            return self.apply_recorded(&[], pick, tick);
+        };
+        let span = batch.span();
+        let looks = provider.queues.look(span)?;
+        let recorded = provider.queues.recorded(span, looks)?;
+        self.apply_recorded(&recorded, pick, tick)
+    }
+
+    /// The same for what events record.
+    fn apply_recorded(
+        &mut self,
+        events: &[Recorded<'_>],
+        pick: &Pick,
+        tick: u64,
+    ) -> Result<u64, ApplyFault>
+        requires made { IsMade (seen_database self.old) }
+        requires may { may_apply (pick_of pick.now) (seen_database self.old).node ≡ true }
+        ensures number { (all : List Event) → events.now ≡ map recorded_part all
+            → IfOk result (λ many. reply_of (node_does (seen_database self.old) (applying all (pick_of pick.now) tick)) ≡ Number many) }
+        ensures serves { (all : List Event) → events.now ≡ map recorded_part all
+            → OnOk result (Serves (seen_database self.old) (seen_database self.new) (applying all (pick_of pick.now) tick)) }
+        ensures fault { (all : List Event) → events.now ≡ map recorded_part all
+            → IfErr result (λ fault. ApplyRefused fault (seen_database self.old) (seen_database self.new) all (pick_of pick.now) tick) }
+        ensures steps { (all : List Event) → events.now ≡ map recorded_part all
+            → OnOk result (DatabaseSteps (seen_database self.old) (seen_database self.new) (served (applying all (pick_of pick.now) tick)) (quietly (node_does (seen_database self.old) (applying all (pick_of pick.now) tick)))) }
     {
         let txid = self.rows.begin_worker()?;
         let work = apply_picked(
@@ -93,6 +151,17 @@ impl Db {
     }
 }
 
+/// What events record.
+fn recorded<'a>(alloc: Global, all: &'a [Event]) -> Result<Vec<Recorded<'a>>, NoMemory>
+    ensures { IfOk result (λ recorded. recorded.items ≡ map recorded_part all.now) }
+{
+    let mut recorded = Vec::with_capacity(alloc, all.len())?;
+    for event in all {
+        recorded.push(Recorded::of(event))?;
+    }
+    Ok(recorded)
+}
+
 /// The tick of a batch that was applied is stored, if the node is a leaf.
 fn store_tick(node: &mut Option<Node>, pick: &Pick, tick: u64)
     ensures { node.new ≡ after_node (applied (pick_of pick.now) tick) node.old }
@@ -112,14 +181,14 @@ fn apply_picked(
     node: &Option<Node>,
     pick: &Pick,
     txid: u64,
-    events: &[Event],
+    events: &[Recorded<'_>],
 ) -> Result<Work, NoMemory>
     requires runs { contains txid (seen rows.old).workers ≡ true }
     requires may { All (MayWriteFor (seen rows.old) txid) (picked node.now (pick_of pick.now) events.now) }
     ensures work { IfOk result (λ work. Works work (seen rows.old) (seen rows.new) txid (picked node.now (pick_of pick.now) events.now)) }
     ensures agree { (queues : QueuesView) → Agree (seen rows.old) queues → Agree (seen rows.new) queues }
 {
-    match leaf_of(node) {
+    match as_leaf(node) {
         Some(leaf) => apply_all(alloc, rows, leaf, pick, txid, events),
         // It picks none.
         None => Ok(Work { many: 0, bad: None }),
@@ -127,8 +196,8 @@ fn apply_picked(
 }
 
 /// The leaf, if the node is one.
-fn leaf_of(node: &Option<Node>) -> Option<&Leaf>
-    ensures { option_copied result ≡ leaf_of node.now }
+fn as_leaf(node: &Option<Node>) -> Option<&Leaf>
+    ensures { option_copied result ≡ as_leaf node.now }
 {
     match node {
         Some(Node::Leaf(leaf)) => Some(leaf),
@@ -143,7 +212,7 @@ fn apply_all(
     leaf: &Leaf,
     pick: &Pick,
     txid: u64,
-    events: &[Event],
+    events: &[Recorded<'_>],
 ) -> Result<Work, NoMemory>
     requires runs { contains txid (seen rows.old).workers ≡ true }
     requires may { All (MayWriteFor (seen rows.old) txid) (filter (picks leaf.now (pick_of pick.now)) events.now) }
@@ -173,14 +242,14 @@ fn apply_event(
     rows: &mut RowDb,
     txid: u64,
     snapshot: &Snapshot,
-    event: &Event,
+    event: &Recorded<'_>,
 ) -> Result<bool, NoMemory>
     requires may { MayWriteFor (seen rows.old) txid event.now }
     requires present { snapshot.now ≡ snapshot_now (seen rows.old) }
     ensures made { IfOk result (λ made. Makes made (seen rows.old) (seen rows.new) (applies_event (seen rows.old) txid event.now)) }
     ensures err { OnErr result (seen rows.new ≡ seen rows.old) }
 {
-    match &event.ev_extra1 {
+    match event.ev_extra1 {
         Some(name) => apply_to(alloc, rows, txid, snapshot, name, event),
         None => Ok(false),
     }
@@ -193,7 +262,7 @@ fn apply_to(
     txid: u64,
     snapshot: &Snapshot,
     name: &Text,
-    event: &Event,
+    event: &Recorded<'_>,
 ) -> Result<bool, NoMemory>
     requires named { event.now.ev_extra1 ≡ Some name.now }
     requires may { MayWriteFor (seen rows.old) txid event.now }
@@ -230,24 +299,6 @@ fn make_change(
     ensures made { IfOk result (λ made. Makes made (seen rows.old) (seen rows.new) (changes_row (seen rows.old) table txid (Some change))) }
     ensures err { OnErr result (seen rows.new ≡ seen rows.old) }
 {
-    if !change.may_meet(rows.worker_row(txid, snapshot, table, &key)) {
-        return Ok(false);
-    }
-    write(rows, txid, table, key, change.row_left())?;
-    Ok(true)
-}
-
-/// A write of a worker's transaction: a row at a key, or the key's deletion.
-fn write(
-    rows: &mut RowDb,
-    txid: u64,
-    table: u32,
-    key: Key,
-    row: Option<Row>,
-) -> Result<(), NoMemory>
-    requires { MayWrite (seen rows.old) table txid }
-    ensures mark { OnOk result (seen rows.new ≡ after_part (seen rows.old) (work_write (seen rows.old) table txid (record { key = key; row = row }))) }
-    ensures err { OnErr result (seen rows.new ≡ seen rows.old) }
-{
-    rows.worker_write(txid, table, key, row)
+    let needs_row = change.needs_row();
+    rows.worker_write_if(txid, snapshot, table, key, change.row_left(), needs_row)
 }

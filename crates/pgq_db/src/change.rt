@@ -1,13 +1,15 @@
 //! The changes of rows that events record.
 
-ghost use Rattle.std.specs.Prelude.{◌≡◌, IfOk, option_and_then, option_copied};
+ghost use Rattle.std.specs.Prelude.{◌≡◌, List, Option, IfOk, is_some, is_none, if◌then◌else◌, option_and_then, option_copied};
+ghost use Rattle.sky_val.specs.declared.val.Val.{Val};
 ghost use Rattle.std.specs.Result.{result_ok};
-ghost use Rattle.sky_urlenc.specs.Changes.{op_of, change_of};
+ghost use Rattle.sky_urlenc.specs.Changes.{op_named, change_of};
 ghost use Rattle.sky_urlenc.specs.ReadRow.{read_row};
 ghost use Rattle.sky_model.specs.StepApply.{is_change, may_meet, row_left};
 
+use pgq_tables::Recorded;
 use sky_urlenc::{DecodeFault, decode_row};
-use sky_val::{Event, NoMemory, Op, Row, Schema, Text};
+use sky_val::{NoMemory, Op, Row, Schema, Text};
 use std::alloc::{AllocError, Global};
 use std::marker::Model;
 
@@ -31,27 +33,27 @@ impl Change {
     pub(crate) fn of(
         alloc: Global,
         schema: &Schema,
-        event: &Event,
+        event: &Recorded<'_>,
     ) -> Result<Option<Change>, NoMemory>
         ensures { IfOk result (λ change. change ≡ change_of schema.now event.now) }
     {
-        let Some(op) = op_in(&event.ev_type) else {
+        let Some(op) = op_in(event.ev_type) else {
             return Ok(None);
         };
-        let row = row_in(alloc, schema, &event.ev_data)?;
+        let row = row_in(alloc, schema, event.ev_data)?;
         match row {
             Some(row) => Ok(Some(Change { op, row })),
             None => Ok(None),
         }
     }
 
-    /// Whether it may be made where this row is, or none.
-    pub(crate) fn may_meet(&self, old: Option<&Row>) -> bool
-        ensures { result ≡ may_meet self.now.op (option_copied old.entry) }
+    /// Whether it may be made only where there is a row. If not, it may be made only where there is none.
+    pub(crate) fn needs_row(&self) -> bool
+        ensures { (old : Option (List Val)) → may_meet self.now.op old ≡ (if result then is_some old else is_none old) }
     {
         match self.op {
-            Op::Insert => old.is_none(),
-            Op::Update | Op::Delete => old.is_some(),
+            Op::Insert => false,
+            Op::Update | Op::Delete => true,
         }
     }
 
@@ -67,25 +69,25 @@ impl Change {
 }
 
 /// Whether an event records the change of a row, as its type says.
-pub(crate) fn is_change(event: &Event) -> bool
+pub(crate) fn is_change(event: &Recorded<'_>) -> bool
     ensures { result ≡ is_change event.now }
 {
-    op_in(&event.ev_type).is_some()
+    op_in(event.ev_type).is_some()
 }
 
 /// What was done to a row, as the type of an event says.
-fn op_in(ev_type: &Option<Text>) -> Option<Op>
-    ensures { result ≡ option_and_then op_of ev_type.now }
+fn op_in(ev_type: Option<&Text>) -> Option<Op>
+    ensures { result ≡ option_and_then op_named (option_copied ev_type.entry) }
 {
     match ev_type {
-        Some(name) => op_of(name.bytes()),
+        Some(name) => op_named(name.bytes()),
         None => None,
     }
 }
 
 /// What was done to a row, as the name of a type says.
-fn op_of(name: &[u8]) -> Option<Op>
-    ensures { result ≡ op_of name.now }
+fn op_named(name: &[u8]) -> Option<Op>
+    ensures { result ≡ op_named name.now }
 {
     if name.starts_with(b"I:") {
         Some(Op::Insert)
@@ -99,8 +101,8 @@ fn op_of(name: &[u8]) -> Option<Op>
 }
 
 /// The row of a table that the data of an event are, if they are one.
-fn row_in(alloc: Global, schema: &Schema, ev_data: &Option<Text>) -> Result<Option<Row>, NoMemory>
-    ensures { IfOk result (λ row. row ≡ option_and_then (λ text. result_ok (read_row schema.now text)) ev_data.now) }
+fn row_in(alloc: Global, schema: &Schema, ev_data: Option<&Text>) -> Result<Option<Row>, NoMemory>
+    ensures { IfOk result (λ row. row ≡ option_and_then (λ text. result_ok (read_row schema.now text)) (option_copied ev_data.entry)) }
 {
     match ev_data {
         Some(text) => row_of(alloc, schema, text.bytes()),

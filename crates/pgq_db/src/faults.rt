@@ -142,12 +142,16 @@ impl From<TransFault> for ApplyFault {
 /// Why a worker of a leaf makes no move. Nothing has changed then, unless memory ran out.
 #[derive(Clone, Copy, Debug, PartialEq, Eq, Error)]
 pub enum WorkerFault {
+    /// The consumer of its copies can't register.
     #[error("the provider's queue has as many consumers as it may")]
     TooManyConsumers,
-    #[error("the last subscription id was given")]
+    /// The provider has no id left for the batch or the subscription that the move needs.
+    #[error("the last id of a batch or a subscription was given")]
     IdsSpent,
+    /// The leaf's database has no id left for the transaction that the move needs.
     #[error("the last transaction id was given")]
     TxidsSpent,
+    /// Out of memory.
     #[error("out of memory")]
     NoMemory,
 }

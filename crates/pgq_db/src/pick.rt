@@ -7,8 +7,9 @@ ghost use Rattle.pgq_db.specs.Applying.{pick_of};
 
 use crate::change::is_change;
 use londiste_state::{Leaf, TableState};
+use pgq_tables::Recorded;
 use sky_txid::Snapshot;
-use sky_val::{Event, Text};
+use sky_val::Text;
 
 /// Which events of a batch a leaf picks, and whose tick is stored once they are applied.
 #[derive(Debug, Drop)]
@@ -21,7 +22,7 @@ pub enum Pick {
 
 impl Pick {
     /// Whether a leaf picks an event.
-    pub(crate) fn picks(&self, leaf: &Leaf, event: &Event) -> bool
+    pub(crate) fn picks(&self, leaf: &Leaf, event: &Recorded<'_>) -> bool
         ensures { result ≡ picks leaf.now (pick_of self.now) event.now }
     {
         match self {
@@ -36,10 +37,10 @@ impl Pick {
 }
 
 /// Whether an event is one of a table of the leaf that is in sync.
-fn is_of_synced(leaf: &Leaf, event: &Event) -> bool
+fn is_of_synced(leaf: &Leaf, event: &Recorded<'_>) -> bool
     ensures { result ≡ unwrap_or (option_map (has_synced leaf.now) event.now.ev_extra1) false }
 {
-    match &event.ev_extra1 {
+    match event.ev_extra1 {
         Some(name) => has_synced(leaf, name),
         None => false,
     }
@@ -56,10 +57,10 @@ fn has_synced(leaf: &Leaf, name: &Text) -> bool
 }
 
 /// Whether an event is one of the table of a name.
-fn is_of_table(table: &Text, event: &Event) -> bool
+fn is_of_table(table: &Text, event: &Recorded<'_>) -> bool
     ensures { result ≡ is_of_table table.now event.now }
 {
-    match &event.ev_extra1 {
+    match event.ev_extra1 {
         Some(name) => *table == *name,
         None => false,
     }

@@ -20,11 +20,14 @@ use sky_model::Limit;
 use sky_txid::Snapshot;
 use sky_val::{Event, NoMemory, Text};
 
-/// A batch of a leaf's consumer: its id, and the ids of its opening and closing tick.
+/// A batch of a leaf's consumer.
 #[derive(Clone, Copy, Debug, PartialEq, Eq)]
 pub struct NodeBatch {
+    /// Its id.
     pub id: u64,
+    /// The id of its opening tick.
     pub prev: u64,
+    /// The id of its closing tick.
     pub cur: u64,
 }
 

@@ -224,7 +224,7 @@ dropped-as v now names queues n place same gone empty count rise at low none bes
 
 -- one more trigger
 pub traced-as : (v now : QueuesView) (more : List TableTrigger) (tables : List (ℕ × TracedTableView)) (x : TableTrigger) → v ≡ now → more ≡ v.triggers ++ x ∷ []
-    → (beside : Beside) → seen_with beside (record v { triggers = more; traced = tables }) ≡ after_mark (seen_with beside now) (queued (traced x.table x.name x.trigger))
+    → (beside : Beside) → seen_with beside (record v { triggers = more; traced_tables = tables }) ≡ after_mark (seen_with beside now) (queued (traced x.table x.name x.trigger))
 traced-as v now more tables x same is beside =
     (λ i. record (seen_with beside v) { triggers = is i })
     ∙ ap (λ (w : QueuesView). after_mark (seen_with beside w) (queued (traced x.table x.name x.trigger))) same

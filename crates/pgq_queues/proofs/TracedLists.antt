@@ -190,20 +190,20 @@ traced-more queues triggers ts more x old new n place t was same is updates its 
 -- ---- that names and columns are kept of tables
 
 -- if what is kept of a table has changed, and only triggers of it may have been added, each other table is as it was
-tables-where : (v : QueuesView) (ts : List TableTrigger) (new : List (ℕ × TracedTableView)) (n : ℕ) (t : TracedTableView) → Updated v.traced new n (Some t)
+tables-where : (v : QueuesView) (ts : List TableTrigger) (new : List (ℕ × TracedTableView)) (n : ℕ) (t : TracedTableView) → Updated v.traced_tables new n (Some t)
     → ((m : ℕ) → (n == m) ≡ false → triggers_of m ts ≡ triggers_of m v.triggers) → (part : RowPart) → IsTable part n t.name t.columns → AreTables part v → (m : ℕ) → IsTraced part m ts (kept new m)
-tables-where v ts new n t updates same part here are m = subst (IsTraced part m ts) (sym (kept-updated v.traced new n (Some t) updates m)) (by (n == m) refl)
+tables-where v ts new n t updates same part here are m = subst (IsTraced part m ts) (sym (kept-updated v.traced_tables new n (Some t) updates m)) (by (n == m) refl)
   where
     other : (o : Option TracedTableView) → triggers_of m ts ≡ triggers_of m v.triggers → IsTraced part m v.triggers o → IsTraced part m ts o
     other None alike is = alike ∙ is
     other (Some x) alike is = is
 
-    by : (b : Bool) → (n == m) ≡ b → IsTraced part m ts (if b then Some t else kept v.traced m)
+    by : (b : Bool) → (n == m) ≡ b → IsTraced part m ts (if b then Some t else kept v.traced_tables m)
     by true e = let one : n ≡ m = grind (arith, nat_tests) in subst (λ k. IsTable part k t.name t.columns) one here
-    by false e = other (kept v.traced m) (same m e) (are m)
+    by false e = other (kept v.traced_tables m) (same m e) (are m)
 
 -- a table was added
-pub tables-new : (v now : QueuesView) (new : List (ℕ × TracedTableView)) (n : ℕ) (t : TracedTableView) (name : List ℕ) (columns : List Column) → v ≡ now → Updated v.traced new n (Some t)
+pub tables-new : (v now : QueuesView) (new : List (ℕ × TracedTableView)) (n : ℕ) (t : TracedTableView) (name : List ℕ) (columns : List Column) → v ≡ now → Updated v.traced_tables new n (Some t)
     → t.name ≡ name → t.columns ≡ columns → (part : RowPart) → IsTable part n name columns → AreTables part now → (m : ℕ) → IsTraced part m v.triggers (kept new m)
 tables-new v now new n t name columns same updates named of_columns part here are =
     tables-where v v.triggers new n t updates (λ m other. refl) part (here.0 ∙ ap Some (sym named), here.1 ∙ sym of_columns) (subst (AreTables part) (sym same) are)
@@ -213,7 +213,7 @@ table-there : (part : RowPart) (n : ℕ) (ts : List TableTrigger) (was : TracedT
 table-there part n ts was o at is = subst (IsTraced part n ts) (sym at) is
 
 pub tables-more : (v now : QueuesView) (more : List TableTrigger) (new : List (ℕ × TracedTableView)) (n : ℕ) (x : TableTrigger) (t was : TracedTableView) → v ≡ now → more ≡ v.triggers ++ x ∷ [] → x.table ≡ n
-    → Updated v.traced new n (Some t) → Some was ≡ kept v.traced n → t.name ≡ was.name → t.columns ≡ was.columns → (part : RowPart) → AreTables part now → (m : ℕ) → IsTraced part m more (kept new m)
+    → Updated v.traced_tables new n (Some t) → Some was ≡ kept v.traced_tables n → t.name ≡ was.name → t.columns ≡ was.columns → (part : RowPart) → AreTables part now → (m : ℕ) → IsTraced part m more (kept new m)
 tables-more v now more new n x t was same is its updates at named of_columns part are =
     tables-where v more new n t updates alike part (here.0 ∙ ap Some (sym named), here.1 ∙ sym of_columns) before
   where
@@ -221,7 +221,7 @@ tables-more v now more new n x t was same is its updates at named of_columns par
     before = subst (AreTables part) (sym same) are
 
     here : IsTable part n was.name was.columns
-    here = table-there part n v.triggers was (kept v.traced n) at (before n)
+    here = table-there part n v.triggers was (kept v.traced_tables n) at (before n)
 
     alike : (m : ℕ) → (n == m) ≡ false → triggers_of m more ≡ triggers_of m v.triggers
     alike m other =
@@ -233,29 +233,29 @@ tables-more v now more new n x t was same is its updates at named of_columns par
 -- ---- a table with its triggers
 
 -- the table that is found
-pub traced-found : (v now : QueuesView) (n : ℕ) (slice : List TableTrigger) (t : TracedTableView) (found : TracedView) → v ≡ now → slice ≡ v.triggers → Some t ≡ kept v.traced n
-    → found ≡ traced_by (triggers_at slice t.places) t → ((m : ℕ) → ArePlaced v.triggers m (places_of (kept v.traced m))) → Some found ≡ traced_at now n
+pub traced-found : (v now : QueuesView) (n : ℕ) (slice : List TableTrigger) (t : TracedTableView) (found : TracedView) → v ≡ now → slice ≡ v.triggers → Some t ≡ kept v.traced_tables n
+    → found ≡ traced_by (triggers_at slice t.places) t → ((m : ℕ) → ArePlaced v.triggers m (places_of (kept v.traced_tables m))) → Some found ≡ traced_at now n
 traced-found v now n slice t found same all at is placed =
     ap Some is
     ∙ ap (λ ts. Some (traced_by (triggers_at ts t.places) t)) all
-    ∙ ap (λ own. Some (traced_by own t)) (placed-own v.triggers n t.places (placed-at v.triggers v.traced n (Some t) at placed))
+    ∙ ap (λ own. Some (traced_by own t)) (placed-own v.triggers n t.places (placed-at v.triggers v.traced_tables n (Some t) at placed))
     ∙ ap (option_map (traced_by (triggers_of n v.triggers))) at
     ∙ ap (λ (w : QueuesView). traced_at w n) same
 
 -- the queues of its triggers are there
-pub found-within : (v now : QueuesView) (n : ℕ) (slice : List TableTrigger) (t : TracedTableView) (found : TracedView) → v ≡ now → slice ≡ v.triggers → Some t ≡ kept v.traced n
-    → found ≡ traced_by (triggers_at slice t.places) t → TracedWithin v.queues v.triggers v.traced → All (λ (x : TableTrigger). Stands now.queues x.trigger.queue) found.triggers
+pub found-within : (v now : QueuesView) (n : ℕ) (slice : List TableTrigger) (t : TracedTableView) (found : TracedView) → v ≡ now → slice ≡ v.triggers → Some t ≡ kept v.traced_tables n
+    → found ≡ traced_by (triggers_at slice t.places) t → TracedWithin v.queues v.triggers v.traced_tables → All (λ (x : TableTrigger). Stands now.queues x.trigger.queue) found.triggers
 found-within v now n slice t found same all at is within =
     subst (λ (w : QueuesView). All (λ (x : TableTrigger). Stands w.queues x.trigger.queue) found.triggers) same
     (subst (All (λ (x : TableTrigger). Stands v.queues x.trigger.queue)) (sym (ap TracedView.triggers is ∙ ap (λ ts. triggers_at ts t.places) all))
-    (at-queues v.queues v.triggers t.places within.stand (placed-within v.triggers n t.places (placed-at v.triggers v.traced n (Some t) at within.places))))
+    (at-queues v.queues v.triggers t.places within.stand (placed-within v.triggers n t.places (placed-at v.triggers v.traced_tables n (Some t) at within.places))))
 
 -- one of which nothing is kept has none
-pub none-found : (v now : QueuesView) (n : ℕ) (o : Option TracedTableView) → v ≡ now → o ≡ kept v.traced n → o ≡ None → ((m : ℕ) → ArePlaced v.triggers m (places_of (kept v.traced m)))
+pub none-found : (v now : QueuesView) (n : ℕ) (o : Option TracedTableView) → v ≡ now → o ≡ kept v.traced_tables n → o ≡ None → ((m : ℕ) → ArePlaced v.triggers m (places_of (kept v.traced_tables m)))
     → triggers_of n now.triggers ≡ []
 none-found v now n o same at none placed =
     ap (λ (w : QueuesView). triggers_of n w.triggers) (sym same)
-    ∙ sym (placed-own v.triggers n (places_of o) (placed-at v.triggers v.traced n o at placed)) ∙ ap (λ x. triggers_at v.triggers (places_of x)) none
+    ∙ sym (placed-own v.triggers n (places_of o) (placed-at v.triggers v.traced_tables n o at placed)) ∙ ap (λ x. triggers_at v.triggers (places_of x)) none
 
 pub if-none : {A : Type 0} → (o : Option A) (P : Type 0) → P → IfNone o P
 if-none None P is = is
@@ -401,9 +401,9 @@ traced-removed queues ts less place old new is lt moves within =
     })
 
 pub tables-removed : (v now : QueuesView) (less : List TableTrigger) (place : ℕ) (new : List (ℕ × TracedTableView)) → v ≡ now → less ≡ remove v.triggers place
-    → new ≡ map (λ e. (e.0, moved place e.1)) v.traced → (part : RowPart) → AreTables part now → (n : ℕ) → IsTraced part n less (kept new n)
+    → new ≡ map (λ e. (e.0, moved place e.1)) v.traced_tables → (part : RowPart) → AreTables part now → (n : ℕ) → IsTraced part n less (kept new n)
 tables-removed v now less place new same is moves part are n =
-    subst (λ ts. IsTraced part n ts (kept new n)) (sym is) (subst (IsTraced part n (remove v.triggers place)) (sym (kept-moved place v.traced new moves n)) (of (kept v.traced n) (before n)))
+    subst (λ ts. IsTraced part n ts (kept new n)) (sym is) (subst (IsTraced part n (remove v.triggers place)) (sym (kept-moved place v.traced_tables new moves n)) (of (kept v.traced_tables n) (before n)))
   where
     before : AreTables part v
     before = subst (AreTables part) (sym same) are
@@ -414,7 +414,7 @@ tables-removed v now less place new same is moves part are n =
 
 -- triggers of a set on a table are removed, one after another
 pub record Untracing (table : ℕ) (old new : QueuesView) : Type 0 where
-  pub rest : new ≡ record old { triggers = new.triggers; traced = new.traced }
+  pub rest : new ≡ record old { triggers = new.triggers; traced_tables = new.traced_tables }
   pub left : but_sets table new.triggers ≡ but_sets table old.triggers
   pub tables : (part : RowPart) → AreTables part old → AreTables part new
 
@@ -422,9 +422,9 @@ pub untracing-first : (table : ℕ) (v : QueuesView) → Untracing table v v
 untracing-first table v = record { rest = refl; left = refl; tables = λ part are. are }
 
 pub untracing-next : (table place : ℕ) (old cur next : QueuesView) → Some place ≡ position (is_sets table) cur.triggers → next.triggers ≡ remove cur.triggers place
-    → next ≡ record cur { triggers = next.triggers; traced = next.traced } → ((part : RowPart) → AreTables part cur → AreTables part next) → Untracing table old cur → Untracing table old next
+    → next ≡ record cur { triggers = next.triggers; traced_tables = next.traced_tables } → ((part : RowPart) → AreTables part cur → AreTables part next) → Untracing table old cur → Untracing table old next
 untracing-next table place old cur next found removed rest tables is = record {
-  rest = rest ∙ ap (λ (v : QueuesView). record v { triggers = next.triggers; traced = next.traced }) is.rest;
+  rest = rest ∙ ap (λ (v : QueuesView). record v { triggers = next.triggers; traced_tables = next.traced_tables }) is.rest;
   left = ap (but_sets table) removed ∙ sets-removed table place cur.triggers (sym found) ∙ is.left;
   tables = λ part are. tables part (is.tables part are);
 }

@@ -271,14 +271,14 @@ pub put-still : (v now : QueuesView) (i : ℕ) (e : Event) (old new : QueueView)
 put-still v now i e old new same stands lt at more = stand-shown v now (slice_set v.queues i new) same (put-stands v now i e old new same stands lt at more)
 
 abbrev pub AllWithin : QueuesView → Type 0
-AllWithin v = (HasMoment v.time × RetriedWithin v.rounds v.queues v.retries) × (AreNumbers v.names v.queues × (BatchesWithin v.last_batch_id v.queues v.batches × TracedWithin v.queues v.triggers v.traced))
+AllWithin v = (HasMoment v.time × RetriedWithin v.rounds v.queues v.retries) × (AreNumbers v.names v.queues × (BatchesWithin v.last_batch_id v.queues v.batches × TracedWithin v.queues v.triggers v.traced_tables))
 
 pub put-within : (v now : QueuesView) (i : ℕ) (e : Event) (old new : QueueView) → v ≡ now → Stands now.queues i → i < length v.queues → old ≡ get_or v.queues i old → HasMore e old new → RetriedAtMost now.rounds e
     → AllWithin v → AllWithin (record v { queues = slice_set v.queues i new })
 put-within v now i e old new same stands lt at more most within =
     let still = put-stands v now i e old new same stands lt at more in
     let bound = bound-set v.queues i old new lt at (more-events e old new (most-kept v now e same most) more) in
-    ((within.0.0, retried-still v.queues (slice_set v.queues i new) v.retries still bound within.0.1), within-still v.names v.queues (slice_set v.queues i new) v.batches v.triggers v.traced still within.1)
+    ((within.0.0, retried-still v.queues (slice_set v.queues i new) v.retries still bound within.0.1), within-still v.names v.queues (slice_set v.queues i new) v.batches v.triggers v.traced_tables still within.1)
 
 -- ---- triggers record a write
 

@@ -120,7 +120,7 @@ no_queues = record {
   queues = [];
   batches = [];
   triggers = [];
-  traced = [];
+  traced_tables = [];
   retries = [];
   rounds = 0;
 }

@@ -21,7 +21,7 @@ traced_by triggers t = record { name = t.name; columns = t.columns; triggers = t
 
 -- the table of a number with its triggers, if anything is kept of it
 abbrev pub traced_at : QueuesView → ℕ → Option TracedView
-traced_at q n = option_map (traced_by (triggers_of n q.triggers)) (kept q.traced n)
+traced_at q n = option_map (traced_by (triggers_of n q.triggers)) (kept q.traced_tables n)
 
 -- the places of a table's triggers, if the first of all is at this one
 abbrev pub places_from : (first table : ℕ) → List TableTrigger → List ℕ
@@ -53,7 +53,7 @@ pub record TracedWithin (queues : List QueueView) (triggers : List TableTrigger)
 pub record KeepsRest (old new : QueuesView) : Type 0 where
   pub time : new.time ≡ old.time
   pub triggers : new.triggers ≡ old.triggers
-  pub traced : new.traced ≡ old.traced
+  pub traced_tables : new.traced_tables ≡ old.traced_tables
   pub rounds : new.rounds ≡ old.rounds
 
 -- a table of a row part, by its name and its columns
@@ -67,4 +67,4 @@ IsTraced part n triggers (Some t) = IsTable part n t.name t.columns
 
 -- this holds of each table
 abbrev pub AreTables : RowPart → QueuesView → Type 0
-AreTables part q = (n : ℕ) → IsTraced part n q.triggers (kept q.traced n)
+AreTables part q = (n : ℕ) → IsTraced part n q.triggers (kept q.traced_tables n)

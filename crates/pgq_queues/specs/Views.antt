@@ -45,7 +45,7 @@ pub record QueuesView : Type 0 where
   -- the triggers, in the order of making
   pub triggers : List TableTrigger
   -- the tables with triggers, each under its number
-  pub traced : List (ℕ × TracedTableView)
+  pub traced_tables : List (ℕ × TracedTableView)
   -- the retries that wait, in the order of asking
   pub retries : List Retry
   -- how often retries came back: no event was retried more often

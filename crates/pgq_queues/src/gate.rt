@@ -36,7 +36,7 @@ impl WriteGate for Queues {
         old: Option<&Row>,
         new: Option<&Row>,
     ) -> Result<(), NoMemory> {
-        let Some(table) = self.traced.get(&table) else {
+        let Some(table) = self.traced_tables.get(&table) else {
             return Ok(());
         };
         let traced = Traced::new(self.triggers.as_slice(), table);

@@ -1,5 +1,5 @@
-ghost use Rattle.std.specs.Prelude.{◌≡◌, ℕ, ℤ, ◌+◌, ◌-◌, [], ◌<◌, ◌^◌, ◌∷◌, ◌++◌, Some, None, IfOk, IfErr, OnOk, OnErr, IfNone, IfSome, length, is_none, is_some, ◌↔◌, ◌≤◌, Ok, Err, find, ◌==◌, true, option_map, option_copied};
-ghost use Rattle.pgq_tables.specs.Tables.{full_event, new_tables, with_stored, with_pending};
+ghost use Rattle.std.specs.Prelude.{◌≡◌, ℕ, ℤ, ◌+◌, ◌-◌, [], ◌<◌, ◌^◌, ◌∷◌, ◌++◌, Some, None, IfOk, IfErr, OnOk, OnErr, IfNone, IfSome, length, is_none, is_some, ◌↔◌, ◌≤◌, Ok, Err, find, map, ◌==◌, true, option_map, option_copied};
+ghost use Rattle.pgq_tables.specs.Tables.{full_event, recorded_part, new_tables, with_stored, with_pending};
 ghost use Rattle.sky_model.specs.Config.{default_config, param_of};
 ghost use Rattle.pgq_tick.specs.Config.{set_to};
 ghost use Rattle.sky_model.specs.Queues.{newest_tick};
@@ -16,13 +16,13 @@ ghost use Rattle.pgq_queues.specs.EventRule.{telling};
 ghost use Rattle.pgq_queues.specs.Retried.{RetriedAtMost};
 ghost use Rattle.pgq_queues.specs.Rotated.{retabled, undone_in, settled_in, ended_in, switched_in};
 ghost use Rattle.pgq_queues.specs.Stored.{AllStored};
-ghost use Rattle.pgq_queues.specs.Looked.{most_between};
+ghost use Rattle.pgq_queues.specs.Looked.{most_between, AreLookedAtIn};
 ghost use Rattle.sky_model.specs.Telling.{told_event};
 ghost use Rattle.sky_urlenc.specs.RowEvents.{RowEvent};
 
 use crate::batch::Span;
 use pgq_sub::{OpenBatch, Sub, Subs};
-use pgq_tables::{EventTables, PlainEvent};
+use pgq_tables::{EventTables, Looked, PlainEvent, Recorded};
 use pgq_tick::{ConfigFault, QueueConfig, Tick, TickFault, Ticks};
 use sky_model::{Counts, QueueInfo};
 use sky_txid::Snapshot;
@@ -310,6 +310,43 @@ impl Queue {
                 cur.snapshot(),
                 span.sub,
             ),
+            _ => Ok(Vec::new(alloc)),
+        }
+    }
+
+    /// Looks at the events that a batch of this queue may have: at none if one of its ticks isn't kept.
+    pub(crate) fn look(&mut self, alloc: Global, span: Span) -> Result<Vec<Looked>, NoMemory>
+        ensures looked { IfOk result (λ looks. AreLookedAtIn (seen_queue self.old) (seen_span span) looks.items) }
+        ensures but { self.new ≡ record self.old { tables = record self.old.tables { reads = self.new.tables.reads } } }
+        ensures lower { OnOk result (self.new.tables.reads < 2 ^ 64 - 1 → length (selected_in (seen_queue self.old) (seen_span span)) + self.old.tables.reads ≤ self.new.tables.reads) }
+        ensures upper { OnOk result (self.new.tables.reads ≤ self.old.tables.reads + most_between (tick span.prev self.old.ticks) (tick span.cur self.old.ticks) self.old.tables.tables) }
+    {
+        let ticks = (self.ticks.get(span.prev), self.ticks.get(span.cur));
+        match ticks {
+            (Some(prev), Some(cur)) => {
+                pgq_batch::look(alloc, &mut self.tables, prev.snapshot(), cur.snapshot())
+            }
+            _ => Ok(Vec::new(alloc)),
+        }
+    }
+
+    /// What the events of a batch of this queue record, which were looked at.
+    pub(crate) fn recorded(
+        &self,
+        alloc: Global,
+        span: Span,
+        looks: Vec<Looked>,
+    ) -> Result<Vec<Recorded<'_>>, NoMemory>
+        requires { AreLookedAtIn (seen_queue self.now) (seen_span span) looks.items }
+        ensures { IfOk result (λ events. events.items ≡ map recorded_part (selected_in (seen_queue self.now) (seen_span span))) }
+    {
+        let ticks = (self.ticks.get(span.prev), self.ticks.get(span.cur));
+        match ticks {
+            (Some(prev), Some(cur)) => {
+                let (prev, cur) = (prev.snapshot(), cur.snapshot());
+                let found = pgq_batch::lend(alloc, &self.tables, looks, prev, cur, span.sub)?;
+                pgq_batch::recorded(alloc, &found)
+            }
             _ => Ok(Vec::new(alloc)),
         }
     }

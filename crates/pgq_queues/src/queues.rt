@@ -1,14 +1,14 @@
-ghost use Rattle.std.specs.Prelude.{◌≡◌, ℕ, ◌+◌, ◌-◌, ◌<◌, ◌^◌, [], ◌==◌, true, Some, None, is_ok, Ok, IfOk, IfErr, OnOk, OnErr, IfSome, IfNone, option_copied, option_map, length, is_some, ◌↔◌, ◌≤◌, Err, find, slice_index_or, false, bytes_eq};
+ghost use Rattle.std.specs.Prelude.{◌≡◌, ℕ, ◌+◌, ◌-◌, ◌<◌, ◌^◌, [], ◌==◌, true, Some, None, is_ok, Ok, IfOk, IfErr, OnOk, OnErr, IfSome, IfNone, option_copied, option_map, length, is_some, ◌↔◌, ◌≤◌, Err, find, map, slice_index_or, false, bytes_eq};
 ghost use Rattle.std.specs.List.{All, position, remove};
 ghost use Rattle.sky_model.specs.Config.{Config, param_of};
 ghost use Rattle.sky_model.specs.Consumers.{Subscription};
 ghost use Rattle.sky_model.specs.History.{queued, made, raised, put, ticked, registered, moved, unregistered, opened, closed, configured, dropped, traced, untraced};
-ghost use Rattle.pgq_tables.specs.Tables.{full_event};
+ghost use Rattle.pgq_tables.specs.Tables.{full_event, recorded_part};
 ghost use Rattle.pgq_tick.specs.Config.{set_to};
 ghost use Rattle.sky_model.specs.Moment.{HasMoment, IsTime};
 ghost use Rattle.sky_model.specs.Printed.{EventsHaveMoments};
 ghost use Rattle.sky_model.specs.Queues.{NamedQueue, queue_number, queue_name};
-ghost use Rattle.sky_model.specs.Selection.{selected};
+ghost use Rattle.sky_model.specs.Selection.{selected, selected_in};
 ghost use Rattle.sky_model.specs.ShownRows.{snapshot_now};
 ghost use Rattle.sky_model.specs.State.{RowPart, after_mark};
 ghost use Rattle.sky_model.specs.StepConsumer.{batch_info_of};
@@ -17,7 +17,7 @@ ghost use Rattle.sky_model.specs.StepTrigger.{has_trigger};
 ghost use Rattle.sky_model.specs.Triggers.{is_sets, triggers_of};
 ghost use Rattle.pgq_queues.specs.Seen.{kept, seen_with, seen_queue, seen_batch, seen_span, reads_at, unnamed, queues_of, queue_at, batch_of, batch_at, no_queues, Stands, Beside};
 ghost use Rattle.pgq_queues.specs.Batches.{StillStand, but_of};
-ghost use Rattle.pgq_queues.specs.Looked.{most_in};
+ghost use Rattle.pgq_queues.specs.Looked.{most_in, AreLookedAtIn};
 ghost use Rattle.pgq_sub.specs.declared.sub.OpenBatch.{OpenBatch};
 ghost use Rattle.pgq_sub.specs.Views.{seen_sub};
 ghost use Rattle.pgq_queues.specs.Traced.{traced_at, IsTable, AreTables, KeepsRest};
@@ -29,7 +29,7 @@ use crate::slots::Slots;
 use crate::traced::{TableTrigger, Traced, TracedTable};
 use pgq_retry::RetryQueue;
 use pgq_sub::{OpenBatch, Sub};
-use pgq_tables::PlainEvent;
+use pgq_tables::{Looked, PlainEvent, Recorded};
 use pgq_tick::{ConfigFault, TickFault};
 use sky_model::BatchInfo;
 use sky_names::Named;
@@ -55,7 +55,7 @@ pub struct Queues {
     // The triggers, in the order of making.
     pub(crate) triggers: Vec<TableTrigger>,
     // The tables with triggers, each under its number.
-    pub(crate) traced: BTreeMap<u32, TracedTable>,
+    pub(crate) traced_tables: BTreeMap<u32, TracedTable>,
     // The retries that wait.
     pub(crate) retries: RetryQueue,
     // How often retries came back: no event was retried more often.
@@ -80,13 +80,13 @@ impl Model for Queues {
       queues = q.slots;
       batches = q.batches.entries;
       triggers = q.triggers.items;
-      traced = q.traced.entries;
+      traced_tables = q.traced_tables.entries;
       retries = q.retries;
       rounds = q.rounds;
     } };
 
     ghost invariant = { λ q. (HasMoment q.time × RetriedWithin q.rounds q.slots q.retries)
-        × (AreNumbers q.names q.slots × (BatchesWithin q.last_batch_id q.slots q.batches.entries × TracedWithin q.slots q.triggers.items q.traced.entries)) };
+        × (AreNumbers q.names q.slots × (BatchesWithin q.last_batch_id q.slots q.batches.entries × TracedWithin q.slots q.triggers.items q.traced_tables.entries)) };
 }
 
 impl Queues {
@@ -103,7 +103,7 @@ impl Queues {
             slots: Slots::new(alloc),
             batches: BTreeMap::new(alloc),
             triggers: Vec::new(alloc),
-            traced: BTreeMap::new(alloc),
+            traced_tables: BTreeMap::new(alloc),
             retries: RetryQueue::new(alloc),
             rounds: 0,
         }
@@ -237,6 +237,30 @@ impl Queues {
         self.slots.get_mut(span.queue).select(alloc, span)
     }
 
+    /// Looks at the events that a batch may have, in its queue and in no other.
+    pub fn look(&mut self, span: Span) -> Result<Vec<Looked>, NoMemory>
+        requires { Stands self.old.queues span.queue }
+        ensures looked { IfOk result (λ looks. AreLookedAtIn (queue_at self.new span.queue) (seen_span span) looks.items) }
+        ensures same { (beside : Beside) → seen_with beside self.new ≡ seen_with beside self.old }
+        ensures stand { StillStand self.old.queues self.new.queues }
+        ensures rest { KeepsRest self.old self.new }
+        ensures others { (n : ℕ) → (span.queue == n) ≡ false → reads_at self.new.queues n ≡ reads_at self.old.queues n }
+        ensures lower { OnOk result (reads_at self.new.queues span.queue < 2 ^ 64 - 1 → length (selected_in (queue_at self.old span.queue) (seen_span span)) + reads_at self.old.queues span.queue ≤ reads_at self.new.queues span.queue) }
+        ensures upper { OnOk result (reads_at self.new.queues span.queue ≤ reads_at self.old.queues span.queue + most_in (queue_at self.old span.queue) (seen_span span)) }
+    {
+        let alloc = self.alloc;
+        self.slots.get_mut(span.queue).look(alloc, span)
+    }
+
+    /// What the events of a batch record, which were looked at; none if one of its ticks isn't kept.
+    pub fn recorded(&self, span: Span, looks: Vec<Looked>) -> Result<Vec<Recorded<'_>>, NoMemory>
+        requires stands { Stands self.now.queues span.queue }
+        requires looked { AreLookedAtIn (queue_at self.now span.queue) (seen_span span) looks.items }
+        ensures { (beside : Beside) → IfOk result (λ events. events.items ≡ map recorded_part (selected (seen_with beside self.now) (seen_span span))) }
+    {
+        self.queue(span.queue).recorded(self.alloc, span, looks)
+    }
+
     /// What is shown of a batch.
     pub fn batch_info(&self, batch: &Batch<'_>) -> Result<BatchInfo, NoMemory>
         requires { Stands self.now.queues batch.now.queue }
@@ -263,7 +287,7 @@ impl Queues {
         ensures within { IfSome result (λ t. All (λ x. Stands self.now.queues x.trigger.queue) t.triggers) }
         ensures none { IfNone result (triggers_of table self.now.triggers ≡ []) }
     {
-        let traced = self.traced.get(&table)?;
+        let traced = self.traced_tables.get(&table)?;
         Some(Traced::new(self.triggers.as_slice(), traced))
     }
 
@@ -532,11 +556,11 @@ impl Queues {
     fn remove_trigger(&mut self, place: usize)
         requires { place < length self.old.triggers }
         ensures triggers { self.new.triggers ≡ remove self.old.triggers place }
-        ensures rest { self.new ≡ record self.old { triggers = self.new.triggers; traced = self.new.traced } }
+        ensures rest { self.new ≡ record self.old { triggers = self.new.triggers; traced_tables = self.new.traced_tables } }
         ensures tables { (part : RowPart) → AreTables part self.old → AreTables part self.new }
     {
         self.triggers.remove(place);
-        self.traced.retain(|_, table| {
+        self.traced_tables.retain(|_, table| {
             table.close_gap(place);
             true
         });
@@ -546,21 +570,21 @@ impl Queues {
     fn keep_table(&mut self, name: &Text, schema: &Schema, number: u32) -> Result<(), NoMemory>
         ensures same { (beside : Beside) → seen_with beside self.new ≡ seen_with beside self.old }
         ensures stand { StillStand self.old.queues self.new.queues }
-        ensures kept { OnOk result (is_some (kept self.new.traced number) ≡ true) }
+        ensures kept { OnOk result (is_some (kept self.new.traced_tables number) ≡ true) }
         ensures tables { (part : RowPart) → IsTable part number name.now schema.now → AreTables part self.old → AreTables part self.new }
         ensures rounds { self.new.rounds ≡ self.old.rounds }
     {
-        if self.traced.contains_key(&number) {
+        if self.traced_tables.contains_key(&number) {
             return Ok(());
         }
         let table = TracedTable::new(self.alloc, name.copy(self.alloc)?, schema.copy(self.alloc)?);
-        self.traced.insert(number, table)?;
+        self.traced_tables.insert(number, table)?;
         Ok(())
     }
 
     /// Adds a trigger of a table that `keep_table` keeps.
     fn store_trigger(&mut self, trigger: TableTrigger) -> Result<(), NoMemory>
-        requires table { is_some (kept self.old.traced trigger.table) ≡ true }
+        requires table { is_some (kept self.old.traced_tables trigger.table) ≡ true }
         requires queue { Stands self.old.queues trigger.trigger.queue }
         ensures ok { OnOk result ((beside : Beside) → seen_with beside self.new
             ≡ after_mark (seen_with beside self.old) (queued (traced trigger.table trigger.name trigger.trigger))) }
@@ -570,7 +594,7 @@ impl Queues {
     {
         self.triggers.reserve(1)?;
         let place = self.triggers.len();
-        match self.traced.get_mut(&trigger.table) {
+        match self.traced_tables.get_mut(&trigger.table) {
             Some(table) => table.add(place)?,
             None => unreachable!(),
         }

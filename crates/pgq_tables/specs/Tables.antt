@@ -19,6 +19,22 @@ full_event e = record {
   ev_extra4 = None;
 }
 
+-- what of an event records a change of a row: the others are missing
+abbrev pub recorded_part : Event → Event
+recorded_part e = record {
+  ev_id = e.ev_id;
+  ev_time = pos 0;
+  ev_txid = e.ev_txid;
+  ev_owner = None;
+  ev_retry = None;
+  ev_type = e.ev_type;
+  ev_data = e.ev_data;
+  ev_extra1 = e.ev_extra1;
+  ev_extra2 = None;
+  ev_extra3 = None;
+  ev_extra4 = None;
+}
+
 -- an event as it is stored: it is dead once its transaction was rolled back
 pub record Stored : Type 0 where
   pub event : Event

@@ -7,6 +7,20 @@ pub record TablesView : Type 0 where
   pub tables : Tables
   pub reads : ℕ
 
+-- which events of a table, in order of transactions, were looked at and not lent yet
+pub record LookedView : Type 0 where
+  pub table : ℕ
+  pub first : ℕ
+  pub end : ℕ
+
+-- after one more was lent, if one is left
+abbrev pub one_lent : LookedView → LookedView
+one_lent l = if nat_lt l.first l.end then record l { first = l.first + 1 } else l
+
 -- a count of looks after one more: it stays at its last value
 abbrev pub one_more : ℕ → ℕ
 one_more reads = if nat_lt reads (2 ^ 64 - 1) then reads + 1 else reads
+
+-- or after so many more
+abbrev pub so_many_more : ℕ → ℕ → ℕ
+so_many_more many reads = if nat_lt (reads + many) (2 ^ 64 - 1) then reads + many else 2 ^ 64 - 1

@@ -1,12 +1,13 @@
-ghost use Rattle.std.specs.Prelude.{◌≡◌, ◌==◌, ◌<◌, ◌+◌, [], Some, None, true, IfOk, OnOk, OnErr, length, find, is_some, slice_get, slice_index_or};
+ghost use Rattle.std.specs.Prelude.{◌≡◌, ◌==◌, ◌<◌, ◌≤◌, ◌+◌, ◌-◌, [], Some, None, true, IfOk, IfSome, OnOk, OnErr, nat_lt, length, find, is_some, slice_get, slice_index_or};
 ghost use Rattle.std.specs.Borrow.{sem};
 ghost use Rattle.std.specs.Io.BufRead.{Rests};
 ghost use Rattle.std.specs.List.{list_any};
 ghost use Rattle.sky_val.specs.declared.event.Event.{Event};
 ghost use Rattle.pgq_tables.specs.Tables.{Tables, full_event, new_tables, with_stored, with_dead, with_pending, without_pending, with_switch, with_second_step, next_table, by_age};
 ghost use Rattle.pgq_tables.specs.Order.{by_txid};
-ghost use Rattle.pgq_tables.specs.Views.{TablesView, one_more};
+ghost use Rattle.pgq_tables.specs.Views.{TablesView, one_more, so_many_more, one_lent};
 
+use crate::looked::Looked;
 use crate::stored::{PlainEvent, Stored};
 use crate::table::Table;
 use sky_val::{Event, NoMemory};
@@ -221,6 +222,35 @@ impl EventTables {
     {
         self.reads = self.reads.saturating_add(1);
         self.tables[table].by_txid(index)
+    }
+
+    /// Counts the events of a table between two indexes, in order of transactions, as looked at.
+    pub fn look(&mut self, table: usize, first: usize, end: usize) -> Looked
+        requires table { table < length self.old.tables.lists }
+        requires end { end ≤ length (slice_index_or self.old.tables.lists table []) }
+        ensures looked { result ≡ record { table = table; first = first; end = end } }
+        ensures counted { self.new ≡ record self.old { reads = so_many_more (end - first) self.old.reads } }
+    {
+        let many = end.saturating_sub(first);
+        self.reads = self.reads.saturating_add(many as u64);
+        Looked { table, first, end }
+    }
+
+    /// The next of the events that were looked at and not lent yet, with its place in its table.
+    #[inline(always)]
+    pub fn next_looked(&self, looked: &mut Looked) -> Option<(usize, &Stored)>
+        requires table { looked.old.table < length self.now.tables.lists }
+        requires end { looked.old.end ≤ length (slice_index_or self.now.tables.lists looked.old.table []) }
+        ensures left { is_some result ≡ nat_lt looked.old.first looked.old.end }
+        ensures event { IfSome result (λ found. slice_get (by_txid (slice_index_or self.now.tables.lists looked.old.table [])) looked.old.first ≡ Some (found.0, found.1.now)) }
+        ensures lent { looked.new ≡ one_lent looked.old }
+    {
+        if looked.first >= looked.end {
+            return None;
+        }
+        let index = looked.first;
+        looked.first += 1;
+        Some(self.tables[looked.table].by_txid(index))
     }
 
     /// The first of these transactions that has an event in some table. No event is looked at.

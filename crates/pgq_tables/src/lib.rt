@@ -10,8 +10,12 @@
 
 mod event_tables;
 mod index;
+mod looked;
+mod recorded;
 mod stored;
 mod table;
 
 pub use event_tables::EventTables;
+pub use looked::Looked;
+pub use recorded::Recorded;
 pub use stored::{PlainEvent, Stored};

@@ -1,6 +1,7 @@
-ghost use Rattle.std.specs.Prelude.{◌≡◌, true, false, None, IfOk, if◌then◌else◌, Some, option_and_then};
-ghost use Rattle.pgq_tables.specs.Tables.{full_event};
+ghost use Rattle.std.specs.Prelude.{◌≡◌, true, false, None, IfOk, if◌then◌else◌, Some, option_and_then, option_copied};
+ghost use Rattle.pgq_tables.specs.Tables.{full_event, recorded_part};
 
+use crate::recorded::Recorded;
 use sky_val::{Event, NoMemory, Text, copy_option};
 use std::alloc::Global;
 use std::marker::Model;
@@ -115,6 +116,13 @@ fn text_or_empty(alloc: Global, text: Option<Text>) -> Result<(Text, bool), NoMe
         Some(text) => Ok((text, true)),
         None => Ok((Text::from_str(alloc, "")?, false)),
     }
+}
+
+/// A text, if there is one.
+fn text_if(has: bool, text: &Text) -> Option<&Text>
+    ensures { option_copied result ≡ (if has then Some text.now else None) }
+{
+    if has { Some(text) } else { None }
 }
 
 /// An equal text, if there is one.
@@ -249,6 +257,23 @@ impl Stored {
         ensures { self.new ≡ record self.old { dead = true } }
     {
         self.dead = true;
+    }
+
+    /// What of it records a change of a row.
+    pub fn recorded(&self) -> Recorded<'_>
+        ensures { result ≡ recorded_part self.now.event }
+    {
+        let ev_extra1 = match &self.rest {
+            Some(rest) => rest.ev_extra1.as_ref(),
+            None => None,
+        };
+        Recorded {
+            ev_id: self.ev_id,
+            ev_txid: self.ev_txid,
+            ev_type: text_if(self.has_type, &self.ev_type),
+            ev_data: text_if(self.has_data, &self.ev_data),
+            ev_extra1,
+        }
     }
 
     /// An equal event.

@@ -15,7 +15,7 @@ use Rattle.sky_model.proofs.Snapshots.{sees-snapshot}
 use Rattle.sky_model.proofs.SnapshotLaws.{legal_place}
 use Rattle.sky_model.proofs.RowSights.{Since, here, legal-since}
 use Rattle.sky_model.proofs.Cases.{by_test}
-use Rattle.sky_changes.specs.TableEvents.{is_of_table, table_events, unseen_events}
+use Rattle.sky_changes.specs.TableEvents.{changes_table, table_events, unseen_events}
 use Rattle.sky_changes.specs.Listing.{later_of}
 use Rattle.sky_changes.specs.LawsOfChanges.{Give, between, BatchesGiveRows, UnseenEventsGiveRows, UnseenEventsLeadOn}
 use Rattle.sky_changes.proofs.Places.{since-joined, either-since, length-since, same-length, from-below, to-below, committed-since, committed-ended, committed-then}
@@ -25,7 +25,7 @@ use Rattle.sky_changes.proofs.TickPlaces.{tick-since, ticks_are_in_order, by-id-
 
 -- an event of a table is for each subscription
 for-each : (name : List ℕ) (sub : ℕ) (e : Event) → is_event name e ≡ true → is_for sub e.ev_owner ≡ true
-for-each name sub e is = of e.ev_owner (and_parts (is_none e.ev_owner) (is_of_table name e) is).0
+for-each name sub e is = of e.ev_owner (and_parts (is_none e.ev_owner) (changes_table name e) is).0
   where
     of : (o : Option ℕ) → is_none o ≡ true → is_for sub o ≡ true
     of None none = refl

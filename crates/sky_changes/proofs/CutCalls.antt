@@ -49,7 +49,7 @@ use Rattle.sky_model.specs.StepRotation.{held_back, rotates_by_itself, lack_seco
 use Rattle.sky_model.specs.SessionMarks.{look_of, failure, entry_place, enters, failing}
 use Rattle.sky_model.specs.Daemon.{quietly, ticks_of, daemon_does, retries_of, moved_by, again_if, first_steps_of, second_step_of_all}
 use Rattle.sky_model.specs.StepSession.{commit}
-use Rattle.sky_model.specs.Telling.{events_in, told_of, with_told, tells}
+use Rattle.sky_model.specs.Telling.{events_of_write, told_of, with_told, tells}
 use Rattle.sky_model.specs.Reader.{shown_in, part_by_history, database_by_history, within_part}
 use Rattle.sky_model.specs.Settling.{Turn, turn_of, behind_marks, marked, and_then, ready, resumed, goes_on, settles, settling, with_settling}
 use Rattle.sky_model.specs.Calls.{row_form, form, making, statement}
@@ -114,7 +114,7 @@ record CutOn (strict : Bool) (h : History) : Type 0 where
 mark-cut : (strict : Bool) (h : History) → CutOn strict h → (now : ℤ) (mark : Mark) → RowMark strict mark
     → IfOk (told_of (database_of (mark ∷ h)) now mark) (λ events. CutOn strict (marked (mark ∷ h) events))
 mark-cut strict h c now (tabled (wrote (of_session who) t table key old new)) is =
-    of (told_of (database_of (write ∷ h)) now write) refl (told_by-events (database_of (write ∷ h)) now t (events_in (database_of (write ∷ h)) table old new))
+    of (told_of (database_of (write ∷ h)) now write) refl (told_by-events (database_of (write ∷ h)) now t (events_of_write (database_of (write ∷ h)) table old new))
   where
     write : Mark
     write = write_of who t table key old new

@@ -36,7 +36,7 @@ use Rattle.sky_model.proofs.StandingQueues.{beyond}
 use Rattle.sky_model.proofs.RowSights.{here, later}
 use Rattle.sky_model.proofs.Good.{same-session}
 use Rattle.sky_model.proofs.Cases.{by_test, by_same}
-use Rattle.sky_changes.specs.TableEvents.{is_name, is_of_table, table_events}
+use Rattle.sky_changes.specs.TableEvents.{is_name, changes_table, table_events}
 use Rattle.sky_changes.proofs.HeldValues.{AreHeld}
 use Rattle.sky_changes.proofs.HeldRows.{standing-held}
 use Rattle.sky_changes.proofs.RowMarks.{IsTableOf, Plain}
@@ -115,10 +115,10 @@ cut-columns n _ (roots {h = h} name queue t time cut bare) within = cut-columns 
 -- ---- events that aren't the table's
 
 -- a type that isn't reserved says nothing of rows
-not-of-rows : (name : List ℕ) (e : Event) → tells_of_rows e.ev_type ≡ false → is_of_table name e ≡ false
+not-of-rows : (name : List ℕ) (e : Event) → tells_of_rows e.ev_type ≡ false → changes_table name e ≡ false
 not-of-rows name e other = ap (λ b. b && is_name name e.ev_extra1) (of e.ev_type other)
   where
-    of : (o : Option (List ℕ)) → tells_of_rows o ≡ false → is_some (option_and_then change.op_of o) ≡ false
+    of : (o : Option (List ℕ)) → tells_of_rows o ≡ false → is_some (option_and_then change.op_named o) ≡ false
     of None none_said = refl
     of (Some []) none_said = refl
     of (Some (a ∷ [])) none_said = grind (arith, nat_tests)
@@ -315,7 +315,7 @@ module _ (n : ℕ) (name : List ℕ) (columns : List Column) (q : ℕ) where
       → is_event name (brought_by t retry.event) ≡ false
   back-owned {h = h} {retry = retry} t l (comes_back below _ u moment same back due) =
       let lower : h ≡ below = cc in
-      ap (λ o. is_none o && is_of_table name (brought_by t retry.event)) (owned below (subst Legal lower (legal-below_mark l)) retry back.waits)
+      ap (λ o. is_none o && changes_table name (brought_by t retry.event)) (owned below (subst Legal lower (legal-below_mark l)) retry back.waits)
 
   pub cut-tells : (h : History) → Cut h → Legal h → is_root (node h) ≡ true → queue_at h ≡ Some q → AtTable n name columns h → Told h
   cut-tells _ nothing l root set a = absurd (cc)

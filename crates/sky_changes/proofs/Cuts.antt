@@ -13,7 +13,7 @@ use Rattle.sky_model.specs.StepNode.{set_trigger}
 use Rattle.sky_model.specs.Retries.{brought_by}
 use Rattle.sky_model.specs.Rows.{table_names}
 use Rattle.sky_model.specs.LawsOfNodes.{is_one_of, triggers_into}
-use Rattle.sky_model.specs.Telling.{events_in, told_of}
+use Rattle.sky_model.specs.Telling.{events_of_write, told_of}
 use Rattle.sky_model.specs.Settling.{marked}
 use Rattle.sky_model.proofs.Legal.{queue_of_set}
 use Rattle.sky_model.proofs.NodeReadings.{same-node}
@@ -87,7 +87,7 @@ pub told-only : (h : History) (time : ℤ) (mark : Mark) (events : List Mark) �
 told-only h time mark events same = subst EventMarks same (told_of-events (database_of (mark ∷ h)) time mark)
   where
     told_of-events : (d : Database) (now : ℤ) (m : Mark) → EventMarks (told_of d now m)
-    told_of-events d now (tabled (wrote (of_session who) t table key old new)) = told_by-events d now t (events_in d table old new)
+    told_of-events d now (tabled (wrote (of_session who) t table key old new)) = told_by-events d now t (events_of_write d table old new)
     told_of-events d now _ = none
 
 pub cut-held : (h : History) → Cut h → is_leaf (node h) ≡ false → AllHeld h

@@ -11,7 +11,7 @@ use Rattle.sky_model.proofs.NodeReadings.{set-number, set-listed, set-unlisted}
 use Rattle.sky_model.proofs.SnapshotLaws.{legal_place}
 use Rattle.sky_model.proofs.RowSights.{Since, here, later}
 use Rattle.sky_model.proofs.Cases.{by_test}
-use Rattle.sky_changes.specs.Listing.{IsListed, takes_out}
+use Rattle.sky_changes.specs.Listing.{IsListed, is_unlisting}
 use Rattle.sky_changes.specs.LawsOfChanges.{TablesStayInSets}
 use Rattle.sky_changes.proofs.Places.{since-or, from-below, one-place}
 use Rattle.sky_changes.proofs.SetTriggers.{queue_at, KeepsSet, keeps-set, set-same}
@@ -28,10 +28,10 @@ among-but name other (x ∷ names) apart is =
     by_test (λ b. bytes_eq other x ≡ b → is_among name (if not b then x ∷ all_but other names else all_but other names) ≡ true) (bytes_eq other x)
     (λ _ same. among-but name other names apart (sym (ap (λ b. b || is_among name names) (ap (bytes_eq name) (sym (same_name other x same)) ∙ apart)) ∙ is)) (λ _ _. grind (arith, among-but name other names apart, is)) refl
 
-stays-mark : (h : History) → Legal h → (mark : Mark) → Fine h mark → (queue : ℕ) (name : List ℕ) → takes_out name mark ≡ false → IsListed h queue name → is_among name (set_tables (node (mark ∷ h))) ≡ true
+stays-mark : (h : History) → Legal h → (mark : Mark) → Fine h mark → (queue : ℕ) (name : List ℕ) → is_unlisting name mark ≡ false → IsListed h queue name → is_among name (set_tables (node (mark ∷ h))) ≡ true
 stays-mark h l (noded m) fine queue name out is = of m (fits-of fine) out
   where
-    of : (m : NodeMark) → NodeFits h m → takes_out name (noded m) ≡ false → is_among name (set_tables (after_node m (node h))) ≡ true
+    of : (m : NodeMark) → NodeFits h m → is_unlisting name (noded m) ≡ false → is_among name (set_tables (after_node m (node h))) ≡ true
     of (root_made n q) fits e = absurd (cc (sym is.among ∙ ap (λ x. is_among name (set_tables x)) fits.0))
     of (leaf_made n q t) fits e = absurd (cc (sym is.among ∙ ap (λ x. is_among name (set_tables x)) fits.0))
     of (listed table) fits e =
@@ -40,24 +40,24 @@ stays-mark h l (noded m) fine queue name out is = of m (fits-of fine) out
     of m fits e = ap (is_among name) (set-same m refl (node h)) ∙ is.among
 stays-mark h l _ fine queue name out is = is.among
 
-listed-next : (h : History) (mark : Mark) → Legal (mark ∷ h) → (queue : ℕ) (name : List ℕ) → takes_out name mark ≡ false → IsListed h queue name → IsListed (mark ∷ h) queue name
+listed-next : (h : History) (mark : Mark) → Legal (mark ∷ h) → (queue : ℕ) (name : List ℕ) → is_unlisting name mark ≡ false → IsListed h queue name → IsListed (mark ∷ h) queue name
 listed-next h mark l queue name out is =
     let at_h : queue_at h ≡ Some queue = sym (set-number (database_of h)) ∙ is.set in
     let keeps : KeepsSet h (mark ∷ h) = keeps-set (later here) l (root-of h queue at_h) in
     record { set = set-number (database_of (mark ∷ h)) ∙ keeps.queue ∙ at_h; among = stays-mark h (legal-below_mark l) mark (fine_mark l) queue name out is }
 
-stay : (above : List Mark) (p : History) → Legal (above ++ p) → (queue : ℕ) (name : List ℕ) → IsListed p queue name → All (λ mark. takes_out name mark ≡ false) above → IsListed (above ++ p) queue name
+stay : (above : List Mark) (p : History) → Legal (above ++ p) → (queue : ℕ) (name : List ℕ) → IsListed p queue name → All (λ mark. is_unlisting name mark ≡ false) above → IsListed (above ++ p) queue name
 stay [] p l queue name is none_out = is
 stay (mark ∷ above) p l queue name is none_out =
-    listed-next (above ++ p) mark l queue name (All-head (λ m. takes_out name m ≡ false) mark above none_out)
-    (stay above p (legal-below_mark l) queue name is (All-tail (λ m. takes_out name m ≡ false) mark above none_out))
+    listed-next (above ++ p) mark l queue name (All-head (λ m. is_unlisting name m ≡ false) mark above none_out)
+    (stay above p (legal-below_mark l) queue name is (All-tail (λ m. is_unlisting name m ≡ false) mark above none_out))
 
-stay-at : (above : List Mark) (p : History) → Legal (above ++ p) → (queue : ℕ) (name : List ℕ) → IsListed p queue name → All (λ mark. takes_out name mark ≡ false) above
+stay-at : (above : List Mark) (p : History) → Legal (above ++ p) → (queue : ℕ) (name : List ℕ) → IsListed p queue name → All (λ mark. is_unlisting name mark ≡ false) above
     → (x : History) → Since p x → Since x (above ++ p) → IsListed x queue name
 stay-at [] p l queue name is none_out x up down = subst (λ y. IsListed y queue name) (one-place up down) is
 stay-at (mark ∷ above) p l queue name is none_out x up down = elim (since-or x mark (above ++ p) down) [
   | inl same ↦ subst (λ y. IsListed y queue name) (sym same) (stay (mark ∷ above) p l queue name is none_out)
-  | inr lower ↦ stay-at above p (legal-below_mark l) queue name is (All-tail (λ m. takes_out name m ≡ false) mark above none_out) x up lower
+  | inr lower ↦ stay-at above p (legal-below_mark l) queue name is (All-tail (λ m. is_unlisting name m ≡ false) mark above none_out) x up lower
 ]
 
 pub tables_stay_in_sets : TablesStayInSets

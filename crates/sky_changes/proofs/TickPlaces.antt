@@ -14,7 +14,7 @@ use Rattle.sky_model.proofs.TickOrder.{is_made, is_made-tick, unmade_above, unma
 use Rattle.sky_model.proofs.SnapshotLaws.{legal_place}
 use Rattle.sky_model.proofs.RowSights.{Since, here, later}
 use Rattle.sky_model.proofs.Cases.{by_test, by_same}
-use Rattle.sky_changes.specs.TableEvents.{is_of_table, table_events}
+use Rattle.sky_changes.specs.TableEvents.{changes_table, table_events}
 use Rattle.sky_changes.specs.LawsOfChanges.{TicksAreInOrder}
 use Rattle.sky_changes.proofs.Places.{to-below}
 use Rattle.sky_changes.proofs.ToldEvents.{is_event}
@@ -142,7 +142,7 @@ table-ordered name q _ (next {h = h} l (puts who p e i id mine newest)) =
     (λ _. table-ordered name q h l)
 table-ordered name q _ (next {h = h} l (puts_back retry t back)) =
     let e : Event = brought_by t retry.event in
-    let isnt : is_event name e ≡ false = ap (λ o. is_none o && is_of_table name e) (owned h l retry back.waits) in
+    let isnt : is_event name e ≡ false = ap (λ o. is_none o && changes_table name e) (owned h l retry back.waits) in
     by_test (λ b. Ordered 0 (table_events name (if b then events q h ++ e ∷ [] else events q h))) (retry.queue == q)
     (λ _. subst (Ordered 0) (sym (filter-append (is_event name) (events q h) (e ∷ []) ∙ ap (λ b. table_events name (events q h) ++ (if b then e ∷ [] else [])) isnt ∙ append-nil (table_events name (events q h)))) (table-ordered name q h l))
     (λ _. table-ordered name q h l)

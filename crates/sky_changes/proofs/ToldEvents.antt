@@ -29,7 +29,7 @@ use Rattle.sky_model.specs.StepNode.{set_trigger}
 use Rattle.sky_model.specs.Settling.{marked}
 use Rattle.sky_model.specs.LawsOfWrites.{IsRowOf}
 use Rattle.sky_model.proofs.Cases.{by_test}
-use Rattle.sky_changes.specs.TableEvents.{is_of_table, table_events}
+use Rattle.sky_changes.specs.TableEvents.{changes_table, table_events}
 use Rattle.sky_changes.proofs.HeldValues.{AreHeld, holds-all}
 use Rattle.sky_changes.proofs.RowMarks.{IsTableOf}
 use Rattle.sky_changes.proofs.WriteLists.{Written}
@@ -38,10 +38,10 @@ use Rattle.sky_changes.proofs.WriteLists.{Written}
 
 -- whether an event is one of a table's
 abbrev pub is_event : List ℕ → Event → Bool
-is_event name e = is_none e.ev_owner && is_of_table name e
+is_event name e = is_none e.ev_owner && changes_table name e
 
 -- the type of an event says what was done
-pub op-read : (op : Op) (columns : List Column) → change.op_of (event_type op columns) ≡ Some op
+pub op-read : (op : Op) (columns : List Column) → change.op_named (event_type op columns) ≡ Some op
 op-read Insert columns = refl
 op-read Update columns = refl
 op-read Delete columns = refl
@@ -170,7 +170,7 @@ reads columns key row is fits held = ap result_ok (read_back columns row is.apar
 change-is : (columns : List Column) (op : Op) (row : List Val) (e : Event) → e.ev_type ≡ Some (event_type op columns) → e.ev_data ≡ Some (row_text columns row)
     → result_ok (read_row columns (row_text columns row)) ≡ Some row → change_of columns e ≡ Some (record { op = op; row = row })
 change-is columns op row e kind text back =
-    (λ i. option_and_then (λ name. option_and_then (λ o. option_and_then (λ body. option_and_then (λ r. Some (record { op = o; row = r })) (result_ok (read_row columns body))) (text i)) (change.op_of name)) (kind i))
+    (λ i. option_and_then (λ name. option_and_then (λ o. option_and_then (λ body. option_and_then (λ r. Some (record { op = o; row = r })) (result_ok (read_row columns body))) (text i)) (change.op_named name)) (kind i))
     ∙ ap (λ o. option_and_then (λ x. option_and_then (λ r. Some (record { op = x; row = r })) (result_ok (read_row columns (row_text columns row)))) o) (op-read op columns)
     ∙ ap (λ o. option_and_then (λ r. Some (record { op = op; row = r })) o) back
 

@@ -13,7 +13,7 @@ use Rattle.sky_model.specs.Queues.{events, ticks, tick, at_tick}
 use Rattle.sky_model.specs.Batches.{batch_events}
 use Rattle.sky_model.specs.HistoryPlaces.{IsPlace}
 use Rattle.sky_changes.specs.TableEvents.{table_events, unseen_events}
-use Rattle.sky_changes.specs.Listing.{IsBelow, later_of, IsListed, StaysListed, takes_out}
+use Rattle.sky_changes.specs.Listing.{IsBelow, later_of, IsListed, StaysListed, is_unlisting}
 
 -- events apply to some rows, one after another, and that gives these rows
 pub record Give (columns : List Column) (before : Entries (List Val)) (events : List Event) (after : Entries (List Val)) : Type 0 where
@@ -27,7 +27,7 @@ between p q events = filter (λ e. has_committed q e.ev_txid && not (has_committ
 -- a table that is in a set is in it at each later place, until a mark takes it out
 abbrev pub TablesStayInSets : Type 0
 TablesStayInSets = (later : List Mark) (p : History) → IsPlace (later ++ p) → (queue : ℕ) (name : List ℕ) → IsListed p queue name
-    → All (λ mark. takes_out name mark ≡ false) later → StaysListed p (later ++ p) queue name
+    → All (λ mark. is_unlisting name mark ≡ false) later → StaysListed p (later ++ p) queue name
 
 -- if a table stays in a set from one place to another, its events between them, in the order of storing, apply to its rows at the one and give those at
 -- the other

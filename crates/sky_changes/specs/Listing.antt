@@ -25,6 +25,6 @@ abbrev pub StaysListed : (p q : History) → ℕ → List ℕ → Type 0
 StaysListed p q queue name = (x : History) → IsBelow p x → IsBelow x q → IsListed x queue name
 
 -- whether a mark takes the table of a name out of the set
-abbrev pub takes_out : List ℕ → Mark → Bool
-takes_out name (noded (unlisted table)) = bytes_eq name table
-takes_out name _ = false
+abbrev pub is_unlisting : List ℕ → Mark → Bool
+is_unlisting name (noded (unlisted table)) = bytes_eq name table
+is_unlisting name _ = false

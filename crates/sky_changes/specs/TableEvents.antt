@@ -3,7 +3,7 @@ use Rattle.std.specs.Prelude.{ℕ, Bool, false, not, ◌&&◌, List, Option, Som
 use Rattle.std.specs.Option.{option_and_then}
 use Rattle.sky_val.specs.declared.event.Event.{Event}
 use Rattle.sky_txid.specs.Snapshot.{SnapshotView, sees}
-use Rattle.sky_urlenc.specs.Changes.{op_of}
+use Rattle.sky_urlenc.specs.Changes.{op_named}
 
 -- whether a text is a name
 abbrev pub is_name : List ℕ → Option (List ℕ) → Bool
@@ -11,12 +11,12 @@ is_name name None = false
 is_name name (Some text) = bytes_eq name text
 
 -- whether an event says what was done to a row of the table of a name
-abbrev pub is_of_table : List ℕ → Event → Bool
-is_of_table name e = is_some (option_and_then op_of e.ev_type) && is_name name e.ev_extra1
+abbrev pub changes_table : List ℕ → Event → Bool
+changes_table name e = is_some (option_and_then op_named e.ev_type) && is_name name e.ev_extra1
 
 -- the events of a table: those that aren't for one subscription alone
 abbrev pub table_events : List ℕ → List Event → List Event
-table_events name events = filter (λ e. is_none e.ev_owner && is_of_table name e) events
+table_events name events = filter (λ e. is_none e.ev_owner && changes_table name e) events
 
 -- events without those of transactions that a snapshot sees
 abbrev pub unseen_events : SnapshotView → List Event → List Event

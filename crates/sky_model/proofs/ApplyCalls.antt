@@ -12,7 +12,7 @@ use Rattle.sky_val.specs.declared.op.Op.{Op}
 use Rattle.sky_val.specs.declared.op.Op.TheVariants.{Insert, Update, Delete}
 use Rattle.sky_val.specs.Schemas.{row_fault, key_of}
 use Rattle.sky_urlenc.specs.ReadRow.{Checked as ReadChecked, read_row}
-use Rattle.sky_urlenc.specs.Changes.{op_of, Change, change_of}
+use Rattle.sky_urlenc.specs.Changes.{op_named, Change, change_of}
 use Rattle.sky_urlenc.proofs.Fitting.{row_fits}
 use Rattle.sky_names.specs.Places.{place_of}
 use Rattle.sky_names.proofs.PlaceLemmas.{place_of_within, same_name}
@@ -253,9 +253,9 @@ change-fits columns event change is = by_type event.ev_type is
     by_op None is = absurd (cc)
     by_op (Some op) is = by_text op event.ev_data is
 
-    by_type : (o : Option (List ℕ)) → option_and_then (λ name. option_and_then (λ op. text_change op event.ev_data) (op_of name)) o ≡ Some change → row_fault columns change.row ≡ None
+    by_type : (o : Option (List ℕ)) → option_and_then (λ name. option_and_then (λ op. text_change op event.ev_data) (op_named name)) o ≡ Some change → row_fault columns change.row ≡ None
     by_type None is = absurd (cc)
-    by_type (Some name) is = by_op (op_of name) is
+    by_type (Some name) is = by_op (op_named name) is
 
 -- what a change leaves under its key is a row that its table may have there
 left-fits : (columns : List Column) (op : Op) (row : List Val) → row_fault columns row ≡ None → IfSome (row_left op row) (IsRowOf columns (key_of columns row))

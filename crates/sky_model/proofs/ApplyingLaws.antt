@@ -486,7 +486,7 @@ bad_events_cant_be_applied calls events pick id may bad =
 
 -- ---- a batch whose events can be applied
 
-all-filter : (p : Event → Bool) (events : List Event) → All (λ e. p e ≡ true) (filter p events)
+pub all-filter : (p : Event → Bool) (events : List Event) → All (λ e. p e ≡ true) (filter p events)
 all-filter p [] = All-nil (λ e. p e ≡ true)
 all-filter p (e ∷ events) =
     by_test (λ b. p e ≡ b → All (λ e. p e ≡ true) (if b then e ∷ filter p events else filter p events)) (p e)

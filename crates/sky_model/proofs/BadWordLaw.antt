@@ -7,7 +7,7 @@ use Rattle.sky_model.specs.declared.stmt.Stmt.{Stmt}
 use Rattle.sky_model.specs.declared.line.Line.{Line}
 use Rattle.sky_model.specs.declared.line.Line.TheVariants.{Blank, Run}
 use Rattle.sky_model.specs.Words.{is_parting, quoted_after, with_first, pieces, words}
-use Rattle.sky_model.specs.Grammar.{GrammarRow, goes_on, reads, all_forms, named_form, statement_of, session_of, session_line, run_of, line_of_words, line_of}
+use Rattle.sky_model.specs.Grammar.{GrammarRow, reads_on, reads, all_forms, named_form, statement_of, session_of, session_line, run_of, line_of_words, line_of}
 use Rattle.sky_model.specs.LawsOfLines.{words_of, BeginsALine, IsLeastBadWord, BadWordIsLeast}
 use Rattle.sky_model.proofs.FirstWords.{has_first}
 use Rattle.sky_model.proofs.LeastBadWord.{Begins, bad_within, none_begins, some_begins}
@@ -33,7 +33,7 @@ run_of-Err session (Err n) k so = cc
 fault_in_statement : (w name : List ℕ) (ws : List (List ℕ)) (k : ℕ) → session_of w ≡ Some name → statement_of ws ≡ Err k → Fault w ws k
 fault_in_statement w name [] k session bad = session_alone name session refl (cc)
 fault_in_statement w name (f ∷ rest) k session bad =
-    elim (named_form f all_forms) as (λ rows. named_form f all_forms ≡ rows → goes_on rows 2 (λ l. reads l 3 rest) ≡ Err k → Fault w (f ∷ rest) k) [
+    elim (named_form f all_forms) as (λ rows. named_form f all_forms ≡ rows → reads_on rows 2 (λ l. reads l 3 rest) ≡ Err k → Fault w (f ∷ rest) k) [
       | [] ↦ λ is e. no_form name f rest session refl is (cc)
       | row ∷ rows ↦ λ is e.
           let within = bad_within (row ∷ rows) rest 3 k e in

@@ -7,7 +7,7 @@ use Rattle.sky_model.specs.History.{Mark, of_session, tabled, wrote, queued, put
 use Rattle.sky_model.specs.Queues.{events}
 use Rattle.sky_model.specs.State.{Database, database_of, after_marks}
 use Rattle.sky_model.specs.Outcome.{Checked}
-use Rattle.sky_model.specs.Telling.{events_in, told_event, event_marks, told_by, told_of}
+use Rattle.sky_model.specs.Telling.{events_of_write, told_event, event_marks, told_by, told_of}
 use Rattle.sky_model.specs.StepQueue.{next_event_id}
 use Rattle.sky_urlenc.specs.RowEvents.{RowEvent}
 use Rattle.std.proofs.lemmas.Result.{IfOk-at_ok}
@@ -34,7 +34,7 @@ not-both (tabled (wrote who t table key old new)) marks is plain = plain
 not-both _ marks is plain = absurd is
 
 told_of-events : (d : Database) (now : ℤ) (mark : Mark) → EventMarks (told_of d now mark)
-told_of-events d now (tabled (wrote (of_session who) t table key old new)) = told_by-events d now t (events_in d table old new)
+told_of-events d now (tabled (wrote (of_session who) t table key old new)) = told_by-events d now t (events_of_write d table old new)
 told_of-events d now _ = none
 
 -- nothing records anything but a write
@@ -63,7 +63,7 @@ told_by-unowned d now t (e ∷ es) =
     IfOk-at_ok _ is (told_by-unowned (after_marks d (event_marks e.queue (told_event id now t e))) now t es)))
 
 told_of-unowned : (d : Database) (now : ℤ) (mark : Mark) → IfOk (told_of d now mark) (EachMark is_unowned)
-told_of-unowned d now (tabled (wrote (of_session who) t table key old new)) = told_by-unowned d now t (events_in d table old new)
+told_of-unowned d now (tabled (wrote (of_session who) t table key old new)) = told_by-unowned d now t (events_of_write d table old new)
 told_of-unowned d now _ = tt
 
 -- what passes of each passes of one of them

@@ -23,19 +23,19 @@ use Rattle.sky_model.proofs.Cases.{by_test, by_same}
 
 -- ---- the table of a name
 
-abbrev found : List ℕ → List LeafTable → Option LeafTable
+abbrev pub found : List ℕ → List LeafTable → Option LeafTable
 found name ts = find (λ (t : LeafTable). bytes_eq name t.name) ts
 
-abbrev less : List ℕ → List LeafTable → List LeafTable
+abbrev pub less : List ℕ → List LeafTable → List LeafTable
 less name ts = filter (λ (t : LeafTable). not (bytes_eq name t.name)) ts
 
-found-named : (name : List ℕ) (ts : List LeafTable) (t : LeafTable) → found name ts ≡ Some t → bytes_eq name t.name ≡ true
+pub found-named : (name : List ℕ) (ts : List LeafTable) (t : LeafTable) → found name ts ≡ Some t → bytes_eq name t.name ≡ true
 found-named name [] t is = absurd (cc)
 found-named name (x ∷ ts) t is =
     by_test (λ b. bytes_eq name x.name ≡ b → (if b then Some x else found name ts) ≡ Some t → bytes_eq name t.name ≡ true) (bytes_eq name x.name)
     (λ _ here is. let same : x ≡ t = cc in ap (λ (y : LeafTable). bytes_eq name y.name) (sym same) ∙ here) (λ _ _ is. found-named name ts t is) refl is
 
-found-push : (name : List ℕ) (ts : List LeafTable) (t : LeafTable) → found name (ts ++ t ∷ []) ≡ option_or (found name ts) (if bytes_eq name t.name then Some t else None)
+pub found-push : (name : List ℕ) (ts : List LeafTable) (t : LeafTable) → found name (ts ++ t ∷ []) ≡ option_or (found name ts) (if bytes_eq name t.name then Some t else None)
 found-push name [] t = refl
 found-push name (x ∷ ts) t =
     by_test (λ b. (if b then Some x else found name (ts ++ t ∷ [])) ≡ option_or (if b then Some x else found name ts) (if bytes_eq name t.name then Some t else None)) (bytes_eq name x.name)
@@ -45,20 +45,20 @@ found-push name (x ∷ ts) t =
 pub apart : (name other x : List ℕ) → bytes_eq name other ≡ false → bytes_eq other x ≡ true → bytes_eq name x ≡ false
 apart name other x differ is = ap (bytes_eq name) (sym (same_name other x is)) ∙ differ
 
-found-less : (name other : List ℕ) (ts : List LeafTable) → bytes_eq name other ≡ false → found name (less other ts) ≡ found name ts
+pub found-less : (name other : List ℕ) (ts : List LeafTable) → bytes_eq name other ≡ false → found name (less other ts) ≡ found name ts
 found-less name other [] differ = refl
 found-less name other (x ∷ ts) differ =
     by_test (λ b. bytes_eq other x.name ≡ b → found name (if not b then x ∷ less other ts else less other ts) ≡ found name (x ∷ ts)) (bytes_eq other x.name)
     (λ _ its. found-less name other ts differ ∙ sym (ap (λ b. if b then Some x else found name ts) (apart name other x.name differ its)))
     (λ _ _. ap (λ o. if bytes_eq name x.name then Some x else o) (found-less name other ts differ)) refl
 
-found-gone : (name : List ℕ) (ts : List LeafTable) → found name (less name ts) ≡ None
+pub found-gone : (name : List ℕ) (ts : List LeafTable) → found name (less name ts) ≡ None
 found-gone name [] = refl
 found-gone name (x ∷ ts) =
     by_test (λ b. bytes_eq name x.name ≡ b → found name (if not b then x ∷ less name ts else less name ts) ≡ None) (bytes_eq name x.name) (λ _ _. found-gone name ts)
     (λ _ its. ap (λ b. if b then Some x else found name (less name ts)) its ∙ found-gone name ts) refl
 
-found-changed : (name other : List ℕ) (g : LeafTable → LeafTable) → ((t : LeafTable) → (g t).name ≡ t.name) → (ts : List LeafTable)
+pub found-changed : (name other : List ℕ) (g : LeafTable → LeafTable) → ((t : LeafTable) → (g t).name ≡ t.name) → (ts : List LeafTable)
     → found name (changed_in other g ts) ≡ option_map (λ t. if bytes_eq other t.name then g t else t) (found name ts)
 found-changed name other g names [] = refl
 found-changed name other g names (x ∷ ts) =
@@ -72,22 +72,22 @@ leaf_table name (Some (of_leaf l)) = table_of name l
 leaf_table name _ = None
 
 -- what a mark by which no table joins or leaves makes of it
-abbrev changed_by : NodeMark → LeafTable → LeafTable
+abbrev pub changed_by : NodeMark → LeafTable → LeafTable
 changed_by (state_set other state) t = if bytes_eq other t.name then in_state state t else t
 changed_by (copied other under tick) t = if bytes_eq other t.name then with_copy under tick t else t
 changed_by (applied (copy_of other) tick) t = if bytes_eq other t.name then with_tick tick t else t
 changed_by _ t = t
 
-map-same : (o : Option LeafTable) → o ≡ option_map (λ t. t) o
+pub map-same : (o : Option LeafTable) → o ≡ option_map (λ t. t) o
 map-same None = refl
 map-same (Some t) = refl
 
-table-root : (f : Root → Root) (name : List ℕ) (n : Option Node) → leaf_table name (option_map (at_root f) n) ≡ leaf_table name n
+pub table-root : (f : Root → Root) (name : List ℕ) (n : Option Node) → leaf_table name (option_map (at_root f) n) ≡ leaf_table name n
 table-root f name None = refl
 table-root f name (Some (of_root r)) = refl
 table-root f name (Some (of_leaf l)) = refl
 
-table-leaf : (f : Leaf → Leaf) (g : LeafTable → LeafTable) (name : List ℕ) → ((l : Leaf) → found name (f l).tables ≡ option_map g (found name l.tables)) → (n : Option Node)
+pub table-leaf : (f : Leaf → Leaf) (g : LeafTable → LeafTable) (name : List ℕ) → ((l : Leaf) → found name (f l).tables ≡ option_map g (found name l.tables)) → (n : Option Node)
     → leaf_table name (option_map (at_leaf f) n) ≡ option_map g (leaf_table name n)
 table-leaf f g name by None = refl
 table-leaf f g name by (Some (of_root r)) = refl
@@ -106,7 +106,7 @@ table-changed (hold_ended hold) e name n = map-same (leaf_table name n)
 table-changed _ e name n = absurd (cc)
 
 -- it has the name
-table-named : (name : List ℕ) (n : Option Node) (t : LeafTable) → leaf_table name n ≡ Some t → bytes_eq name t.name ≡ true
+pub table-named : (name : List ℕ) (n : Option Node) (t : LeafTable) → leaf_table name n ≡ Some t → bytes_eq name t.name ≡ true
 table-named name None t is = absurd (cc)
 table-named name (Some (of_root r)) t is = absurd (cc)
 table-named name (Some (of_leaf l)) t is = found-named name l.tables t is
@@ -232,7 +232,7 @@ copies-in-copy _ (next {h = h} {mark = mark} l fine) = in-copy-step h l mark fin
 -- ---- kept snapshots
 
 -- whether a state is one that a table has only once it has been copied
-abbrev is_past_copy : TableState → Bool
+abbrev pub is_past_copy : TableState → Bool
 is_past_copy Absent = false
 is_past_copy InCopy = false
 is_past_copy state = true
@@ -257,7 +257,7 @@ fresh-allowed (WannaSync tick) _ kept fresh may = absurd (cc)
 fresh-allowed (DoSync tick) _ kept fresh may = absurd (cc)
 fresh-allowed Synced _ kept fresh may = absurd (cc)
 
-may-allowed : (name : List ℕ) (state : TableState) (n : Option Node) (t : LeafTable) → leaf_table name n ≡ Some t → may_move name state n ≡ true → is_allowed t.state state ≡ true
+pub may-allowed : (name : List ℕ) (state : TableState) (n : Option Node) (t : LeafTable) → leaf_table name n ≡ Some t → may_move name state n ≡ true → is_allowed t.state state ≡ true
 may-allowed name state None t is may = absurd (cc)
 may-allowed name state (Some (of_root r)) t is may = absurd (cc)
 may-allowed name state (Some (of_leaf l)) t is may = ap (λ o. unwrap_or (option_map (λ (x : LeafTable). is_allowed x.state state) o) false) (sym is) ∙ may

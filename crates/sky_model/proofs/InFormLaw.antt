@@ -13,7 +13,7 @@ use Rattle.sky_model.specs.declared.line.Fixed.{Fixed}
 use Rattle.sky_model.specs.declared.line.Fixed.TheVariants as fixed
 use Rattle.sky_model.specs.Words.{words}
 use Rattle.sky_model.specs.Kinds.{Kind, Name, Column, Value, Set, Of, value, is_name}
-use Rattle.sky_model.specs.Grammar.{GrammarRow, stop, literal, one, either, many, text_of, all_forms, named_form, when, next, all_next, or_else, ended, all_ended, or_bad, goes_on, reads, statement_of, session_of, session_line, run_of, line_of_words, line_of}
+use Rattle.sky_model.specs.Grammar.{GrammarRow, stop, literal, one, either, many, text_of, all_forms, named_form, when, next, all_next, or_else, ended, all_ended, or_bad, reads_on, reads, statement_of, session_of, session_line, run_of, line_of_words, line_of}
 use Rattle.sky_model.specs.InForm.{IsOf, AreOf, IsInForm, IsLineInForm}
 use Rattle.sky_model.specs.LawsOfLines.{LinesAreInForm}
 use Rattle.sky_model.proofs.WholeWords.{whole, AllWhole, whole-last}
@@ -160,7 +160,7 @@ or_bad_ends n None ends = tt
 or_bad_ends n (Some stmt) ends = (tt, ends)
 
 goes_on_ends : (T : Type 0) (w : List ℕ) (rows : List GrammarRow) (n : ℕ) (read : List GrammarRow → Result Stmt ℕ) → ((rows : List GrammarRow) → EndBehind w rows → Reads T (read rows)) → EndBehind w rows
-    → Reads (IsWhole w × T) (goes_on rows n read)
+    → Reads (IsWhole w × T) (reads_on rows n read)
 goes_on_ends T w [] n read each ends = tt
 goes_on_ends T w (row ∷ rows) n read each ends = IfOk-weaker (read (row ∷ rows)) _ _ (λ stmt it. ((ends.0.0, it.0), it.1)) (each (row ∷ rows) ends)
 

@@ -14,7 +14,7 @@ use Rattle.sky_model.specs.Triggers.{TableTrigger, is_sets, triggers, triggers_o
 use Rattle.sky_model.specs.Queues.{NamedQueue, queues_made, queues, sequence}
 use Rattle.sky_model.specs.State.{RowPart, part_of, after_part, database_of, after_mark, after_marks}
 use Rattle.sky_model.specs.Outcome.{Outcome, Checked, ◌>>=◌, ◌>>◌, refused_if, does_marks}
-use Rattle.sky_model.specs.Telling.{write_in, events_in, told_event, event_marks, told_by, told_of, with_told, tells}
+use Rattle.sky_model.specs.Telling.{write_in, events_of_write, told_event, event_marks, told_by, told_of, with_told, tells}
 use Rattle.sky_model.specs.Reader.{part_by_history}
 use Rattle.sky_model.specs.Settling.{behind_marks, marked}
 use Rattle.sky_model.proofs.Legal.{Replaces, MayWait, IsAmong, IsQueue, Fine, begins, ends, begins_work, ends_work, begins_block, fails_block, ends_block, connects, disconnects, repeats_block, looks, makes_table, writes, begins_waiting, ends_waiting, raises, puts, drops, traces, Chain, done, more, Legal, next, legal-below_mark, CopiesRow, copies_row}
@@ -117,7 +117,7 @@ writer-owns (writes who t table key old new mine free stands) = mine
 
 told_of-well : (h : History) → Legal h → (now : ℤ) (mark : Mark) → Fine h mark → ToldWell (mark ∷ h) (told_of (database_of (mark ∷ h)) now mark)
 told_of-well h l now (tabled (wrote (of_session who) t table key old new)) fine =
-    told-well (tabled (wrote (of_session who) t table key old new) ∷ h) (next l fine) now who t (events_in (database_of (tabled (wrote (of_session who) t table key old new) ∷ h)) table old new) (writer-owns fine)
+    told-well (tabled (wrote (of_session who) t table key old new) ∷ h) (next l fine) now who t (events_of_write (database_of (tabled (wrote (of_session who) t table key old new) ∷ h)) table old new) (writer-owns fine)
     (events-queues (queues h) (write_in (database_of (tabled (wrote (of_session who) t table key old new) ∷ h)) table old new) (triggers_of table (triggers h)) (All-filter (λ t. t.table == table) (λ t. IsAmong t.trigger.queue (queues h)) (triggers h) (trigger-queues h l)))
 told_of-well h l now _ fine = (done, refl, refl)
 

@@ -8,7 +8,7 @@ use Rattle.sky_model.specs.declared.stmt.Stmt.{Stmt}
 use Rattle.sky_model.specs.declared.line.Fixed.{Fixed}
 use Rattle.sky_model.specs.declared.line.Fixed.TheVariants as fixed
 use Rattle.sky_model.specs.Kinds.{Kind, Name, Dotted, Number, OptText, Raw, Value, Column, Set, Ignore, Advance, Of, value}
-use Rattle.sky_model.specs.Grammar.{GrammarRow, stop, literal, one, either, many, text_of, next, all_next, ended, all_ended, or_else, or_bad, goes_on, reads}
+use Rattle.sky_model.specs.Grammar.{GrammarRow, stop, literal, one, either, many, text_of, next, all_next, ended, all_ended, or_else, or_bad, reads_on, reads}
 
 -- some line that the rows read begins with these words
 abbrev pub Begins : List GrammarRow → ℕ → List (List ℕ) → Type 0
@@ -28,7 +28,7 @@ bad_within rows [] n m bad =
     let here = or_bad-err n m (all_ended rows) bad in
     record { low = omega arith; high = omega arith }
 bad_within rows (w ∷ ws) n m bad =
-    elim (all_next rows w) as (λ left. goes_on left n (λ l. reads l (n + 1) ws) ≡ Err m → Within n m (w ∷ ws)) [
+    elim (all_next rows w) as (λ left. reads_on left n (λ l. reads l (n + 1) ws) ≡ Err m → Within n m (w ∷ ws)) [
       | [] ↦ λ e. let here : m ≡ n = cc in record { low = omega arith; high = omega arith }
       | row ∷ left ↦ λ e. let later = bad_within (row ∷ left) ws (n + 1) m e in record { low = omega arith; high = omega arith }
     ] bad
@@ -37,12 +37,12 @@ bad_within rows (w ∷ ws) n m bad =
 pub none_begins : (rows : List GrammarRow) (ws : List (List ℕ)) (n m j : ℕ) → m ≡ n + j → j < length ws → reads rows n ws ≡ Err m → Begins rows n (take (suc j) ws) → ⊥
 none_begins rows [] n m j at inside bad begins = absurd (omega arith)
 none_begins rows (w ∷ ws) n m zero at inside bad begins =
-    elim (all_next rows w) as (λ left. goes_on left n (λ l. reads l (n + 1) ws) ≡ Err m → goes_on left n (λ l. reads l (n + 1) begins.0) ≡ Ok begins.1 → ⊥) [
+    elim (all_next rows w) as (λ left. reads_on left n (λ l. reads l (n + 1) ws) ≡ Err m → reads_on left n (λ l. reads l (n + 1) begins.0) ≡ Ok begins.1 → ⊥) [
       | [] ↦ λ e good. cc
       | row ∷ left ↦ λ e good. let later = bad_within (row ∷ left) ws (n + 1) m e in absurd (omega arith)
     ] bad begins.2
 none_begins rows (w ∷ ws) n m (suc j) at inside bad begins =
-    elim (all_next rows w) as (λ left. goes_on left n (λ l. reads l (n + 1) ws) ≡ Err m → goes_on left n (λ l. reads l (n + 1) (take (suc j) ws ++ begins.0)) ≡ Ok begins.1 → ⊥) [
+    elim (all_next rows w) as (λ left. reads_on left n (λ l. reads l (n + 1) ws) ≡ Err m → reads_on left n (λ l. reads l (n + 1) (take (suc j) ws ++ begins.0)) ≡ Ok begins.1 → ⊥) [
       | [] ↦ λ e good. cc
       | row ∷ left ↦ λ e good. none_begins (row ∷ left) ws (n + 1) m j (omega arith) (omega arith) e (begins.0, begins.1, good)
     ] bad begins.2
@@ -76,7 +76,7 @@ or_else_assoc (Some stmt) b c = refl
 -- either of two rows reads what both together read
 reads-either : (a b : GrammarRow) (rows : List GrammarRow) (n : ℕ) (ws : List (List ℕ)) → reads (either a b ∷ rows) n ws ≡ reads (a ∷ b ∷ rows) n ws
 reads-either a b rows n [] = ap (or_bad n) (or_else_assoc (ended a) (ended b) (all_ended rows))
-reads-either a b rows n (w ∷ ws) = ap (λ left. goes_on left n (λ l. reads l (n + 1) ws)) (append_assoc (next a w) (next b w) (all_next rows w))
+reads-either a b rows n (w ∷ ws) = ap (λ left. reads_on left n (λ l. reads l (n + 1) ws)) (append_assoc (next a w) (next b w) (all_next rows w))
 
 -- any words of a kind are none, or one and then any
 reads-many : (k : Kind) (f : List (Of k) → GrammarRow) (rows : List GrammarRow) (n : ℕ) (ws : List (List ℕ))
@@ -101,7 +101,7 @@ some_begins row rows ws n m zero at bad = completes row rows n
 some_begins row rows [] n m (suc j) at bad =
     let here = or_bad-err n m (all_ended (row ∷ rows)) bad in absurd (omega arith)
 some_begins row rows (w ∷ ws) n m (suc j) at bad =
-    elim (all_next (row ∷ rows) w) as (λ left. goes_on left n (λ l. reads l (n + 1) ws) ≡ Err m → (more : List (List ℕ)) × (stmt : Stmt) × (goes_on left n (λ l. reads l (n + 1) (take j ws ++ more)) ≡ Ok stmt)) [
+    elim (all_next (row ∷ rows) w) as (λ left. reads_on left n (λ l. reads l (n + 1) ws) ≡ Err m → (more : List (List ℕ)) × (stmt : Stmt) × (reads_on left n (λ l. reads l (n + 1) (take j ws ++ more)) ≡ Ok stmt)) [
       | [] ↦ λ e. let here : m ≡ n = cc in absurd (omega arith)
       | r ∷ left ↦ λ e. some_begins r left ws (n + 1) m j (omega arith) e
     ] bad

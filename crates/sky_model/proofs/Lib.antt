@@ -25,7 +25,7 @@ pub mod LeastNumbers
 pub mod Legal
 pub mod QueueNumbers
 pub mod StandingQueues
-mod Members
+pub mod Members
 pub mod Unneeded
 pub mod Snapshots
 pub mod NodeReadings
@@ -79,7 +79,7 @@ pub mod Tripled
 pub mod PendingOwners
 pub mod PlainStatements
 pub mod SwitchingCalls
-mod OwnedPuts
+pub mod OwnedPuts
 pub mod PendingCalls
 pub mod PendingSwitches
 pub mod Periods

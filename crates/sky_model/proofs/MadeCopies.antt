@@ -158,11 +158,11 @@ read-fits d made s own table key = subst (λ (x : Database). IfSome (read s own 
 
 -- ---- the consumers of a queue
 
-all_but-fewer : (name : List ℕ) (names : List (List ℕ)) → length (all_but name names) ≤ length names
+pub all_but-fewer : (name : List ℕ) (names : List (List ℕ)) → length (all_but name names) ≤ length names
 all_but-fewer name [] = omega arith
 all_but-fewer name (n ∷ names) = grind (arith, all_but-fewer name names)
 
-few-consumers : (h : History) → Legal h → (q : ℕ) → length (consumers q h) ≤ 256
+pub few-consumers : (h : History) → Legal h → (q : ℕ) → length (consumers q h) ≤ 256
 few-consumers [] start q = omega arith
 few-consumers _ (next {h = h} l (registers p name sub tick i none f g low few)) q =
     by_same (λ b. length (if b then consumers q h ++ name ∷ [] else consumers q h) ≤ 256) p q (λ same. let now : length (consumers q h) < 256 = subst (λ k. length (consumers k h) < 256) same few in omega (arith, now, length-append (consumers q h) (name ∷ []))) (λ _. few-consumers h l q)
@@ -171,7 +171,7 @@ few-consumers (queued (unregistered p name sub) ∷ h) (next l fine) q =
 few-consumers (_ ∷ h) (next l fine) q = few-consumers h l q
 
 -- without one of them they are fewer
-all_but-less : (name : List ℕ) (names : List (List ℕ)) → list_any (λ n. bytes_eq name n) names ≡ true → length (all_but name names) < length names
+pub all_but-less : (name : List ℕ) (names : List (List ℕ)) → list_any (λ n. bytes_eq name n) names ≡ true → length (all_but name names) < length names
 all_but-less name [] is = absurd (cc)
 all_but-less name (n ∷ names) is =
     by_test (λ b. bytes_eq name n ≡ b → (b || list_any (λ n. bytes_eq name n) names) ≡ true → length (all_but name (n ∷ names)) < length (n ∷ names)) (bytes_eq name n)

@@ -123,7 +123,7 @@ roots_are_providers calls name table root =
     never-adds (past_of calls) (legal_past calls) n.database number table n.node (called-there w name n found)))))
 
 -- a table that leaves is one of the database
-among-are : (tables names : List (List ℕ)) (name : List ℕ) → AreTables tables names → is_among name names ≡ true → is_some (place_of name tables) ≡ true
+pub among-are : (tables names : List (List ℕ)) (name : List ℕ) → AreTables tables names → is_among name names ≡ true → is_some (place_of name tables) ≡ true
 among-are tables [] name are among = absurd (cc)
 among-are tables (x ∷ xs) name are among =
     by_test (λ b. bytes_eq name x ≡ b → (b || is_among name xs) ≡ true → is_some (place_of name tables) ≡ true) (bytes_eq name x)

@@ -30,7 +30,7 @@ Even (queued (put q e) ∷ h) = (e.ev_owner ≡ None) × Even h
 Even (queued (returned retry moment) ∷ queued (put q e) ∷ h) = Even h
 Even (_ ∷ h) = Even h
 
-abbrev is_unowned : Mark → Bool
+abbrev pub is_unowned : Mark → Bool
 is_unowned (queued (put q e)) = is_none e.ev_owner
 is_unowned _ = true
 
@@ -51,16 +51,16 @@ even-marks h (mark ∷ marks) each even =
     even-marks (mark ∷ h) marks (each-rest is_unowned mark marks each) (even-mark h mark (when-true (EachMark is_unowned marks) (is_unowned mark) each) even)
 
 -- what statements do that bring no retry back
-plain-unowned : (b : Block) (who : ℕ) (mark : Mark) → may_do b who mark ≡ true → is_unowned mark ≡ true
+pub plain-unowned : (b : Block) (who : ℕ) (mark : Mark) → may_do b who mark ≡ true → is_unowned mark ≡ true
 plain-unowned b who (queued (put q e)) is = is
 plain-unowned b who _ is = refl
 
-unowned-switch : (q t : ℕ) (now : ℤ) (who : ℕ) (b : Block) → EachMark is_unowned (switch_of q t now b ++ commit_of who t b)
+pub unowned-switch : (q t : ℕ) (now : ℤ) (who : ℕ) (b : Block) → EachMark is_unowned (switch_of q t now b ++ commit_of who t b)
 unowned-switch q t now who outside = tt
 unowned-switch q t now who inside = tt
 unowned-switch q t now who failed = tt
 
-unowned-switches : (d : Database) (now : ℤ) (t : ℕ) (qs : List NamedQueue) (marks : List Mark) → EachMark is_unowned marks → EachMark is_unowned (switches_by d now t qs ++ marks)
+pub unowned-switches : (d : Database) (now : ℤ) (t : ℕ) (qs : List NamedQueue) (marks : List Mark) → EachMark is_unowned marks → EachMark is_unowned (switches_by d now t qs ++ marks)
 unowned-switches d now t [] marks rest = rest
 unowned-switches d now t (q ∷ qs) marks rest =
     by_test (λ b. EachMark is_unowned ((if b then queued (switched q.number now) ∷ switches_by d now t qs else switches_by d now t qs) ++ marks)) (is_pending t (d.queue q.number).tables)

@@ -28,7 +28,7 @@ use Rattle.sky_model.specs.StepConsumer.{leaves as leaves_queue, opens_batch, ta
 use Rattle.pgq_retry.specs.declared.retry.Retry.{Retry}
 use Rattle.sky_model.specs.OwnTransaction.{next_id}
 use Rattle.sky_model.specs.StepRetry.{back, brings}
-use Rattle.sky_model.specs.Telling.{events_in, told_event, event_marks, told_by, told_of, with_told, tells}
+use Rattle.sky_model.specs.Telling.{events_of_write, told_event, event_marks, told_by, told_of, with_told, tells}
 use Rattle.sky_model.specs.Reader.{Shown}
 use Rattle.sky_model.specs.Calls.{row_form, form}
 use Rattle.std.proofs.lemmas.Bool.{and_parts}
@@ -194,7 +194,7 @@ module _ (who : ℕ) where
       ok-then (EachMark (may_do b who)) (told_by behind now t es) _ (λ rest is. IfOk-at_ok (EachMark (may_do b who)) is (does-told_by b behind now t es)))
 
   does-told_of : (b : Block) (d : Database) (now : ℤ) (mark : Mark) → IfOk (told_of d now mark) (EachMark (may_do b who))
-  does-told_of b d now (tabled (wrote (of_session v) t table key old new)) = does-told_by b d now t (events_in d table old new)
+  does-told_of b d now (tabled (wrote (of_session v) t table key old new)) = does-told_by b d now t (events_of_write d table old new)
   does-told_of b d now _ = tt
 
   does-with_told : (b : Block) (d : Database) (now : ℤ) (marks : List Mark) → EachMark (may_do b who) marks → IfOk (with_told d now marks) (EachMark (may_do b who))

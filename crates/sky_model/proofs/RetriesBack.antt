@@ -79,7 +79,7 @@ all-with_event P e (x ∷ xs) here rest =
     cond_both (nat_lt e.ev_id x.ev_id) (e ∷ x ∷ xs) (x ∷ with_event e xs) (All P) (λ _. All-cons P e (x ∷ xs) here rest)
     (λ _. All-cons P x (with_event e xs) (All-head P x xs rest) (all-with_event P e xs here (All-tail P x xs rest)))
 
-all-by_id_onto : (P : Event → Type 0) (sorted es : List Event) → All P sorted → All P es → All P (by_id_onto sorted es)
+pub all-by_id_onto : (P : Event → Type 0) (sorted es : List Event) → All P sorted → All P es → All P (by_id_onto sorted es)
 all-by_id_onto P sorted [] before all = before
 all-by_id_onto P sorted (e ∷ es) before all = all-by_id_onto P (with_event e sorted) es (all-with_event P e sorted (All-head P e es all) before) (All-tail P e es all)
 

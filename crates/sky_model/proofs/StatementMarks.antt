@@ -35,7 +35,7 @@ use Rattle.pgq_retry.specs.declared.retry.Retry.{Retry}
 use Rattle.pgq_retry.specs.Retries.{due_now}
 use Rattle.sky_model.specs.OwnTransaction.{next_id, txid_for}
 use Rattle.sky_model.specs.StepRetry.{back, brings, most_back}
-use Rattle.sky_model.specs.Telling.{events_in, told_event, event_marks, told_by, told_of, with_told, tells}
+use Rattle.sky_model.specs.Telling.{events_of_write, told_event, event_marks, told_by, told_of, with_told, tells}
 use Rattle.sky_model.specs.Printed.{ReplyHasMoments, HaveMoments}
 use Rattle.sky_model.specs.Made.{Making, takes_sight, looking, runs_if}
 use Rattle.sky_model.specs.Reader.{Shown, PartReader}
@@ -315,7 +315,7 @@ module _ (p : Mark → Bool) (of_queues : (mark : QueueMark) → is_common mark 
       (each-front p (queued (put e.queue (told_event id now t e))) rest (of_queues (put e.queue (told_event id now t e)) refl) (IfOk-at_ok (EachMark p) is (each-told_by behind now t es)))))
 
   each-told_of : (d : Database) (now : ℤ) (mark : Mark) → EachChecked p (told_of d now mark)
-  each-told_of d now (tabled (wrote (of_session who) t table key old new)) = each-told_by d now t (events_in d table old new)
+  each-told_of d now (tabled (wrote (of_session who) t table key old new)) = each-told_by d now t (events_of_write d table old new)
   each-told_of d now _ = tt
 
   each-with_told : (d : Database) (now : ℤ) (marks : List Mark) → EachMark p marks → EachChecked p (with_told d now marks)

@@ -10,7 +10,7 @@ use Rattle.sky_model.proofs.SnapshotLaws.{legal_place}
 use Rattle.sky_model.proofs.Cases.{by_test}
 
 -- the ids in use were given
-given : (h : History) → Legal h → (q : ℕ) (consumer : List ℕ) (sub : ℕ) → subscription_id q consumer h ≡ Some sub → sub ≤ last_subscription h
+pub given : (h : History) → Legal h → (q : ℕ) (consumer : List ℕ) (sub : ℕ) → subscription_id q consumer h ≡ Some sub → sub ≤ last_subscription h
 given [] start q consumer sub is = absurd (cc)
 given _ (next {h = h} l (registers p name s tick i none f g low few)) q consumer sub is =
     by_test (λ b. (if b then Some s else subscription_id q consumer h) ≡ Some sub → sub ≤ s) (p == q && bytes_eq consumer name)

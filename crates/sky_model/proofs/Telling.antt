@@ -14,7 +14,7 @@ use Rattle.sky_model.specs.ShownRows.{rows_by}
 use Rattle.sky_model.specs.Outcome.{Outcome, Checked, ◌>>=◌, ◌>>◌, refused_if, does_marks, abort, or_refused}
 use Rattle.sky_model.specs.Allowed.{where_of_row, allowed}
 use Rattle.sky_model.specs.Made.{takes_sight, looking, runs_if}
-use Rattle.sky_model.specs.Telling.{events_in, told_event, event_marks, told_by, told_of, with_told, tells}
+use Rattle.sky_model.specs.Telling.{events_of_write, told_event, event_marks, told_by, told_of, with_told, tells}
 use Rattle.sky_model.specs.Reader.{part_by_itself, database_by_itself, within_part}
 use Rattle.sky_model.specs.Gates.{Gate, takes, passed, takes_all, passed_all, gated, by_gate}
 use Rattle.sky_model.specs.Settling.{Turn, turn_of, behind_marks, and_then, ready, attempted, resumed, goes_on, settles, settling, with_settling}
@@ -118,7 +118,7 @@ module _ {G : Type 0} (gate : Gate G) (now : ℤ) (related : Database → RowPar
   told-mark (noded mark) marks rows d p g is = absurd rows
   told-mark (tabled (wrote (of_session who) t table key old new)) marks rows d p g is =
       of (takes gate g write) (told_of (after_mark d write) now write) refl (alike.room d p g who t table key old new is)
-      (told_by-events (after_mark d write) now t (events_in (after_mark d write) table old new))
+      (told_by-events (after_mark d write) now t (events_of_write (after_mark d write) table old new))
     where
       write : Mark
       write = tabled (wrote (of_session who) t table key old new)

@@ -14,7 +14,7 @@ use Rattle.sky_model.specs.Outcome.{Outcome, Checked, ◌>>=◌, does_marks, mar
 use Rattle.sky_model.specs.Allowed.{where_of, allowed}
 use Rattle.sky_model.specs.Made.{takes_sight, looking, runs_if}
 use Rattle.sky_model.specs.StepRows.{attempts}
-use Rattle.sky_model.specs.Telling.{events_in, told_of, with_told, tells}
+use Rattle.sky_model.specs.Telling.{events_of_write, told_of, with_told, tells}
 use Rattle.sky_model.specs.Reader.{shown_in, part_by_history, database_by_history, within_part}
 use Rattle.sky_model.specs.Settling.{Turn, turn_of, behind_marks, marked, and_then, ready, resumed, goes_on, settles, settling, with_settling}
 use Rattle.sky_model.specs.Calls.{row_form, form, making, statement, turn}
@@ -100,7 +100,7 @@ MarkTold h x = IfOk x (λ marks. AllTold (marked h marks))
 
 mark-told : (h : History) → AllTold h → (now : ℤ) (mark : Mark) → MarkTold (mark ∷ h) (told_of (database_of (mark ∷ h)) now mark)
 mark-told h told now (tabled (wrote (of_session who) t table key old new)) =
-    of (told_of (database_of (write ∷ h)) now write) refl (told_by-events (database_of (write ∷ h)) now t (events_in (database_of (write ∷ h)) table old new))
+    of (told_of (database_of (write ∷ h)) now write) refl (told_by-events (database_of (write ∷ h)) now t (events_of_write (database_of (write ∷ h)) table old new))
   where
     write : Mark
     write = tabled (wrote (of_session who) t table key old new)

@@ -107,18 +107,18 @@ continues p table hand None = only_prints (AwaitsTable table) hand
 continues p table hand (Some x) = Ok (next_piece p table x.1 x.0)
 
 -- a copy begins, unless one of the table runs, by this transaction: then it goes on
-abbrev pub goes_on : (p r : Database) → List ℕ → Option CopyHand → (running : Option ℕ) → Checked (Move CopyHand)
-goes_on p r table hand None = starts_copy p r table
-goes_on p r table hand (Some t) = continues p table hand (under_way p hand)
+abbrev pub starts_or_continues : (p r : Database) → List ℕ → Option CopyHand → (running : Option ℕ) → Checked (Move CopyHand)
+starts_or_continues p r table hand None = starts_copy p r table
+starts_or_continues p r table hand (Some t) = continues p table hand (under_way p hand)
 
 -- the worker of a table's copy, as one that goes through batches
 abbrev pub copier : Option Node → LeafTable → Follower
 copier n t = record { consumer = copy_consumer n; tick = t.tick; pick = copy_of t.name }
 
 -- what is done with the batch in hand, or else by itself
-abbrev pub with_batch : (p r : Database) → LeafTable → Option BatchHand → Checked (Move BatchHand) → Checked (Move BatchHand)
-with_batch p r t (Some batch) other = goes_through p r (copier r.node t) batch
-with_batch p r t None other = other
+abbrev pub goes_through_or : (p r : Database) → LeafTable → Option BatchHand → Checked (Move BatchHand) → Checked (Move BatchHand)
+goes_through_or p r t (Some batch) other = goes_through p r (copier r.node t) batch
+goes_through_or p r t None other = other
 
 -- whether a snapshot sees each transaction that another sees
 abbrev pub covers : (a b : SnapshotView) → Bool
@@ -128,7 +128,7 @@ covers a b = list_all (λ t. not (sees b t) || sees a t) (range_with_len 0 b.xma
 abbrev pub has_caught_up : Database → LeafTable → Bool
 has_caught_up p t = unwrap_or (option_map (λ at. unwrap_or (option_map (covers at) t.snapshot) false) (snapshot_of_tick p t.tick)) false
 
--- a table that has caught up waits until the leaf has come to its tick; until then its copy goes through batches
+-- a table that has caught up waits until the leaf has come to its tick; until it has caught up, its copy goes through batches
 abbrev pub catches_up : (p r : Database) → LeafTable → Checked (Move BatchHand)
 catches_up p r t = if has_caught_up p t then moves_to (WannaSync t.tick) t.name else takes_next p (copier r.node t)
 
@@ -148,9 +148,9 @@ if_copied t hand move = if is_some t.snapshot then handing of_batch move else on
 
 -- what the worker does with a table in a state
 abbrev pub moves_in : TableState → (p r : Database) → LeafTable → Option Hand → Checked (Move Hand)
-moves_in InCopy p r t hand = handing of_copy (goes_on p r t.name (copy_in hand) (copy_running r t.name))
-moves_in CatchingUp p r t hand = if_copied t hand (with_batch p r t (batch_in hand) (catches_up p r t))
-moves_in (DoSync tick) p r t hand = if_copied t hand (with_batch p r t (batch_in hand) (hands_over p r tick t))
+moves_in InCopy p r t hand = handing of_copy (starts_or_continues p r t.name (copy_in hand) (copy_running r t.name))
+moves_in CatchingUp p r t hand = if_copied t hand (goes_through_or p r t (batch_in hand) (catches_up p r t))
+moves_in (DoSync tick) p r t hand = if_copied t hand (goes_through_or p r t (batch_in hand) (hands_over p r tick t))
 moves_in Synced p r t hand = only_prints Idle hand
 moves_in state p r t hand = only_prints (AwaitsTable t.name) hand
 

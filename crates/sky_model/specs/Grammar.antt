@@ -199,19 +199,19 @@ or_bad n None = Err n
 or_bad n (Some stmt) = Ok stmt
 
 -- word n is bad if no row is left
-abbrev pub goes_on : List GrammarRow → ℕ → (List GrammarRow → Result Stmt ℕ) → Result Stmt ℕ
-goes_on [] n read = Err n
-goes_on (row ∷ rows) n read = read (row ∷ rows)
+abbrev pub reads_on : List GrammarRow → ℕ → (List GrammarRow → Result Stmt ℕ) → Result Stmt ℕ
+reads_on [] n read = Err n
+reads_on (row ∷ rows) n read = read (row ∷ rows)
 
 -- the statement of words from the nth on, or the number of the first word with which no row continues
 abbrev pub reads : List GrammarRow → ℕ → List (List ℕ) → Result Stmt ℕ
 reads rows n [] = or_bad n (all_ended rows)
-reads rows n (w ∷ ws) = goes_on (all_next rows w) n (λ left. reads left (n + 1) ws)
+reads rows n (w ∷ ws) = reads_on (all_next rows w) n (λ left. reads left (n + 1) ws)
 
 -- the statement of a line's words from the second on
 abbrev pub statement_of : List (List ℕ) → Result Stmt ℕ
 statement_of [] = Err 2
-statement_of (w ∷ ws) = goes_on (named_form w all_forms) 2 (λ rows. reads rows 3 ws)
+statement_of (w ∷ ws) = reads_on (named_form w all_forms) 2 (λ rows. reads rows 3 ws)
 
 -- the session's name in a line's first word, which is the name and a colon
 abbrev pub session_of : List ℕ → Option (List ℕ)

@@ -52,8 +52,8 @@ for_table table move other = unwrap_or (option_map move table) other
 
 -- what is done with nothing in hand: a table that is being handed over is waited for; one that the leaf has come up to is handed over, at the leaf's
 -- tick; the next copy is begun; or the next batch is taken
-abbrev pub goes_on : Database → Leaf → Checked (Move BatchHand)
-goes_on p l =
+abbrev pub empty_handed_move : Database → Leaf → Checked (Move BatchHand)
+empty_handed_move p l =
     for_table (first_in is_handed_over l) (λ table. only_prints (AwaitsTable table) None)
     (for_table (first_in (is_met l.tick) l) (moves_to (DoSync l.tick))
     (for_table (next_to_copy l) (moves_to InCopy)
@@ -62,4 +62,4 @@ goes_on p l =
 -- one move of the worker
 abbrev pub replay_move : (p r : Database) → Leaf → Option BatchHand → Checked (Move BatchHand)
 replay_move p r l (Some batch) = goes_through p r (replayer l) batch
-replay_move p r l None = goes_on p l
+replay_move p r l None = empty_handed_move p l

@@ -14,8 +14,8 @@ abbrev pub write_in : Database → ℕ → (old new : Option (List Val)) → Wri
 write_in d table old new = record { table = unwrap_or (slice_get d.part.tables table) []; columns = d.part.columns table; old = old; new = new }
 
 -- the events that record it
-abbrev pub events_in : Database → ℕ → (old new : Option (List Val)) → List RowEvent
-events_in d table old new = events_of (write_in d table old new) (map TableTrigger.trigger (triggers_of table d.triggers))
+abbrev pub events_of_write : Database → ℕ → (old new : Option (List Val)) → List RowEvent
+events_of_write d table old new = events_of (write_in d table old new) (map TableTrigger.trigger (triggers_of table d.triggers))
 
 -- such an event with its id, at this time, of this transaction
 abbrev pub told_event : ℕ → ℤ → ℕ → RowEvent → Event
@@ -47,7 +47,7 @@ told_by d now t (e ∷ es) = do
 
 -- what records a mark: for a session's write, its events
 abbrev pub told_of : Database → ℤ → Mark → Checked (List Mark)
-told_of d now (tabled (wrote (of_session who) t table key old new)) = told_by d now t (events_in d table old new)
+told_of d now (tabled (wrote (of_session who) t table key old new)) = told_by d now t (events_of_write d table old new)
 told_of d now _ = Ok []
 
 -- marks, each followed by what records it

@@ -10,7 +10,7 @@ use Rattle.sky_model.specs.Nodes.{node}
 use Rattle.sky_model.specs.State.{Database, database_of}
 use Rattle.sky_model.specs.Hands.{CopyHand, Hand, of_copy, copy_in}
 use Rattle.sky_model.specs.WorkerMoves.{handing}
-use Rattle.sky_model.specs.CopyMoves.{newest_of, held_snapshot, next_piece, copy_running, under_way, continues, goes_on, table_at, copy_move}
+use Rattle.sky_model.specs.CopyMoves.{newest_of, held_snapshot, next_piece, copy_running, under_way, continues, starts_or_continues, table_at, copy_move}
 use Rattle.sky_model.specs.NodesOfWorld.{Located, node_called}
 use Rattle.sky_model.specs.World.{world_of, history_in, hands, nodes}
 use Rattle.sky_model.specs.Calls.{past_of}
@@ -96,7 +96,7 @@ module _ (past : Past) (d : ℕ) (leaf : Leaf) (provider : Located) (name : List
   abbrev hand : Option Hand
   hand = hands past d name
 
-  to-copy : copy_move p r name hand ≡ handing of_copy (goes_on p r name (copy_in hand) (copy_running r name))
+  to-copy : copy_move p r name hand ≡ handing of_copy (starts_or_continues p r name (copy_in hand) (copy_running r name))
   to-copy = copies-in p r name hand (ap (λ n. option_map LeafTable.state (table_at name n)) is_leaf ∙ state)
 
   -- its snapshot is held by the provider's database
@@ -111,11 +111,11 @@ module _ (past : Past) (d : ℕ) (leaf : Leaf) (provider : Located) (name : List
       let c : Copying past d name x = k.copying d name x refl is in
       let runs : copy_running r name ≡ Some c.t = ap (option_and_then (λ n. copy_txid n (copies h))) c.here.named ∙ copy-found h (legal d) c.table c.t c.here.runs in
       to-copy
-      ∙ ap (handing of_copy) (ap (goes_on p r name (copy_in hand)) runs ∙ ap (λ o. continues p name (copy_in hand) (under_way p o)) is ∙ ap (λ o. continues p name (copy_in hand) (option_map (λ (y : SnapshotView). (x, y)) o)) holds)
+      ∙ ap (handing of_copy) (ap (starts_or_continues p r name (copy_in hand)) runs ∙ ap (λ o. continues p name (copy_in hand) (under_way p o)) is ∙ ap (λ o. continues p name (copy_in hand) (option_map (λ (y : SnapshotView). (x, y)) o)) holds)
 
   goes-on : GoesOn p r name hand
   goes-on = record {
-    begins = λ nothing. to-copy ∙ ap (λ o. handing of_copy (goes_on p r name (copy_in hand) o)) (uncopied-idle h name (idle-hand past d name k nothing));
+    begins = λ nothing. to-copy ∙ ap (λ o. handing of_copy (starts_or_continues p r name (copy_in hand) o)) (uncopied-idle h name (idle-hand past d name k nothing));
     goes_on = λ x is.
         let c : Copying past d name x = k.copying d name x refl is in
         subst (λ o. IfSome o (λ s. copy_move p r name hand ≡ handing of_copy (Ok (next_piece p name s x)))) (sym (held x c)) (moves x is (snapshot (history_in c.before c.p)) (held x c));

@@ -27,7 +27,7 @@ use Rattle.sky_model.specs.Nodes.{node}
 use Rattle.sky_model.specs.State.{database_of}
 use Rattle.sky_model.specs.Outcome.{◌>>=◌, ◌>>◌, refused_if, found_or}
 use Rattle.sky_model.specs.StepNode.{letting_go, giving_up_copy, may_copy}
-use Rattle.sky_model.specs.CopyMoves.{copy_running, goes_on, lets_go_for}
+use Rattle.sky_model.specs.CopyMoves.{copy_running, starts_or_continues, lets_go_for}
 use Rattle.sky_model.specs.NodesOfWorld.{Located, WorldOutcome, node_called}
 use Rattle.sky_model.specs.WorkersOfWorld.{move_facts, moves, source, leaf_table, restarting, restart_table}
 use Rattle.sky_model.specs.Settling.{marked}
@@ -263,7 +263,7 @@ is-restarted past name table n leaf p legal k found leaf_is among from = record 
   same_node = node-is hand refl;
   anew = λ q state.
       copies-in (database_of (history_in now q)) (database_of (history_in now d)) table None state
-      ∙ ap (λ o. handing of_copy (goes_on (database_of (history_in now q)) (database_of (history_in now d)) table None o)) idle;
+      ∙ ap (λ o. handing of_copy (starts_or_continues (database_of (history_in now q)) (database_of (history_in now d)) table None o)) idle;
 }
   where
     w : World

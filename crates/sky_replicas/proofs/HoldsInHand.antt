@@ -22,7 +22,7 @@ use Rattle.sky_model.specs.StepCopy.{copy_write, copy_writes, deletions, inserti
 use Rattle.sky_model.specs.StepConsumer.{sub_ids_spent}
 use Rattle.sky_model.specs.StepNode.{NodeCall, joining, parting, removing, beginning_copy, copying_rows, ending_copy, giving_up_copy, holding, letting_go, table_number, is_full, may_copy, may_serve, call_form, node_does}
 use Rattle.sky_model.specs.WorkerMoves.{Move, behind_calls}
-use Rattle.sky_model.specs.CopyMoves.{piece_size, held_snapshot, rows_from, rows_of, last_key, copies_piece, next_piece, copy_consumer, first_hand, starts_copy, copy_running, under_way, continues, goes_on, lets_go_for}
+use Rattle.sky_model.specs.CopyMoves.{piece_size, held_snapshot, rows_from, rows_of, last_key, copies_piece, next_piece, copy_consumer, first_hand, starts_copy, copy_running, under_way, continues, starts_or_continues, lets_go_for}
 use Rattle.sky_model.specs.WorkersOfWorld.{move_facts}
 use Rattle.sky_model.specs.Settling.{marked}
 use Rattle.sky_model.specs.World.{world_of, history_in, on_top}
@@ -449,7 +449,7 @@ starts-held past d p name kept held alike may none =
         begin-held past d p name consumer legal (kept legal) held alike may none is under (rows_from there name under (first_hand there).last piece_size) after
 
 pub copy-held : (past : Past) (d p : ℕ) (name : List ℕ) → Kept each_table past → AllHeld past → IsAlike past d p name → may_copy name (node (history_in past d)) ≡ true
-    → IfHeld past p d name (goes_on (database_of (history_in past p)) (database_of (history_in past d)) name (copy_in_hand past d name) (copy_running (database_of (history_in past d)) name))
+    → IfHeld past p d name (starts_or_continues (database_of (history_in past p)) (database_of (history_in past d)) name (copy_in_hand past d name) (copy_running (database_of (history_in past d)) name))
 copy-held past d p name kept all alike may = running may (copy_running (database_of (history_in past d)) name) refl
   where
     there : Database
@@ -468,6 +468,6 @@ copy-held past d p name kept all alike may = running may (copy_running (database
             (continue-held past d p name hand under (rows_from there name under hand.last piece_size) has alike.source.from all)
 
     running : may_copy name (node (history_in past d)) ≡ true → (o : Option ℕ) → copy_running (database_of (history_in past d)) name ≡ o
-        → IfHeld past p d name (goes_on there (database_of (history_in past d)) name (copy_in_hand past d name) o)
+        → IfHeld past p d name (starts_or_continues there (database_of (history_in past d)) name (copy_in_hand past d name) o)
     running may None is = starts-held past d p name kept all alike may (sym (ap (λ o. option_and_then (λ t. copy_txid t (copies (history_in past d))) o) alike.here) ∙ is)
     running may (Some t) is = going (copy_in_hand past d name) refl (under_way there (copy_in_hand past d name)) refl

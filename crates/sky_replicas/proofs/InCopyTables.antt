@@ -14,7 +14,7 @@ use Rattle.sky_model.specs.StepNode.{may_move, is_in_copy, may_copy}
 use Rattle.sky_model.specs.State.{Database}
 use Rattle.sky_model.specs.Hands.{Hand, of_copy, copy_in}
 use Rattle.sky_model.specs.WorkerMoves.{handing}
-use Rattle.sky_model.specs.CopyMoves.{copy_running, goes_on, moves_in, table_move, table_at, copy_move}
+use Rattle.sky_model.specs.CopyMoves.{copy_running, starts_or_continues, moves_in, table_move, table_at, copy_move}
 use Rattle.sky_model.proofs.Legal.{NodeFits}
 use Rattle.sky_model.proofs.Cases.{by_test}
 use Rattle.sky_replicas.specs.LawsOfReplicas.{takes_out}
@@ -161,14 +161,14 @@ may-as name (Some (of_leaf l)) t is = ap (λ o. unwrap_or (option_map (λ (x : L
 
 -- so its worker's move is one that copies
 pub copies-in : (p r : Database) (name : List ℕ) (hand : Option Hand) → option_map LeafTable.state (table_at name r.node) ≡ Some InCopy
-    → copy_move p r name hand ≡ handing of_copy (goes_on p r name (copy_in hand) (copy_running r name))
+    → copy_move p r name hand ≡ handing of_copy (starts_or_continues p r name (copy_in hand) (copy_running r name))
 copies-in p r name hand state = of (table_at name r.node) refl state
   where
-    of : (o : Option LeafTable) → table_at name r.node ≡ o → option_map LeafTable.state o ≡ Some InCopy → table_move p r name o hand ≡ handing of_copy (goes_on p r name (copy_in hand) (copy_running r name))
+    of : (o : Option LeafTable) → table_at name r.node ≡ o → option_map LeafTable.state o ≡ Some InCopy → table_move p r name o hand ≡ handing of_copy (starts_or_continues p r name (copy_in hand) (copy_running r name))
     of None is e = absurd (cc e)
     of (Some t) is e =
         let in_copy : t.state ≡ InCopy = cc e in
-        ap (λ s. moves_in s p r t hand) in_copy ∙ ap (λ x. handing of_copy (goes_on p r x (copy_in hand) (copy_running r x))) (table-named name r.node t is)
+        ap (λ s. moves_in s p r t hand) in_copy ∙ ap (λ x. handing of_copy (starts_or_continues p r x (copy_in hand) (copy_running r x))) (table-named name r.node t is)
 
 -- whether a table goes into a state from being copied
 abbrev pub ends_copying : TableState → Bool

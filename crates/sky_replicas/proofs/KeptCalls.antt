@@ -30,7 +30,7 @@ use Rattle.sky_model.specs.StepQueue.{newest_id}
 use Rattle.sky_model.specs.StepCopy.{given_up}
 use Rattle.sky_model.specs.StepNode.{NodeCall, joining, parting, removing, letting_go, giving_up_copy, if_there, set_queue, joins, lists, adds, unlists, is_in_copy, may_copy, node_does}
 use Rattle.sky_model.specs.WorkerMoves.{Move, only_prints, handing}
-use Rattle.sky_model.specs.CopyMoves.{newest_of, copy_move, copy_consumer, lets_go_for, copy_running, goes_on, moves_in, table_move, table_at, with_batch, if_copied, catches_up, hands_over}
+use Rattle.sky_model.specs.CopyMoves.{newest_of, copy_move, copy_consumer, lets_go_for, copy_running, starts_or_continues, moves_in, table_move, table_at, goes_through_or, if_copied, catches_up, hands_over}
 use Rattle.sky_model.specs.ReplayMoves.{is_on_way, replay_move}
 use Rattle.sky_model.specs.NodesOfWorld.{WorldOutcome, node_called, done_in, leaf_of, create_leaf, provides, are_columns, columns_called, adds_to, first_user, shows_state, Located}
 use Rattle.sky_model.specs.WorkersOfWorld.{move_facts, moves, source, source_alike, leaf_table, restarts, restarting, provider_of as providers_database, leaf_steps, parts_for, leaves_leaf, removes_from, node_form}
@@ -134,7 +134,7 @@ quiet-calls : (past : Past) (e : ℕ) (calls : List NodeCall) → AllQuiet calls
 quiet-calls past e [] quiet kept = kept
 quiet-calls past e (call ∷ calls) quiet kept = quiet-calls (called past e call) e calls quiet.1 (quiet-called past e call quiet.0 kept)
 
-hands-calls : (past : Past) (e : ℕ) (calls : List NodeCall) → hands (after_calls past e calls) ≡ hands past
+pub hands-calls : (past : Past) (e : ℕ) (calls : List NodeCall) → hands (after_calls past e calls) ≡ hands past
 hands-calls past e [] = refl
 hands-calls past e (call ∷ calls) = hands-calls (called past e call) e calls ∙ hands-marks past e (call_marks (history_in past e) call)
 
@@ -385,17 +385,17 @@ module _ (past : Past) (kept : AllKept past) where
           → KeptIfOk (moves w p d (in_hand d name) (moves_in state (w.database p) (w.database d) t (w.hands d name)))
       in-state t there InCopy is =
           let may : may_copy name (node (history_in past d)) ≡ true = may-as name (node (history_in past d)) t there ∙ ap is_in_copy is in
-          subst (λ x. KeptIfOk (moves w p d (in_hand d name) (handing of_copy (goes_on (w.database p) (w.database d) x (copy_in_hand past d name) (copy_running (w.database d) x)))))
+          subst (λ x. KeptIfOk (moves w p d (in_hand d name) (handing of_copy (starts_or_continues (w.database p) (w.database d) x (copy_in_hand past d name) (copy_running (w.database d) x)))))
           (sym (table-named name (node (history_in past d)) t there))
-          (kept-copies p d name (goes_on (w.database p) (w.database d) name (copy_in_hand past d name) (copy_running (w.database d) name)) (copy-kept past d p name kept.0 alike may)
+          (kept-copies p d name (starts_or_continues (w.database p) (w.database d) name (copy_in_hand past d name) (copy_running (w.database d) name)) (copy-kept past d p name kept.0 alike may)
           (copy-held past d p name kept.0 kept.1 alike may))
       in-state t there CatchingUp is =
           copied-or t _
-          (kept-batches p d name (with_batch (w.database p) (w.database d) t (batch_in (hands past d name)) (catches_up (w.database p) (w.database d) t))
+          (kept-batches p d name (goes_through_or (w.database p) (w.database d) t (batch_in (hands past d name)) (catches_up (w.database p) (w.database d) t))
           (quiet-catches_up (w.database p) (w.database d) t (batch_in (hands past d name))) (may-as name (node (history_in past d)) t there ∙ ap is_in_copy is))
       in-state t there (DoSync tick) is =
           copied-or t _
-          (kept-batches p d name (with_batch (w.database p) (w.database d) t (batch_in (hands past d name)) (hands_over (w.database p) (w.database d) tick t))
+          (kept-batches p d name (goes_through_or (w.database p) (w.database d) t (batch_in (hands past d name)) (hands_over (w.database p) (w.database d) tick t))
           (quiet-hands_over (w.database p) (w.database d) tick t (batch_in (hands past d name))) (may-as name (node (history_in past d)) t there ∙ ap is_in_copy is))
       in-state t there Synced is = prints
       in-state t there state is = prints

@@ -26,7 +26,7 @@ use Rattle.sky_model.specs.StepCopy.{copy_writes, deletions, rows_now}
 use Rattle.sky_model.specs.StepConsumer.{sub_ids_spent}
 use Rattle.sky_model.specs.StepNode.{NodeCall, joining, parting, holding, letting_go, beginning_copy, copying_rows, ending_copy, is_full, may_copy, node_does}
 use Rattle.sky_model.specs.WorkerMoves.{Move, behind_calls}
-use Rattle.sky_model.specs.CopyMoves.{newest_of, piece_size, held_snapshot, rows_from, rows_of, last_key, copies_piece, next_piece, copy_consumer, first_hand, starts_copy, copy_running, under_way, continues, goes_on}
+use Rattle.sky_model.specs.CopyMoves.{newest_of, piece_size, held_snapshot, rows_from, rows_of, last_key, copies_piece, next_piece, copy_consumer, first_hand, starts_copy, copy_running, under_way, continues, starts_or_continues}
 use Rattle.sky_model.specs.WorkersOfWorld.{move_facts}
 use Rattle.sky_model.specs.Settling.{marked}
 use Rattle.sky_model.specs.World.{world_of, history_in, on_top}
@@ -460,7 +460,7 @@ starts-kept past d p name assumed alike may none =
 
 -- a table that is to be copied
 pub copy-kept : (past : Past) (d p : ℕ) (name : List ℕ) → Kept each_table past → IsAlike past d p name → may_copy name (node (history_in past d)) ≡ true
-    → IfKept past p d name (goes_on (database_of (history_in past p)) (database_of (history_in past d)) name (copy_in_hand past d name) (copy_running (database_of (history_in past d)) name))
+    → IfKept past p d name (starts_or_continues (database_of (history_in past p)) (database_of (history_in past d)) name (copy_in_hand past d name) (copy_running (database_of (history_in past d)) name))
 copy-kept past d p name kept alike may = running may (copy_running (database_of (history_in past d)) name) refl
   where
     assumed : Assumed past
@@ -481,7 +481,7 @@ copy-kept past d p name kept alike may = running may (copy_running (database_of 
             (assumed (move_facts (world_of past) p d (copy_handed d name) (next_piece (database_of (history_in past p)) name under hand)) (λ legal k. continue-kept past d p name hand under legal k has alike may is))
 
     running : may_copy name (node (history_in past d)) ≡ true → (o : Option ℕ) → copy_running (database_of (history_in past d)) name ≡ o
-        → IfKept past p d name (goes_on (database_of (history_in past p)) (database_of (history_in past d)) name (copy_in_hand past d name) o)
+        → IfKept past p d name (starts_or_continues (database_of (history_in past p)) (database_of (history_in past d)) name (copy_in_hand past d name) o)
     running may None is =
         starts-kept past d p name assumed alike may (sym (ap (λ o. option_and_then (λ t. copy_txid t (copies (history_in past d))) o) alike.here) ∙ is)
     running may (Some t) is = going (copy_in_hand past d name) refl may (under_way (database_of (history_in past p)) (copy_in_hand past d name)) refl

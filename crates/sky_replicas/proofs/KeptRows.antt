@@ -47,7 +47,7 @@ copy-leaf name None e = absurd (cc e)
 copy-leaf name (Some (of_root r)) e = absurd (cc e)
 copy-leaf name (Some (of_leaf l)) e = refl
 
-uncopied-push : (table : ℕ) (cs : List Copy) (c : Copy) → (c.table == table) ≡ false → is_copied table cs ≡ false → is_copied table (cs ++ c ∷ []) ≡ false
+pub uncopied-push : (table : ℕ) (cs : List Copy) (c : Copy) → (c.table == table) ≡ false → is_copied table cs ≡ false → is_copied table (cs ++ c ∷ []) ≡ false
 uncopied-push table cs c other none = list_any-append (λ (x : Copy). x.table == table) cs (c ∷ []) ∙ grind (arith, none, other)
 
 uncopied-less : (table t : ℕ) (cs : List Copy) → is_copied table cs ≡ false → is_copied table (without_copy t cs) ≡ false

@@ -34,7 +34,7 @@ use Rattle.sky_model.specs.StepCopy.{given_up}
 use Rattle.sky_model.specs.StepNode.{NodeCall, joining, parting, fetching, finishing, making_leaf, adding, removing, moving, listing, unlisting, beginning_copy, applying, holding, if_there, set_queue, is_full, joins, lists, adds, unlists, table_number, may_serve, call_form, node_does}
 use Rattle.sky_model.specs.WorkerMoves.{Move, behind_calls, handing}
 use Rattle.sky_model.specs.BatchMoves.{Follower, events_in, has_applied, applies_in_hand, skips_in_hand, finishes_in_hand, taken, takes, takes_next, goes_through}
-use Rattle.sky_model.specs.CopyMoves.{piece_size, rows_from, copies_piece, next_piece, copy_consumer, first_hand, starts_copy, under_way, continues, goes_on, moves_in, table_move, table_at, copier, with_batch, if_copied, has_caught_up, catches_up, hands_over, copy_running, copy_move, lets_go_for}
+use Rattle.sky_model.specs.CopyMoves.{piece_size, rows_from, copies_piece, next_piece, copy_consumer, first_hand, starts_copy, under_way, continues, starts_or_continues, moves_in, table_move, table_at, copier, goes_through_or, if_copied, has_caught_up, catches_up, hands_over, copy_running, copy_move, lets_go_for}
 use Rattle.sky_model.specs.ReplayMoves.{replayer, is_on_way, is_handed_over, is_met, first_in, next_to_copy, for_table, replay_move}
 use Rattle.sky_model.specs.NodesOfWorld.{WorldOutcome, Located, node_called, done_in, leaf_of, create_leaf, provides, are_columns, columns_called, adds_to, uses, name_in, first_user, shows_state}
 use Rattle.sky_model.specs.WorkersOfWorld.{move_facts, moves, source, source_alike, leaf_table, restarts, restarting, provider_of as providers_database, leaf_steps, parts_for, leaves_leaf, removes_from, node_form}
@@ -211,9 +211,9 @@ workers-through p r f batch =
     (if-either (nat_lt f.tick batch.cur) (applies_in_hand p r f batch) (skips_in_hand batch) (if-given (next_id r.part) _ (λ t. workers-applied (events_in p batch) f.pick batch.cur batch (length (picked r.node f.pick (events_in p batch))) (bad_event r f.pick (events_in p batch))))
     (record { provider = tt; replica = tt }))
 
-workers-with_batch : (p r : Database) (t : LeafTable) (o : Option BatchHand) (other : Checked (Move BatchHand)) → WorkersIfOk other → WorkersIfOk (with_batch p r t o other)
-workers-with_batch p r t (Some batch) other all = workers-through p r (copier r.node t) batch
-workers-with_batch p r t None other all = all
+workers-goes_through_or : (p r : Database) (t : LeafTable) (o : Option BatchHand) (other : Checked (Move BatchHand)) → WorkersIfOk other → WorkersIfOk (goes_through_or p r t o other)
+workers-goes_through_or p r t (Some batch) other all = workers-through p r (copier r.node t) batch
+workers-goes_through_or p r t None other all = all
 
 workers-for_table : (o : Option (List ℕ)) (move : List ℕ → Checked (Move BatchHand)) (other : Checked (Move BatchHand)) → ((table : List ℕ) → WorkersIfOk (move table)) → WorkersIfOk other → WorkersIfOk (for_table o move other)
 workers-for_table None move other all also = also
@@ -245,9 +245,9 @@ module _ (p r : Database) (table : List ℕ) where
   workers-starts =
       if-unrefused (is_full p (copy_consumer r.node)) (TooMany Consumers) _ (if-unrefused (sub_ids_spent p) IdsSpent _ (if-given (next_id r.part) _ (λ t. workers-first)))
 
-  workers-goes_on : (hand : Option CopyHand) (running : Option ℕ) → WorkersIfOk (goes_on p r table hand running)
-  workers-goes_on hand None = workers-starts
-  workers-goes_on hand (Some t) = of (under_way p hand)
+  workers-starts_or_continues : (hand : Option CopyHand) (running : Option ℕ) → WorkersIfOk (starts_or_continues p r table hand running)
+  workers-starts_or_continues hand None = workers-starts
+  workers-starts_or_continues hand (Some t) = of (under_way p hand)
     where
       of : (o : Option (CopyHand × SnapshotView)) → WorkersIfOk (continues p table hand o)
       of None = record { provider = tt; replica = tt }
@@ -257,13 +257,13 @@ workers-copied : (t : LeafTable) (hand : Option Hand) (c : Checked (Move BatchHa
 workers-copied t hand c all = if-either (is_some t.snapshot) (handing of_batch c) _ (if-handing of_batch c all) (record { provider = tt; replica = tt })
 
 workers-in : (p r : Database) (t : LeafTable) (state : TableState) (hand : Option Hand) → WorkersIfOk (moves_in state p r t hand)
-workers-in p r t InCopy hand = if-handing of_copy (goes_on p r t.name (copy_in hand) (copy_running r t.name)) (workers-goes_on p r t.name (copy_in hand) (copy_running r t.name))
+workers-in p r t InCopy hand = if-handing of_copy (starts_or_continues p r t.name (copy_in hand) (copy_running r t.name)) (workers-starts_or_continues p r t.name (copy_in hand) (copy_running r t.name))
 workers-in p r t CatchingUp hand =
-    workers-copied t hand (with_batch p r t (batch_in hand) (catches_up p r t))
-    (workers-with_batch p r t (batch_in hand) (catches_up p r t) (if-either (has_caught_up p t) _ _ (record { provider = tt; replica = (refl, tt) }) (workers-takes_next p (copier r.node t))))
+    workers-copied t hand (goes_through_or p r t (batch_in hand) (catches_up p r t))
+    (workers-goes_through_or p r t (batch_in hand) (catches_up p r t) (if-either (has_caught_up p t) _ _ (record { provider = tt; replica = (refl, tt) }) (workers-takes_next p (copier r.node t))))
 workers-in p r t (DoSync tick) hand =
-    workers-copied t hand (with_batch p r t (batch_in hand) (hands_over p r tick t))
-    (workers-with_batch p r t (batch_in hand) (hands_over p r tick t) (if-either (t.tick == tick) _ _ (record { provider = (refl, tt); replica = (refl, tt) }) (workers-takes_next p (copier r.node t))))
+    workers-copied t hand (goes_through_or p r t (batch_in hand) (hands_over p r tick t))
+    (workers-goes_through_or p r t (batch_in hand) (hands_over p r tick t) (if-either (t.tick == tick) _ _ (record { provider = (refl, tt); replica = (refl, tt) }) (workers-takes_next p (copier r.node t))))
 workers-in p r t Synced hand = record { provider = tt; replica = tt }
 workers-in p r t state hand = record { provider = tt; replica = tt }
 
@@ -285,10 +285,10 @@ workers-parts n (Some state) = by_test (λ b. AreWorkers (if b then parting (cop
 -- ---- statements on nodes
 
 -- a database of a leaf's provider
-from-found : (past : Past) (d p : ℕ) (l : Leaf) → node (history_in past d) ≡ Some (of_leaf l) → database_among (names_in past) l.provider (nodes past) ≡ Some p → source_of past d ≡ Some p
+pub from-found : (past : Past) (d p : ℕ) (l : Leaf) → node (history_in past d) ≡ Some (of_leaf l) → database_among (names_in past) l.provider (nodes past) ≡ Some p → source_of past d ≡ Some p
 from-found past d p l leaf found = ap (λ n. option_and_then (λ x. database_among (names_in past) x (nodes past)) (provider_of n)) leaf ∙ found
 
-found-database : (past : Past) (name : List ℕ) (n : Located) → node_called (world_of past) name ≡ Some n → database_among (names_in past) name (nodes past) ≡ Some n.database
+pub found-database : (past : Past) (name : List ℕ) (n : Located) → node_called (world_of past) name ≡ Some n → database_among (names_in past) name (nodes past) ≡ Some n.database
 found-database past name n found = sym (called-database past name) ∙ ap (option_map Located.database) found
 
 -- a table that a leaf's provider has, with these columns
@@ -342,7 +342,7 @@ none-found p (e ∷ ds) d none is =
     of isnt true same later e = ap p (eqb-true d _ same) ∙ isnt
     of isnt false same later e = later e
 
-unused : (past : Past) (d : ℕ) (name : List ℕ) (root : List ℕ) → AllProvided past → names_in past d ≡ Some root → find (λ e. uses root name (node (history_in past e))) (nodes past) ≡ None → IsUnused past d name
+pub unused : (past : Past) (d : ℕ) (name : List ℕ) (root : List ℕ) → AllProvided past → names_in past d ≡ Some root → find (λ e. uses root name (node (history_in past e))) (nodes past) ≡ None → IsUnused past d name
 unused past d name root a named none e from = of (node (history_in past e)) refl
   where
     of : (n : Option Node) → node (history_in past e) ≡ n → is_among name (leaf_tables (node (history_in past e))) ≡ false

@@ -23,10 +23,10 @@ use Rattle.sky_replicas.proofs.Others.{number-within}
 
 -- ---- names among others
 
-among-push : (name other : List ℕ) (names : List (List ℕ)) → is_among name names ≡ true → is_among name (names ++ other ∷ []) ≡ true
+pub among-push : (name other : List ℕ) (names : List (List ℕ)) → is_among name names ≡ true → is_among name (names ++ other ∷ []) ≡ true
 among-push name other names is = list_any-append (bytes_eq name) names (other ∷ []) ∙ ap (λ b. b || (bytes_eq name other || false)) is
 
-among-less : (name other : List ℕ) (names : List (List ℕ)) → bytes_eq other name ≡ false → is_among name names ≡ true → is_among name (all_but other names) ≡ true
+pub among-less : (name other : List ℕ) (names : List (List ℕ)) → bytes_eq other name ≡ false → is_among name names ≡ true → is_among name (all_but other names) ≡ true
 among-less name other [] differ is = absurd (cc is)
 among-less name other (x ∷ xs) differ is =
     by_test (λ b. bytes_eq name x ≡ b → (b || is_among name xs) ≡ true → is_among name (if not (bytes_eq other x) then x ∷ all_but other xs else all_but other xs) ≡ true) (bytes_eq name x)
@@ -36,7 +36,7 @@ among-less name other (x ∷ xs) differ is =
     let later : is_among name (all_but other xs) ≡ true = among-less name other xs differ rest in
     by_test (λ b. is_among name (if not b then x ∷ all_but other xs else all_but other xs) ≡ true) (bytes_eq other x) (λ _. later) (λ _. grind (arith, later))) refl is
 
-among-all : (name other : List ℕ) (names : List (List ℕ)) → is_among name (all_but other names) ≡ true → is_among name names ≡ true
+pub among-all : (name other : List ℕ) (names : List (List ℕ)) → is_among name (all_but other names) ≡ true → is_among name names ≡ true
 among-all name other [] is = is
 among-all name other (x ∷ xs) is =
     by_test (λ b. is_among name (if b then x ∷ all_but other xs else all_but other xs) ≡ true → is_among name (x ∷ xs) ≡ true) (not (bytes_eq other x))
@@ -184,7 +184,7 @@ offered-within past e mark d p name fine kept o = record {
 }
 
 -- the database of a name stays
-found-within : (past : Past) (e : ℕ) (mark : Mark) (name : List ℕ) (p : ℕ) → Noded past → Fine (history_in past e) mark → database_among (names_in past) name (nodes past) ≡ Some p
+pub found-within : (past : Past) (e : ℕ) (mark : Mark) (name : List ℕ) (p : ℕ) → Noded past → Fine (history_in past e) mark → database_among (names_in past) name (nodes past) ≡ Some p
     → database_among (names_in (within e mark ∷ past)) name (nodes past) ≡ Some p
 found-within past e mark name p all fine is = among-same (names_in (within e mark ∷ past)) (names_in past) name (nodes past) same ∙ is
   where

@@ -18,7 +18,7 @@ use Rattle.sky_model.specs.StepCopy.{given_up}
 use Rattle.sky_model.specs.StepNode.{NodeCall, parting, fetching, finishing, moving, applying, if_there, moves_table, may_move, may_copy, may_serve, call_form, node_does}
 use Rattle.sky_model.specs.WorkerMoves.{Move, moves_to}
 use Rattle.sky_model.specs.BatchMoves.{Follower, events_in, has_applied, skips_in_hand, finishes_in_hand, applies_in_hand, taken, takes, takes_next, goes_through}
-use Rattle.sky_model.specs.CopyMoves.{copier, copy_consumer, with_batch, has_caught_up, catches_up, hands_over}
+use Rattle.sky_model.specs.CopyMoves.{copier, copy_consumer, goes_through_or, has_caught_up, catches_up, hands_over}
 use Rattle.sky_model.specs.ReplayMoves.{replayer, is_handed_over, is_met, first_in, next_to_copy, for_table, replay_move}
 use Rattle.sky_model.proofs.ApplyCalls.{is_for_applying, gives-applies}
 use Rattle.sky_model.proofs.NodeCalls.{is_consumers}
@@ -116,18 +116,18 @@ quiet-moves_to : (state : TableState) (table : List ℕ) → ends_copying state 
 quiet-moves_to state table ends = record { provider = tt; replica = (quiet-moving table state ends, tt) }
 
 -- of a table that has been copied
-quiet-with_batch : (p r : Database) (t : LeafTable) (o : Option BatchHand) (other : Checked (Move BatchHand)) → QuietIfOk other → QuietIfOk (with_batch p r t o other)
-quiet-with_batch p r t (Some batch) other quiet = quiet-through p r (copier r.node t) batch
-quiet-with_batch p r t None other quiet = quiet
+quiet-goes_through_or : (p r : Database) (t : LeafTable) (o : Option BatchHand) (other : Checked (Move BatchHand)) → QuietIfOk other → QuietIfOk (goes_through_or p r t o other)
+quiet-goes_through_or p r t (Some batch) other quiet = quiet-through p r (copier r.node t) batch
+quiet-goes_through_or p r t None other quiet = quiet
 
-pub quiet-catches_up : (p r : Database) (t : LeafTable) (o : Option BatchHand) → QuietIfOk (with_batch p r t o (catches_up p r t))
+pub quiet-catches_up : (p r : Database) (t : LeafTable) (o : Option BatchHand) → QuietIfOk (goes_through_or p r t o (catches_up p r t))
 quiet-catches_up p r t o =
-    quiet-with_batch p r t o (catches_up p r t)
+    quiet-goes_through_or p r t o (catches_up p r t)
     (quiet-if (has_caught_up p t) _ _ (quiet-moves_to (WannaSync t.tick) t.name refl) (quiet-next p (copier r.node t)))
 
-pub quiet-hands_over : (p r : Database) (tick : ℕ) (t : LeafTable) (o : Option BatchHand) → QuietIfOk (with_batch p r t o (hands_over p r tick t))
+pub quiet-hands_over : (p r : Database) (tick : ℕ) (t : LeafTable) (o : Option BatchHand) → QuietIfOk (goes_through_or p r t o (hands_over p r tick t))
 quiet-hands_over p r tick t o =
-    quiet-with_batch p r t o (hands_over p r tick t)
+    quiet-goes_through_or p r t o (hands_over p r tick t)
     (quiet-if (t.tick == tick) _ _ (record { provider = (quiet-consumers (parting (copy_consumer r.node)) refl, tt); replica = (quiet-moving t.name Synced refl, tt) })
     (quiet-next p (copier r.node t)))
 

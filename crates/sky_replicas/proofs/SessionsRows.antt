@@ -28,7 +28,7 @@ use Rattle.sky_replicas.proofs.KeptCalls.{copied_tables_have_providers_rows}
 
 -- ---- once a table has been copied, a transaction of a worker writes none of its rows but by another copy, unless it applies a batch
 
-abbrev NoneWritten : History → ℕ → Type 0
+abbrev pub NoneWritten : History → ℕ → Type 0
 NoneWritten h table = (t : ℕ) → contains t (workers h) ≡ true → is_copied_by table t (copies h) ≡ false → writes_of table t h ≡ []
 
 none-step : (h : History) → Legal h → (mark : Mark) → Fine h mark → (table : ℕ) → applies_to table mark ≡ false → NoneWritten h table → NoneWritten (mark ∷ h) table
@@ -112,7 +112,7 @@ sessions-committed (_ ∷ later) p u is = sessions-committed later p u is
 unwritten-ended : (h : History) (table t : ℕ) (whose : Whose) → writes_of table t h ≡ [] → rows table (ended whose t true ∷ h) ≡ rows table h
 unwritten-ended h table t whose none = in_turn-push (λ u. writes_of table u h) (committed h) t [] ∙ ap (λ ws. put_all ws (rows table h)) none
 
-sessions-rows : (later : List Mark) (p : History) → Legal (later ++ p) → (table : ℕ) → NoneWritten p table → list_any (copies_again table) later ≡ false → list_any (applies_to table) later ≡ false
+pub sessions-rows : (later : List Mark) (p : History) → Legal (later ++ p) → (table : ℕ) → NoneWritten p table → list_any (copies_again table) later ≡ false → list_any (applies_to table) later ≡ false
     → rows table (later ++ p) ≡ in_turn (λ t. writes_of table t (later ++ p)) (committed_by_sessions later) (rows table p)
 sessions-rows [] p l table from once none = refl
 sessions-rows (tabled (wrote whose u n key old new) ∷ later) p l table from once none =

@@ -1,5 +1,6 @@
 -- A transaction's versions are removed, key by key.
-use Rattle.std.proofs.Common.{arith, ◌≡◌, ℕ, Bool, true, false, cond, not, List, [], ◌∷◌, Ordering, Option, Some, None, nat_lt, refl, ap, ◌∙◌}
+use Rattle.std.proofs.Common.{arith, ◌≡◌, ℕ, ◌+◌, Bool, true, false, cond, not, List, [], ◌∷◌, Ordering, Option, Some, None, nat_lt, ◌<◌, drop, get_or, length, refl, sym, ap, ◌∙◌}
+use Rattle.std.proofs.lemmas.List.{drop_more}
 use Rattle.std.specs.Prelude.{◌==◌, ◌||◌, ◌↔◌, ◌≢◌, IsTrue}
 use Rattle.std.specs.List.{list_any}
 use Rattle.std.specs.Option.{option_map_or}
@@ -19,7 +20,7 @@ use Rattle.sky_keys.proofs.VersionLemmas.{version_of-without, without-none}
 use Rattle.sky_keys.proofs.EntryLemmas.{key_ties-is}
 use Rattle.sky_rows.specs.Table.{forgotten_at}
 use Rattle.sky_rows.specs.declared.written.Written.{Written}
-use Rattle.sky_rows.specs.Written.{listed, wrote, IsKept, AllKept}
+use Rattle.sky_rows.specs.Written.{listed, is_unlisted, wrote, IsKept, AllKept}
 use Rattle.sky_rows.proofs.TableLemmas.{all_kept_more}
 use Rattle.std.proofs.lemmas.Bool.Decides.{nat_tests}
 
@@ -122,10 +123,14 @@ kept_step t k keys (e ∷ es) order kept =
 pub forgotten-all : (t : ℕ) (es : Entries (List Version)) → AllKept (may_have t []) es → forgotten t es ≡ es
 forgotten-all t es kept = forgotten-none (may_have t []) t es (λ q. ap (λ b. not b || false) (eq-eqb t t refl)) kept
 
+-- one more of the keys that are left
+pub keys_left : (keys : List (List Val)) (i : ℕ) (key : List Val) → i < length keys → key ≡ get_or keys i key → drop i keys ≡ key ∷ drop (i + 1) keys
+keys_left keys i key within is = drop_more keys i key within ∙ ap (λ k. k ∷ drop (i + 1) keys) (sym is)
+
 -- ---- the index
 
 -- if the index records a transaction, it records the keys that are listed for it
-pub wrote-listed : (index : Written) (t : ℕ) (q : List Val) (found : Option (BTreeSet (List Val))) → not (nat_lt t index.from) ≡ true → found ≡ get nat_cmp index.keys t → wrote index t q ≡ option_map_or (λ of_it. contains key_cmp of_it q) found false
+pub wrote-listed : (index : Written) (t : ℕ) (q : List Val) (found : Option (BTreeSet (List Val))) → not (nat_lt t index.from || is_unlisted index.unlisted t) ≡ true → found ≡ get nat_cmp index.keys t → wrote index t q ≡ option_map_or (λ of_it. contains key_cmp of_it q) found false
 wrote-listed index t q found tells is = grind (arith, tells, is)
 
 -- what the index records of all transactions, it records of the one whose versions are to be removed

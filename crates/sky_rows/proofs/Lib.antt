@@ -12,3 +12,4 @@ pub mod ScanLemmas
 pub mod KeyLemmas
 pub mod ForgetLemmas
 pub mod Visited
+pub mod Standing

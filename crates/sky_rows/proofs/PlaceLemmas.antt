@@ -1,5 +1,5 @@
 -- The places of keys' slots, after a slot came, changed or went.
-use Rattle.std.proofs.Common.{◌≡◌, ◌≢◌, ℕ, zero, suc, ◌<◌, Bool, true, false, cond, List, [], ◌∷◌, length, get_or, Ordering, Less, Equal, Greater, Option, Some, None, Result, Ok, Err, refl, sym, ◌∙◌, ap, subst, arith, get_or-set_same, get_or-set_other}
+use Rattle.std.proofs.Common.{◌≡◌, ◌≢◌, ℕ, zero, suc, ◌<◌, Bool, true, false, cond, List, [], ◌∷◌, length, get_or, Ordering, Less, Equal, Greater, Option, Some, None, Result, Ok, Err, refl, sym, ◌∙◌, ap, subst, arith, is_some, get_or-set_same, get_or-set_other}
 use Rattle.std.specs.Prelude.{◌==◌, option_map, filter, IsSome, IfSome, OnOk, OnErr}
 use Rattle.std.specs.Option.{unwrap_or}
 use Rattle.std.specs.List.Sorted.{IsStrictlySortedBy}
@@ -71,6 +71,14 @@ kept_found slots places q p there found =
 
 pub none_kept : (slots : Slab Slot) (places : Places) (q : List Val) → place_at places q ≡ None → None ≡ lookup (is_at (key_cmp q)) (rows_of slots places)
 none_kept slots places q none = ap (option_map (λ p. unwrap_or (kept_at slots p) nothing)) (sym none) ∙ sym (lookup-rows slots (is_at (key_cmp q)) places)
+
+pub is_some-map : {A B : Type 0} (f : A → B) (o : Option A) → is_some (option_map f o) ≡ is_some o
+is_some-map f None = refl
+is_some-map f (Some x) = refl
+
+-- something is kept of the keys that have a place
+pub some_kept : (slots : Slab Slot) (places : Places) (q : List Val) → is_some (lookup (is_at (key_cmp q)) (rows_of slots places)) ≡ is_some (place_at places q)
+some_kept slots places q = ap is_some (lookup-rows slots (is_at (key_cmp q)) places) ∙ is_some-map (λ p. unwrap_or (kept_at slots p) nothing) (place_at places q)
 
 -- ---- at other places than one
 
@@ -286,6 +294,26 @@ removed_placed slots slots' p key places places' placed had updates is order fou
 }
 
 -- the same, among the fields
+module _ (slots : Slab Slot) (places : Places) (view : RowsView) (is : record { slots = slots; places = places } ≡ view) (placed : IsPlaced slots places) where
+  pub view_order : IsStrictlySortedBy key_cmp (keys_of (rows_in view))
+  view_order = subst (λ (r : RowsView). IsStrictlySortedBy key_cmp (keys_of (rows_in r))) is (rows_order slots places placed)
+
+  -- at the place that was found is the key's slot
+  pub found_there : (o : Option ℕ) (q : List Val) (p : ℕ) → o ≡ place_at view.places q → o ≡ Some p → key_at view.slots p ≡ Some q
+  found_there o q p found at =
+      subst (λ (r : RowsView). key_at r.slots p ≡ Some q) is
+      (its_key slots places q p placed (ap (λ (r : RowsView). place_at r.places q) is ∙ sym found ∙ at))
+
+  -- and each slot is at its key's place
+  pub its_place : (p : ℕ) (s : Slot) → slab_get slots p ≡ Some s → place_at view.places s.key ≡ Some p
+  its_place p s had = subst (λ (r : RowsView). place_at r.places s.key ≡ Some p) is (placed.only s.key p (ap (option_map (λ (s : Slot). s.key)) had))
+
+  pub no_slot : (o : Option ℕ) (q : List Val) (p : ℕ) → o ≡ place_at view.places q → o ≡ Some p → slab_get slots p ≡ None → ⊥
+  no_slot o q p found at gone =
+      let there : key_at slots p ≡ Some q = ap (λ (r : RowsView). key_at r.slots p) is ∙ found_there o q p found at in
+      let both : None ≡ Some q = ap (option_map (λ (s : Slot). s.key)) (sym gone) ∙ there in
+      cc both
+
 module _ (slots : Slab Slot) (places : Places) (view : RowsView) (is : record { slots = slots; places = places } ≡ view) (placed : IsPlaced slots places)
     (p : ℕ) (was : Slot) (had : slab_get slots p ≡ Some was) (key : List Val) (there : key_at view.slots p ≡ Some key) where
   pub own_key : was.key ≡ key

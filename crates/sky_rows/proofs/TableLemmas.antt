@@ -1,6 +1,6 @@
 -- The entries of a table, as its map and its model have them.
 use Rattle.std.proofs.Common.{arith, ◌≡◌, ℕ, Bool, true, false, cond, List, [], ◌∷◌, Ordering, Less, Equal, Greater, Option, Some, None, Result, Ok, Err, refl, sym, subst, ap, ◌∙◌}
-use Rattle.std.specs.Prelude.{OnOk, OnErr}
+use Rattle.std.specs.Prelude.{OnOk, OnErr, ◌&&◌}
 use Rattle.std.specs.List.{AllByRecursion}
 use Rattle.std.specs.Option.{option_or}
 use Rattle.std.specs.List.Sorted.{IsStrictlySortedBy}
@@ -74,6 +74,11 @@ kept_more v w key vs more kept = record { some = kept.some; listed = λ t none. 
 pub all_kept_more : (v w : ℕ → List Val → Bool) (es : Entries (List Version)) → ((t : ℕ) (q : List Val) → w t q ≡ false → v t q ≡ false) → AllKept v es → AllKept w es
 all_kept_more v w [] more kept = tt
 all_kept_more v w (e ∷ es) more kept = (kept_more v w e.0 e.1 (λ t. more t e.0) kept.0, all_kept_more v w es more kept.1)
+
+-- what both record of the entries
+pub kept_both : (v w : ℕ → List Val → Bool) (es : Entries (List Version)) → AllKept v es → AllKept w es → AllKept (λ t q. v t q && w t q) es
+kept_both v w [] both other = tt
+kept_both v w (e ∷ es) both other = (record { some = both.0.some; listed = λ t none. grind (arith, none, both.0.listed t, other.0.listed t) }, kept_both v w es both.1 other.1)
 
 kept_put : (w : ℕ → List Val → Bool) (k : List Val) (vs : List Version) (es : Entries (List Version)) → IsKept w k vs → AllKept w es → AllKept w (put k vs es)
 kept_put w k vs [] here kept = (here, tt)

@@ -1,8 +1,9 @@
 -- Which keys each transaction wrote, as the index of a table records.
-use Rattle.std.specs.Prelude.{◌≡◌, ℕ, Bool, false, nat_lt, ◌||◌, if◌then◌else◌, List, [], ◌∷◌, Option, None, Some}
+use Rattle.std.specs.Prelude.{◌≡◌, ℕ, Bool, true, false, not, nat_lt, ◌==◌, ◌||◌, if◌then◌else◌, List, [], ◌∷◌, Option, None, Some}
+use Rattle.std.specs.List.{list_any}
 use Rattle.std.specs.Option.{option_map_or}
 use Rattle.std.specs.Ordering.{nat_cmp}
-use Rattle.std.specs.BTreeMap.{BTreeMap, get}
+use Rattle.std.specs.BTreeMap.{BTreeMap, get, is_at}
 use Rattle.std.specs.BTreeSet.{BTreeSet, contains}
 use Rattle.sky_val.specs.declared.val.Val.{Val}
 use Rattle.sky_val.specs.Order.{key_cmp}
@@ -10,14 +11,19 @@ use Rattle.sky_val.specs.Entries.{Entries}
 use Rattle.sky_keys.specs.declared.version.Version.{Version}
 use Rattle.sky_keys.specs.Versions.{version_of, unless_empty}
 use Rattle.sky_rows.specs.declared.written.Written.{Written}
+use Rattle.sky_rows.specs.declared.log.Log.{Log}
 
 -- whether a key is listed among those that a transaction wrote
 abbrev pub listed : BTreeMap ℕ (BTreeSet (List Val)) → ℕ → List Val → Bool
 listed keys t key = option_map_or (λ of_it. contains key_cmp of_it key) (get nat_cmp keys t) false
 
--- whether a transaction may have written a key, which is known of those from one on
+-- whether it is the transaction whose keys aren't listed
+abbrev pub is_unlisted : Option ℕ → ℕ → Bool
+is_unlisted unlisted t = option_map_or (λ u. t == u) unlisted false
+
+-- whether a transaction may have written a key, which is known of those from one on but for the one whose keys aren't listed
 abbrev pub wrote : Written → ℕ → List Val → Bool
-wrote index t key = nat_lt t index.from || listed index.keys t key
+wrote index t key = (nat_lt t index.from || is_unlisted index.unlisted t) || listed index.keys t key
 
 -- the transaction that reads, if it wrote the key
 abbrev pub writer : (ℕ → List Val → Bool) → Option ℕ → List Val → Option ℕ
@@ -33,3 +39,8 @@ pub record IsKept (wrote : ℕ → List Val → Bool) (key : List Val) (vs : Lis
 abbrev pub AllKept : (ℕ → List Val → Bool) → Entries (List Version) → Type 0
 AllKept wrote [] = Unit {0}
 AllKept wrote (e ∷ es) = IsKept wrote e.0 e.1 × AllKept wrote es
+
+-- whether a transaction may have written a key, as a log of one transaction's keys says: it says nothing of any other's
+abbrev pub logged : Option Log → ℕ → List Val → Bool
+logged None t key = true
+logged (Some log) t key = not (t == log.txid) || list_any (is_at (key_cmp key)) log.keys.items

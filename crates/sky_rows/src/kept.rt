@@ -1,4 +1,4 @@
-ghost use Rattle.std.specs.Prelude.{◌≡◌, [], None, Some, IsTrue, ◌↔◌, ◌≢◌, OnOk, OnErr};
+ghost use Rattle.std.specs.Prelude.{◌≡◌, [], None, Some, IsSome, is_some, IsTrue, ◌↔◌, ◌≢◌, OnOk, OnErr};
 ghost use Rattle.std.specs.Option.{option_copied};
 ghost use Rattle.sky_txid.specs.Snapshot.{sees};
 ghost use Rattle.sky_keys.specs.Versions.{with_version, without, version_of, newest_by, newest_but, read};
@@ -87,6 +87,23 @@ impl Kept {
             }
         }
         self.newest_seen(older, snapshot)?.row.as_ref()
+    }
+
+    /// Whether the transaction has a version, if only the newest may be its own; and whether `read` gives it a row.
+    pub(crate) fn standing(&self, older: &Older, snapshot: &Snapshot, txid: u64) -> (bool, bool)
+        requires used { IsUsed older.now self.now.list }
+        requires one { IsOneOfEach (versions_of older.now self.now) }
+        requires last { let versions = versions_of older.now self.now in
+            IsSome (version_of txid versions) → newest_but None versions ≡ version_of txid versions }
+        ensures own { result.0 ≡ is_some (version_of txid (versions_of older.now self.now)) }
+        ensures row { result.1 ≡ is_some (read snapshot.now (Some txid) (versions_of older.now self.now)) }
+    {
+        let has_own = match self.newest(older, None) {
+            Some(version) => version.txid == txid,
+            None => false,
+        };
+        let own = if has_own { Some(txid) } else { None };
+        (has_own, self.read(older, snapshot, own).is_some())
     }
 
     /// Replaces the transaction's version, or adds it.

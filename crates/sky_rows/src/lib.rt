@@ -8,6 +8,7 @@
 #![tactic(auto)]
 
 mod kept;
+mod log;
 mod older;
 mod rows;
 mod table;

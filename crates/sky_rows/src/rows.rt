@@ -1,4 +1,4 @@
-ghost use Rattle.std.specs.Prelude.{◌≡◌, ◌≢◌, ℕ, ◌<◌, true, false, List, [], None, Some, IfSome, OnOk, OnErr};
+ghost use Rattle.std.specs.Prelude.{◌≡◌, ◌≢◌, ℕ, ◌<◌, true, false, List, [], None, Some, IfSome, OnSome, OnOk, OnErr};
 ghost use Rattle.std.specs.Option.{option_copied};
 ghost use Rattle.std.specs.List.Sorted.{IsStrictlySortedBy};
 ghost use Rattle.std.specs.Ordering.{eq_by_cmp};
@@ -94,11 +94,14 @@ impl Rows {
         Some(&slot.kept)
     }
 
-    /// What is kept of the key.
-    pub(crate) fn get(&self, key: &Key) -> Option<&Kept>
-        ensures { option_copied result ≡ lookup (is_at (key_cmp key.now)) (rows_in self.now) }
+    /// What is kept of the key that was found at the place.
+    pub(crate) fn found(&self, place: Option<usize>) -> Option<&Kept>
+        ensures kept { (key : List Val) → place ≡ place_at self.now.places key
+            → option_copied result ≡ lookup (is_at (key_cmp key)) (rows_in self.now) }
+        ensures there { OnSome result ((key : List Val) × (place ≡ place_at self.now.places key)) }
     {
-        self.at(self.place(key)?)
+        let slot = self.slots.get(place?)?;
+        Some(&slot.kept)
     }
 
     /// The place of the key.
@@ -137,22 +140,26 @@ impl Rows {
         }
     }
 
-    /// Puts the version at the key. If its transaction may have one there already, that is looked for and replaced.
+    /// Puts the version at the key, which was found at the place. If its transaction may have one there already, that
+    /// is looked for and replaced.
     pub(crate) fn put(
         &mut self,
         older: &mut Older,
+        place: Option<usize>,
         key: Key,
         version: Version,
         again: bool,
     ) -> Result<(), NoMemory>
+        requires place { place ≡ place_at self.old.places key }
         requires first { again ≡ false → version_of version.txid (versions_at key (all_versions older.old (rows_in self.old))) ≡ None }
         requires own { AreOwn older.old (rows_in self.old) }
         ensures ok { OnOk result
             (all_versions older.new (rows_in self.new) ≡ written version.txid key version.row (all_versions older.old (rows_in self.old))) }
         ensures err { OnErr result (all_versions older.new (rows_in self.new) ≡ all_versions older.old (rows_in self.old)) }
+        ensures stay { OnErr result (self.new.places ≡ self.old.places) }
         ensures own { AreOwn older.new (rows_in self.new) }
     {
-        let Some(place) = self.place(&key) else {
+        let Some(place) = place else {
             return self.insert(key, Kept::first(version));
         };
         let slot = &mut self.slots[place];
@@ -168,6 +175,7 @@ impl Rows {
         requires { place_at self.old.places key ≡ None }
         ensures ok { OnOk result (rows_in self.new ≡ insert_entry key_cmp (rows_in self.old) key kept) }
         ensures err { OnErr result (rows_in self.new ≡ rows_in self.old) }
+        ensures stay { OnErr result (self.new.places ≡ self.old.places) }
     {
         self.slots.reserve(1)?;
         let place = self.slots.vacant_key();

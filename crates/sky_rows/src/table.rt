@@ -1,15 +1,19 @@
-ghost use Rattle.std.specs.Prelude.{◌≡◌, ◌==◌, ◌||◌, not, [], map, take, true, false, None, is_some, IsTrue, IfOk, OnOk, OnErr};
+ghost use Rattle.std.specs.Prelude.{◌≡◌, ◌==◌, ◌||◌, not, List, [], map, take, true, false, None, Some, is_some, is_none, if◌then◌else◌, IsSome, IsTrue, IfOk, OnOk, OnErr};
+ghost use Rattle.std.specs.List.{list_any};
+ghost use Rattle.std.specs.BTreeMap.{is_at};
 ghost use Rattle.std.specs.Option.{option_copied};
 ghost use Rattle.std.specs.BTreeSet.{contains};
 ghost use Rattle.sky_val.specs.Order.{key_cmp};
-ghost use Rattle.sky_val.specs.Entries.{is_in_order};
+ghost use Rattle.sky_val.specs.Entries.{at, is_in_order};
 ghost use Rattle.sky_txid.specs.Snapshot.{sees};
 ghost use Rattle.sky_keys.specs.Versions.{version_of, newest_by, newest_but, read, versions_at, written, forgotten, rows_read, above};
-ghost use Rattle.sky_rows.specs.Table.{forgotten_at};
+ghost use Rattle.sky_val.specs.declared.val.Val.{Val};
+ghost use Rattle.sky_rows.specs.Table.{found, forgotten_at};
 ghost use Rattle.sky_rows.specs.Written.{AllKept};
 ghost use Rattle.sky_rows.specs.Kept.{all_versions, AreOwn};
 ghost use Rattle.sky_rows.specs.Rows.{rows_in};
 
+use crate::log::{Log, list_or_log, log_own, take_logged};
 use crate::older::Older;
 use crate::rows::Rows;
 use crate::written::Written;
@@ -32,29 +36,41 @@ pub struct Table {
     older: Older,
 
     // By it a transaction that has no version at a key need not look through all versions there, and `forget` visits no
-    // key but its own. It records nothing of a transaction that was pruned: that one's version is looked for at the
-    // key, and `forget` visits all keys.
+    // key but its own. Of a transaction that was pruned it knows nothing: its version is looked for at the key, and
+    // `forget` visits all keys.
     written: Written,
+
+    // The keys of the one transaction that `written` doesn't list.
+    log: Option<Log>,
+}
+
+/// What a transaction finds at a key: its place, whether it has a version there, and whether `read` gives it a row.
+#[derive(Clone, Copy)]
+struct Standing {
+    place: Option<usize>,
+    has_own: bool,
+    has_row: bool,
 }
 
 impl Model for Table {
     ghost use Rattle.sky_rows.specs.Table.{TableView};
-    ghost use Rattle.sky_rows.specs.Written.{wrote, AllKept};
+    ghost use Rattle.sky_rows.specs.Written.{wrote, logged, AllKept};
     ghost use Rattle.sky_rows.specs.Kept.{all_versions, AreOwn};
     ghost use Rattle.sky_rows.specs.Rows.{rows_in};
 
     ghost Value = { TableView };
 
-    ghost view = { λ t. record { columns = t.schema; versions = all_versions t.older (rows_in t.rows) } };
+    ghost view = { λ t. record { columns = t.schema; versions = all_versions t.older (rows_in t.rows); places = t.rows.places } };
 
     ghost invariant = { λ t. AreOwn t.older (rows_in t.rows)
-        × AllKept (wrote t.written) (all_versions t.older (rows_in t.rows)) };
+        × AllKept (wrote t.written) (all_versions t.older (rows_in t.rows))
+        × AllKept (logged t.log) (all_versions t.older (rows_in t.rows)) };
 }
 
 impl Table {
     /// A table of these columns, with no rows.
     pub fn new(alloc: Global, schema: Schema) -> Table
-        ensures { result ≡ record { columns = schema; versions = [] } }
+        ensures { result ≡ record { columns = schema; versions = []; places = [] } }
     {
         Table {
             alloc,
@@ -62,6 +78,7 @@ impl Table {
             rows: Rows::new(alloc),
             older: Older::new(alloc),
             written: Written::new(alloc),
+            log: None,
         }
     }
 
@@ -72,6 +89,14 @@ impl Table {
         &self.schema
     }
 
+    /// The place of the key, if it has a version. It is found there until the table changes.
+    pub fn find(&self, key: &Key) -> Option<usize>
+        ensures place { result ≡ found self.now key.now }
+        ensures known { is_some result ≡ is_some (at key.now self.now.versions) }
+    {
+        self.rows.place(key)
+    }
+
     /// The row at the key, by the visibility rule: the reading transaction's own version if it wrote the key, which its
     /// snapshot doesn't see; or else the newest version that the snapshot sees. No test for a commit is needed: a
     /// snapshot sees only ended transactions, and callers `forget` one that is rolled back. They let one transaction at
@@ -80,7 +105,22 @@ impl Table {
         ensures { option_copied result
             ≡ read snapshot.now own (versions_at key.now self.now.versions) }
     {
-        let kept = self.rows.get(key)?;
+        self.read_at(self.find(key), key, snapshot, own)
+    }
+
+    /// The same at a key that was found.
+    pub fn read_at(
+        &self,
+        place: Option<usize>,
+        key: &Key,
+        snapshot: &Snapshot,
+        own: Option<u64>,
+    ) -> Option<&Row>
+        requires { place ≡ found self.now key.now }
+        ensures { option_copied result
+            ≡ read snapshot.now own (versions_at key.now self.now.versions) }
+    {
+        let kept = self.rows.found(place)?;
         kept.read(&self.older, snapshot, self.written.writer(own, key))
     }
 
@@ -88,25 +128,26 @@ impl Table {
     pub fn newest(&self, key: &Key, except: Option<u64>) -> Option<&Version>
         ensures { option_copied result ≡ newest_but except (versions_at key.now self.now.versions) }
     {
-        self.rows.get(key)?.newest(&self.older, except)
+        self.rows.found(self.find(key))?.newest(&self.older, except)
     }
 
-    /// The newest version at the key that the snapshot sees.
-    pub fn newest_seen(&self, key: &Key, snapshot: &Snapshot) -> Option<&Version>
-        ensures { option_copied result
-            ≡ newest_by (sees snapshot.now) (versions_at key.now self.now.versions) }
+    /// The newest version that the snapshot sees at the key that was found.
+    pub fn newest_seen_at(&self, place: Option<usize>, snapshot: &Snapshot) -> Option<&Version>
+        ensures { (key : List Val) → place ≡ found self.now key
+            → option_copied result ≡ newest_by (sees snapshot.now) (versions_at key self.now.versions) }
     {
-        self.rows.get(key)?.newest_seen(&self.older, snapshot)
+        self.rows.found(place)?.newest_seen(&self.older, snapshot)
     }
 
-    /// Whether the transaction has a version at the key.
-    pub fn has_own(&self, key: &Key, txid: u64) -> bool
+    /// Whether the transaction has a version at the key, which was found.
+    pub fn has_own_at(&self, place: Option<usize>, key: &Key, txid: u64) -> bool
+        requires { place ≡ found self.now key.now }
         ensures { result ≡ is_some (version_of txid (versions_at key.now self.now.versions)) }
     {
         if !self.written.has(txid, key) {
             return false;
         }
-        match self.rows.get(key) {
+        match self.rows.found(place) {
             Some(kept) => kept.own(&self.older, txid).is_some(),
             None => false,
         }
@@ -166,36 +207,117 @@ impl Table {
     /// already, this takes its place.
     pub fn write(&mut self, txid: u64, key: Key, row: Option<Row>) -> Result<(), NoMemory>
         ensures ok { OnOk result
-            (self.new ≡ record self.old { versions = written txid key row self.old.versions }) }
+            (self.new ≡ record self.old { versions = written txid key row self.old.versions; places = self.new.places }) }
+        ensures err { OnErr result (self.new ≡ self.old) }
+    {
+        let place = self.find(&key);
+        self.write_at(place, txid, key, row)
+    }
+
+    /// The same at a key that was found.
+    pub fn write_at(
+        &mut self,
+        place: Option<usize>,
+        txid: u64,
+        key: Key,
+        row: Option<Row>,
+    ) -> Result<(), NoMemory>
+        requires { place ≡ found self.old key }
+        ensures ok { OnOk result
+            (self.new ≡ record self.old { versions = written txid key row self.old.versions; places = self.new.places }) }
         ensures err { OnErr result (self.new ≡ self.old) }
     {
         let again = self.written.add(self.alloc, txid, &key)?;
+        log_own(&mut self.log, self.alloc, txid, &key)?;
         self.rows
-            .put(&mut self.older, key, Version { txid, row }, again)
+            .put(&mut self.older, place, key, Version { txid, row }, again)
     }
 
     /// The same for a transaction that ends with it while no other one runs. The index lists no key of
     /// it, and forgets those of all before it, as `prune` does: if one of these does run, what it wrote
     /// is then looked for in the versions, and `forget` goes through all keys for it.
-    pub fn write_last(&mut self, txid: u64, key: Key, row: Option<Row>) -> Result<(), NoMemory>
+    pub fn write_last_at(
+        &mut self,
+        place: Option<usize>,
+        txid: u64,
+        key: Key,
+        row: Option<Row>,
+    ) -> Result<(), NoMemory>
+        requires { place ≡ found self.old key }
         ensures ok { OnOk result
-            (self.new ≡ record self.old { versions = written txid key row self.old.versions }) }
+            (self.new ≡ record self.old { versions = written txid key row self.old.versions; places = self.new.places }) }
         ensures err { OnErr result (self.new ≡ self.old) }
     {
         let Some(next) = txid.checked_add(1) else {
-            return self.write(txid, key, row);
+            return self.write_at(place, txid, key, row);
         };
         let again = self.written.has(txid, &key);
+        log_own(&mut self.log, self.alloc, txid, &key)?;
         self.written.prune(next);
         self.rows
-            .put(&mut self.older, key, Version { txid, row }, again)
+            .put(&mut self.older, place, key, Version { txid, row }, again)
+    }
+
+    /// The same as `write`, but only if the key has a row before, as `read` gives it to the transaction, or, if `needs_row`
+    /// is false, only if it has none. Answers whether it was written. The key is found once, and isn't looked for among
+    /// those that the transaction wrote.
+    pub fn write_if(
+        &mut self,
+        txid: u64,
+        snapshot: &Snapshot,
+        key: Key,
+        row: Option<Row>,
+        needs_row: bool,
+    ) -> Result<bool, NoMemory>
+        requires last { let versions = versions_at key self.old.versions in
+            IsSome (version_of txid versions) → newest_but None versions ≡ version_of txid versions }
+        ensures made { let before = read snapshot.now (Some txid) (versions_at key self.old.versions) in
+            IfOk result (λ made. made ≡ (if needs_row then is_some before else is_none before)) }
+        ensures ok { IfOk result (λ made. made ≡ true
+            → self.new ≡ record self.old { versions = written txid key row self.old.versions; places = self.new.places }) }
+        ensures unmade { IfOk result (λ made. made ≡ false → self.new ≡ self.old) }
+        ensures err { OnErr result (self.new ≡ self.old) }
+    {
+        let at = self.standing(&key, snapshot, txid);
+        if at.has_row != needs_row {
+            return Ok(false);
+        }
+        let logged = key.copy(self.alloc)?;
+        list_or_log(&mut self.written, &mut self.log, self.alloc, txid, logged)?;
+        let version = Version { txid, row };
+        self.rows
+            .put(&mut self.older, at.place, key, version, at.has_own)?;
+        Ok(true)
+    }
+
+    /// What the transaction finds at the key, if only the newest version may be its own.
+    #[inline(always)]
+    fn standing(&self, key: &Key, snapshot: &Snapshot, txid: u64) -> Standing
+        requires last { let versions = versions_at key.now self.now.versions in
+            IsSome (version_of txid versions) → newest_but None versions ≡ version_of txid versions }
+        ensures place { result.place ≡ found self.now key.now }
+        ensures own { result.has_own ≡ is_some (version_of txid (versions_at key.now self.now.versions)) }
+        ensures row { result.has_row ≡ is_some (read snapshot.now (Some txid) (versions_at key.now self.now.versions)) }
+    {
+        let place = self.find(key);
+        let (has_own, has_row) = match self.rows.found(place) {
+            Some(kept) => kept.standing(&self.older, snapshot, txid),
+            None => (false, false),
+        };
+        Standing {
+            place,
+            has_own,
+            has_row,
+        }
     }
 
     /// Removes all versions of the transaction. A key that is left without any is removed too.
     pub fn forget(&mut self, txid: u64)
-        ensures { self.new ≡ record self.old { versions = forgotten txid self.old.versions } }
+        ensures { self.new ≡ record self.old { versions = forgotten txid self.old.versions; places = self.new.places } }
     {
-        if !self.written.tells(txid) {
+        if let Some(keys) = take_logged(&mut self.log, txid) {
+            forget_logged(&mut self.rows, &mut self.older, &keys, txid);
+        } else if !self.written.tells(txid) {
             forget_everywhere(&mut self.rows, &mut self.older, txid);
         } else if let Some(keys) = self.written.take(txid) {
             forget_all(&mut self.rows, &mut self.older, &keys, txid);
@@ -215,6 +337,18 @@ impl Table {
 /// Removes the transaction's versions, which are all at these keys, and the keys with their last.
 fn forget_all(rows: &mut Rows, older: &mut Older, keys: &BTreeSet<Key>, txid: u64)
     requires kept { AllKept (λ t key. not (t == txid) || contains key_cmp keys.now key) (all_versions older.old (rows_in rows.old)) }
+    requires own { AreOwn older.old (rows_in rows.old) }
+    ensures entries { all_versions older.new (rows_in rows.new) ≡ forgotten txid (all_versions older.old (rows_in rows.old)) }
+    ensures own { AreOwn older.new (rows_in rows.new) }
+{
+    for key in keys {
+        forget_at(rows, older, key, txid);
+    }
+}
+
+/// The same, if the keys were logged.
+fn forget_logged(rows: &mut Rows, older: &mut Older, keys: &[Key], txid: u64)
+    requires kept { AllKept (λ t key. not (t == txid) || list_any (is_at (key_cmp key)) keys.now) (all_versions older.old (rows_in rows.old)) }
     requires own { AreOwn older.old (rows_in rows.old) }
     ensures entries { all_versions older.new (rows_in rows.new) ≡ forgotten txid (all_versions older.old (rows_in rows.old)) }
     ensures own { AreOwn older.new (rows_in rows.new) }

@@ -1,17 +1,20 @@
-ghost use Rattle.std.specs.Prelude.{◌≡◌, ℕ, ◌<◌, true, false, not, nat_lt, ◌==◌, List, IfOk, OnOk, slice_get, option_map};
+ghost use Rattle.std.specs.Prelude.{◌≡◌, ℕ, ◌<◌, true, false, not, nat_lt, ◌==◌, ◌||◌, List, IfOk, OnOk, slice_get, option_map};
 ghost use Rattle.std.specs.Ordering.{nat_cmp};
+ghost use Rattle.std.specs.Option.{option_map_or};
 ghost use Rattle.std.specs.BTreeMap.{get};
-ghost use Rattle.sky_rows.specs.Written.{wrote, writer};
+ghost use Rattle.sky_rows.specs.Written.{is_unlisted, wrote, writer};
 ghost use Rattle.sky_val.specs.declared.val.Val.{Val};
 
 use sky_val::{Key, NoMemory};
 use std::alloc::Global;
 use std::collections::{BTreeMap, BTreeSet};
 
-/// Which keys each transaction wrote, of those from one on. Any earlier one may have written every key.
+/// Which keys each transaction wrote, of those from `from` on. The keys of one of them, the unlisted one, aren't known.
+/// So this one, and any before `from`, may have written every key.
 #[derive(Debug, Drop)]
 pub(crate) struct Written {
     from: u64,
+    unlisted: Option<u64>,
     keys: BTreeMap<u64, BTreeSet<Key>>,
 }
 
@@ -22,15 +25,41 @@ impl Written {
     {
         Written {
             from: 0,
+            unlisted: None,
             keys: BTreeMap::new(alloc),
         }
     }
 
     /// Whether it is known which keys the transaction wrote.
     pub(crate) fn tells(&self, txid: u64) -> bool
-        ensures { result ≡ not (nat_lt txid self.now.from) }
+        ensures { result ≡ not (nat_lt txid self.now.from || is_unlisted self.now.unlisted txid) }
     {
-        self.from <= txid
+        self.from <= txid && self.unlisted != Some(txid)
+    }
+
+    /// From now on the transaction's keys aren't listed, unless some are already, or another transaction that wasn't pruned
+    /// is unlisted. Answers whether this begins here.
+    pub(crate) fn unlist(&mut self, txid: u64) -> bool
+        ensures none { (q : List Val) → result ≡ true → wrote self.old txid q ≡ false }
+        ensures unlisted { (q : List Val) → result ≡ true → wrote self.new txid q ≡ true }
+        ensures kept { (t : ℕ) (q : List Val)
+            → wrote self.new t q ≡ false → wrote self.old t q ≡ false }
+    {
+        if !self.tells(txid) || self.keys.get(&txid).is_some() || self.has_unlisted() {
+            return false;
+        }
+        self.unlisted = Some(txid);
+        true
+    }
+
+    /// Whether a transaction that wasn't pruned is unlisted.
+    fn has_unlisted(&self) -> bool
+        ensures { result ≡ option_map_or (λ t. not (nat_lt t self.now.from)) self.now.unlisted false }
+    {
+        match self.unlisted {
+            Some(txid) => self.from <= txid,
+            None => false,
+        }
     }
 
     /// Whether the transaction may have written the key.

@@ -23,7 +23,7 @@ use Rattle.sky_run.specs.Ends.{Why, Ends, IsBadLine, IsCut, end_of}
 -- what was written and gathered, with what the rest of the script prints, is what the script prints
 prints_all : {world : World} {n taken : ℕ} {pending gathered : List ℕ} {source first held : Option (List ℕ)} {bytes : List ℕ} (left : List ℕ)
     → (g : GoesOn world n taken pending gathered source first held bytes) → g.left ≡ left
-    → (g.written ++ gathered) ++ transcript_from (past_of g.calls) taken (pending ++ left) ≡ transcript bytes
+    → (g.sent ++ gathered) ++ transcript_from (past_of g.calls) taken (pending ++ left) ≡ transcript bytes
 prints_all left g same = sym (ap transcript (g.bytes_are ∙ ap (λ l. g.read ++ l) same) ∙ g.prints left)
 
 is_bad_all : {world : World} {n taken : ℕ} {pending gathered : List ℕ} {source first held : Option (List ℕ)} {bytes : List ℕ} (left : List ℕ)
@@ -35,16 +35,16 @@ pub Ends-whole : {world : World} {n taken : ℕ} {pending gathered : List ℕ} {
     → GoesOn world n taken pending gathered source first held bytes → source ≡ Some left → pending ++ left ≡ [] → after ≡ Some [] → Ends Whole after first held gathered bytes
 Ends-whole {n = n} {taken = taken} {gathered = gathered} after left g told nothing at_end =
     let same : g.left ≡ left = cc (g.told, told) in
-    let whole = ap (λ u. (g.written ++ gathered) ++ transcript_from (past_of g.calls) taken u) (sym nothing) ∙ prints_all left g same in
+    let whole = ap (λ u. (g.sent ++ gathered) ++ transcript_from (past_of g.calls) taken u) (sym nothing) ∙ prints_all left g same in
     record {
-      written = g.written;
+      sent = g.sent;
       rest = [];
       appends = g.appends;
       begins = whole;
       why = record {
         at_end = at_end;
         none_bad = is_bad_all left g same ∙ ap (λ u. bad_line_from n taken u) nothing;
-        printed = sym (append-nil (g.written ++ gathered)) ∙ whole;
+        printed = sym (append-nil (g.sent ++ gathered)) ∙ whole;
       };
     }
 
@@ -53,13 +53,13 @@ pub Ends-bad : {world : World} {n taken : ℕ} {pending gathered : List ℕ} {so
     → GoesOn world n taken pending gathered source first held bytes → source ≡ Some left → StopsHere n taken cause (pending ++ left) → Ends (Bad n cause) after first held gathered bytes
 Ends-bad {n = n} {taken = taken} {gathered = gathered} after left cause g told stops =
     let same : g.left ≡ left = cc (g.told, told) in
-    let whole = ap (λ text. (g.written ++ gathered) ++ text) (sym (stops.says_nothing (past_of g.calls))) ∙ prints_all left g same in
+    let whole = ap (λ text. (g.sent ++ gathered) ++ text) (sym (stops.says_nothing (past_of g.calls))) ∙ prints_all left g same in
     record {
-      written = g.written;
+      sent = g.sent;
       rest = [];
       appends = g.appends;
       begins = whole;
-      why = record { is_bad = is_bad_all left g same ∙ stops.is_bad; printed = sym (append-nil (g.written ++ gathered)) ∙ whole };
+      why = record { is_bad = is_bad_all left g same ∙ stops.is_bad; printed = sym (append-nil (g.sent ++ gathered)) ∙ whole };
     }
 
 -- bytes without a line feed are good so far
@@ -72,7 +72,7 @@ good_unended n taken (b ∷ bytes) unbroken fits m cause is =
 pub Ends-read : {world : World} {n taken : ℕ} {unread gathered : List ℕ} {after first held : Option (List ℕ)} {bytes : List ℕ}
     → GoesOn world n taken unread gathered after first held bytes → IsUnbroken unread → length unread ≤ most_in_line → Ends Read after first held gathered bytes
 Ends-read {n = n} {taken = taken} {unread = unread} {gathered = gathered} g unbroken fits = record {
-  written = g.written;
+  sent = g.sent;
   rest = transcript_from (past_of g.calls) taken (unread ++ g.left);
   appends = g.appends;
   begins = prints_all g.left g refl;
@@ -83,8 +83,8 @@ Ends-read {n = n} {taken = taken} {unread = unread} {gathered = gathered} g unbr
     bytes_are = g.bytes_are;
     good = λ m cause is. good_unended n taken unread unbroken fits m cause
         (sym (ap bad_line (sym (append-nil g.read)) ∙ g.is_bad [] ∙ ap (λ u. bad_line_from n taken u) (append-nil unread)) ∙ is);
-    printed = sym (ap transcript (sym (append-nil g.read)) ∙ g.prints [] ∙ ap (λ u. (g.written ++ gathered) ++ transcript_from (past_of g.calls) taken u) (append-nil unread)
-        ∙ ap (λ text. (g.written ++ gathered) ++ text) (transcript_from-unbroken (past_of g.calls) taken unread unbroken) ∙ append-nil (g.written ++ gathered));
+    printed = sym (ap transcript (sym (append-nil g.read)) ∙ g.prints [] ∙ ap (λ u. (g.sent ++ gathered) ++ transcript_from (past_of g.calls) taken u) (append-nil unread)
+        ∙ ap (λ text. (g.sent ++ gathered) ++ text) (transcript_from-unbroken (past_of g.calls) taken unread unbroken) ∙ append-nil (g.sent ++ gathered));
   };
 }
 
@@ -92,7 +92,7 @@ Ends-read {n = n} {taken = taken} {unread = unread} {gathered = gathered} g unbr
 pub Ends-no_memory : {world : World} {n taken : ℕ} {pending gathered : List ℕ} {source first held : Option (List ℕ)} {bytes : List ℕ} (after : Option (List ℕ))
     → GoesOn world n taken pending gathered source first held bytes → Ends NoMemory after first held gathered bytes
 Ends-no_memory {n = n} {taken = taken} {pending = pending} after g = record {
-  written = g.written;
+  sent = g.sent;
   rest = transcript_from (past_of g.calls) taken (pending ++ g.left);
   appends = g.appends;
   begins = prints_all g.left g refl;
@@ -103,11 +103,11 @@ Ends-no_memory {n = n} {taken = taken} {pending = pending} after g = record {
 pub Ends-written : {end : End} {after first held : Option (List ℕ)} {gathered bytes : List ℕ} (new_held : Option (List ℕ))
     → Ends end after first held gathered bytes → Appends held new_held gathered → Ends end after first new_held [] bytes
 Ends-written {end = end} {after = after} {first = first} {held = held} {gathered = gathered} {bytes = bytes} new_held e appends =
-    let same = sym (append-nil (e.written ++ gathered)) in
+    let same = sym (append-nil (e.sent ++ gathered)) in
     record {
-      written = e.written ++ gathered;
+      sent = e.sent ++ gathered;
       rest = e.rest;
-      appends = Appends-both first held new_held e.written gathered e.appends appends;
+      appends = Appends-both first held new_held e.sent gathered e.appends appends;
       begins = ap (λ text. text ++ e.rest) (sym same) ∙ e.begins;
       why = subst (λ text. Why end after text bytes) same e.why;
     }
@@ -116,14 +116,14 @@ Ends-written {end = end} {after = after} {first = first} {held = held} {gathered
 part : {end : End} {after first held : Option (List ℕ)} {gathered bytes : List ℕ} (cut : End) (new_after new_held : Option (List ℕ))
     → Ends end after first held gathered bytes → AppendsPrefix held new_held gathered → ((text : List ℕ) → Why cut new_after text bytes) → Ends cut new_after first new_held [] bytes
 part {first = first} {held = held} {gathered = gathered} cut new_after new_held e prefix why = record {
-  written = e.written ++ prefix.got;
+  sent = e.sent ++ prefix.got;
   rest = prefix.rest ++ e.rest;
-  appends = Appends-both first held new_held e.written prefix.got e.appends prefix.appends;
-  begins = ap (λ text. text ++ (prefix.rest ++ e.rest)) (append-nil (e.written ++ prefix.got))
-      ∙ sym (append_assoc (e.written ++ prefix.got) prefix.rest e.rest)
-      ∙ ap (λ text. text ++ e.rest) (append_assoc e.written prefix.got prefix.rest ∙ ap (λ text. e.written ++ text) prefix.whole)
+  appends = Appends-both first held new_held e.sent prefix.got e.appends prefix.appends;
+  begins = ap (λ text. text ++ (prefix.rest ++ e.rest)) (append-nil (e.sent ++ prefix.got))
+      ∙ sym (append_assoc (e.sent ++ prefix.got) prefix.rest e.rest)
+      ∙ ap (λ text. text ++ e.rest) (append_assoc e.sent prefix.got prefix.rest ∙ ap (λ text. e.sent ++ text) prefix.whole)
       ∙ e.begins;
-  why = why ((e.written ++ prefix.got) ++ []);
+  why = why ((e.sent ++ prefix.got) ++ []);
 }
 
 pub Ends-cut : {end : End} {after first held : Option (List ℕ)} {gathered bytes : List ℕ} (cut : End) (new_after new_held : Option (List ℕ))
@@ -188,4 +188,4 @@ GoesOn-fault faults.NoMemory old new after starts kept g = Ends-no_memory after 
 
 -- what the sink got is a prefix of what the script prints
 pub Ends-prefix : {end : End} {after first held : Option (List ℕ)} {bytes : List ℕ} → Ends end after first held [] bytes → AppendsPrefix first held (transcript bytes)
-Ends-prefix e = record { got = e.written; rest = e.rest; appends = e.appends; whole = ap (λ text. text ++ e.rest) (sym (append-nil e.written)) ∙ e.begins }
+Ends-prefix e = record { got = e.sent; rest = e.rest; appends = e.appends; whole = ap (λ text. text ++ e.rest) (sym (append-nil e.sent)) ∙ e.begins }

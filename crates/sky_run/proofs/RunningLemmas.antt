@@ -25,7 +25,7 @@ GoesOn-start world source first bytes stands told = record {
   in_form = All-nil IsCallInForm;
   read = [];
   left = bytes;
-  written = [];
+  sent = [];
   stands = stands;
   told = told;
   bytes_are = refl;
@@ -42,12 +42,12 @@ GoesOn-written {n = n} {taken = taken} {pending = pending} {gathered = gathered}
   in_form = g.in_form;
   read = g.read;
   left = g.left;
-  written = g.written ++ gathered;
+  sent = g.sent ++ gathered;
   stands = g.stands;
   told = g.told;
   bytes_are = g.bytes_are;
-  appends = Appends-both first held new_held g.written gathered g.appends appends;
-  prints = λ more. g.prints more ∙ ap (λ text. text ++ transcript_from (past_of g.calls) taken (pending ++ more)) (sym (append-nil (g.written ++ gathered)));
+  appends = Appends-both first held new_held g.sent gathered g.appends appends;
+  prints = λ more. g.prints more ∙ ap (λ text. text ++ transcript_from (past_of g.calls) taken (pending ++ more)) (sym (append-nil (g.sent ++ gathered)));
   is_bad = g.is_bad;
 }
 
@@ -62,13 +62,13 @@ GoesOn-read {n = n} {taken = taken} {pending = pending} {gathered = gathered} {s
       in_form = g.in_form;
       read = g.read ++ got;
       left = rest;
-      written = g.written;
+      sent = g.sent;
       stands = g.stands;
       told = after_is;
       bytes_are = g.bytes_are ∙ ap (λ l. g.read ++ l) (same ∙ left_is) ∙ sym (append_assoc g.read got rest);
       appends = g.appends;
       prints = λ more. ap transcript (append_assoc g.read got more) ∙ g.prints (got ++ more)
-          ∙ ap (λ u. (g.written ++ gathered) ++ transcript_from (past_of g.calls) taken u) (sym (append_assoc pending got more) ∙ ap (λ u. u ++ more) unread_is);
+          ∙ ap (λ u. (g.sent ++ gathered) ++ transcript_from (past_of g.calls) taken u) (sym (append_assoc pending got more) ∙ ap (λ u. u ++ more) unread_is);
       is_bad = λ more. ap bad_line (append_assoc g.read got more) ∙ g.is_bad (got ++ more)
           ∙ ap (λ u. bad_line_from n taken u) (sym (append_assoc pending got more) ∙ ap (λ u. u ++ more) unread_is);
     }
@@ -80,8 +80,8 @@ Called-text {new = new} {call = call} {gathered = gathered} calls in_form stands
     ∙ ap (λ (w : World). gathered ++ printed (w.sessions ++ call.who ∷ []) c.replies) (c.steps.stands calls in_form stands)
     ∙ ap (λ replies. gathered ++ printed (session_names (after (past_of calls) call) ++ call.who ∷ []) replies) (c.steps.answered calls in_form stands)
 
-joined : (written gathered text rest : List ℕ) → (written ++ gathered) ++ (text ++ rest) ≡ (written ++ (gathered ++ text)) ++ rest
-joined written gathered text rest = sym (append_assoc (written ++ gathered) text rest) ∙ ap (λ front. front ++ rest) (append_assoc written gathered text)
+joined : (sent gathered text rest : List ℕ) → (sent ++ gathered) ++ (text ++ rest) ≡ (sent ++ (gathered ++ text)) ++ rest
+joined sent gathered text rest = sym (append_assoc (sent ++ gathered) text rest) ∙ ap (λ front. front ++ rest) (append_assoc sent gathered text)
 
 -- the call of a line is answered
 GoesOn-asks : {old new : World} {n : ℕ} {gathered more_gathered : List ℕ} {source first held : Option (List ℕ)} {bytes : List ℕ} (taken : ℕ) (line pending : List ℕ) (call : Call)
@@ -94,16 +94,16 @@ GoesOn-asks {n = n} {gathered = gathered} taken line pending call g says called 
       in_form = All-cons IsCallInForm call g.calls called.in_form g.in_form;
       read = g.read;
       left = g.left;
-      written = g.written;
+      sent = g.sent;
       stands = called.steps.stands g.calls g.in_form g.stands;
       told = g.told;
       bytes_are = g.bytes_are;
       appends = g.appends;
       prints = λ more. g.prints more
-          ∙ ap (λ u. (g.written ++ gathered) ++ transcript_from past taken u) (append_assoc line (10 ∷ pending) more)
-          ∙ ap (λ text. (g.written ++ gathered) ++ text) (transcript_from-asks past taken line (pending ++ more) call unbroken says)
-          ∙ joined g.written gathered (call_text past call) (transcript_from (after past call) (taken + length line + 1) (pending ++ more))
-          ∙ ap (λ front. (g.written ++ front) ++ transcript_from (after past call) (taken + length line + 1) (pending ++ more)) (sym (Called-text g.calls g.in_form g.stands called));
+          ∙ ap (λ u. (g.sent ++ gathered) ++ transcript_from past taken u) (append_assoc line (10 ∷ pending) more)
+          ∙ ap (λ text. (g.sent ++ gathered) ++ text) (transcript_from-asks past taken line (pending ++ more) call unbroken says)
+          ∙ joined g.sent gathered (call_text past call) (transcript_from (after past call) (taken + length line + 1) (pending ++ more))
+          ∙ ap (λ front. (g.sent ++ front) ++ transcript_from (after past call) (taken + length line + 1) (pending ++ more)) (sym (Called-text g.calls g.in_form g.stands called));
       is_bad = λ more. g.is_bad more
           ∙ ap (λ u. bad_line_from n taken u) (append_assoc line (10 ∷ pending) more)
           ∙ bad_line_from-asks n taken line (pending ++ more) call unbroken says;
@@ -120,15 +120,15 @@ GoesOn-idle {n = n} {gathered = gathered} taken line pending g says same_world s
       in_form = g.in_form;
       read = g.read;
       left = g.left;
-      written = g.written;
+      sent = g.sent;
       stands = same_world ∙ g.stands;
       told = g.told;
       bytes_are = g.bytes_are;
       appends = g.appends;
       prints = λ more. g.prints more
-          ∙ ap (λ u. (g.written ++ gathered) ++ transcript_from past taken u) (append_assoc line (10 ∷ pending) more)
-          ∙ ap (λ text. (g.written ++ gathered) ++ text) (transcript_from-idle past taken line (pending ++ more) unbroken says)
-          ∙ ap (λ last. (g.written ++ last) ++ transcript_from past (taken + length line + 1) (pending ++ more)) (sym same_gathered);
+          ∙ ap (λ u. (g.sent ++ gathered) ++ transcript_from past taken u) (append_assoc line (10 ∷ pending) more)
+          ∙ ap (λ text. (g.sent ++ gathered) ++ text) (transcript_from-idle past taken line (pending ++ more) unbroken says)
+          ∙ ap (λ last. (g.sent ++ last) ++ transcript_from past (taken + length line + 1) (pending ++ more)) (sym same_gathered);
       is_bad = λ more. g.is_bad more
           ∙ ap (λ u. bad_line_from n taken u) (append_assoc line (10 ∷ pending) more)
           ∙ bad_line_from-idle n taken line (pending ++ more) unbroken says;

@@ -14,7 +14,7 @@ pub PrintsWhole-ends : {after held new_held : Option (List ℕ)} {bytes : List �
 PrintsWhole-ends {held = held} {new_held = new_held} e = record {
   at_end = e.why.at_end;
   none_bad = e.why.none_bad;
-  printed = subst (Appends held new_held) (sym (append-nil e.written) ∙ e.why.printed) e.appends;
+  printed = subst (Appends held new_held) (sym (append-nil e.sent) ∙ e.why.printed) e.appends;
 }
 
 pub TellsBadLine-ends : {after held new_held : Option (List ℕ)} {bytes : List ℕ} (line : ℕ) (cause : Cause) (err new_err : Option (List ℕ))
@@ -23,7 +23,7 @@ TellsBadLine-ends {held = held} {new_held = new_held} line cause err new_err e t
   line = line;
   cause = cause;
   is_bad = e.why.is_bad;
-  printed = subst (Appends held new_held) (sym (append-nil e.written) ∙ e.why.printed) e.appends;
+  printed = subst (Appends held new_held) (sym (append-nil e.sent) ∙ e.why.printed) e.appends;
   told = told;
 }
 
@@ -38,7 +38,7 @@ PrintsGiven-ends {held = held} {new_held = new_held} e = record {
   after_is = e.why.after_is;
   bytes_are = e.why.bytes_are;
   good = e.why.good;
-  printed = subst (Appends held new_held) (sym (append-nil e.written) ∙ e.why.printed) e.appends;
+  printed = subst (Appends held new_held) (sym (append-nil e.sent) ∙ e.why.printed) e.appends;
 }
 
 -- without a fault the script decides, unless memory runs out

@@ -45,11 +45,11 @@ Why NoMemory after text bytes = ⊤
 
 -- the run ended: what the sink got since it held `first`, with what is gathered, begins what the script prints
 pub record Ends (end : End) (after first held : Option (List ℕ)) (gathered bytes : List ℕ) : Type 0 where
-  pub written : List ℕ
+  pub sent : List ℕ
   pub rest : List ℕ
-  pub appends : Appends first held written
-  pub begins : (written ++ gathered) ++ rest ≡ transcript bytes
-  pub why : Why end after (written ++ gathered) bytes
+  pub appends : Appends first held sent
+  pub begins : (sent ++ gathered) ++ rest ≡ transcript bytes
+  pub why : Why end after (sent ++ gathered) bytes
 
 -- the nth line is bad by what it says, or memory ran out
 abbrev pub IsBadLine : End → ℕ → Said → Type 0

@@ -18,13 +18,13 @@ pub record GoesOn (world : World) (n taken : ℕ) (pending gathered : List ℕ) 
   pub calls : List Call
   pub read : List ℕ
   pub left : List ℕ
-  pub written : List ℕ
+  pub sent : List ℕ
   pub in_form : All IsCallInForm calls
   pub stands : world ≡ world_of (past_of calls)
   pub told : source ≡ Some left
   pub bytes_are : bytes ≡ read ++ left
-  pub appends : Appends first held written
-  pub prints : (more : List ℕ) → transcript (read ++ more) ≡ (written ++ gathered) ++ transcript_from (past_of calls) taken (pending ++ more)
+  pub appends : Appends first held sent
+  pub prints : (more : List ℕ) → transcript (read ++ more) ≡ (sent ++ gathered) ++ transcript_from (past_of calls) taken (pending ++ more)
   pub is_bad : (more : List ℕ) → bad_line (read ++ more) ≡ bad_line_from n taken (pending ++ more)
 
 -- what a line says that isn't too long and doesn't end too late

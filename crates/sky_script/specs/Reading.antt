@@ -3,7 +3,7 @@ use Rattle.std.specs.Prelude.{◌≡◌, ℕ, ◌-◌, ◌<◌, nat_lt, ◌==◌
 use Rattle.sky_model.specs.declared.stmt.Stmt.{Stmt}
 use Rattle.sky_model.specs.declared.line.Fixed.{Fixed}
 use Rattle.sky_model.specs.Kinds.{Kind, Of}
-use Rattle.sky_model.specs.Grammar.{GrammarRow, one, some_last, some_until, all_forms, named_form, goes_on, reads}
+use Rattle.sky_model.specs.Grammar.{GrammarRow, one, some_last, some_until, all_forms, named_form, reads_on, reads}
 use Rattle.sky_script.specs.declared.cause.LineCause.{LineCause}
 use Rattle.sky_script.specs.declared.cause.LineCause.TheVariants.{NotUtf8, BadWord, NoMemory}
 use Rattle.sky_script.specs.Unread.{Unread}
@@ -71,4 +71,4 @@ of_long = filter (λ form. nat_lt 12 (length form.0)) all_forms
 
 -- a result is what these forms say of the words that are left, after this first word
 unfoldable pub AnswersAmong : Result Stmt LineCause → (first : List ℕ) → List (List ℕ × GrammarRow) → Unread → Type 0
-AnswersAmong r first forms at = IsAnswer r (goes_on (named_form first forms) (at.number - 1) (λ rows. reads rows at.number at.left))
+AnswersAmong r first forms at = IsAnswer r (reads_on (named_form first forms) (at.number - 1) (λ rows. reads rows at.number at.left))

@@ -65,12 +65,13 @@ pub(crate) fn insert_key<G: WriteGate>(
         return wait(state, who, &key, attempt, holder, step);
     }
     let now = state.snapshot_now()?;
-    if state.has_standing(who, key.table, &key.key, &now) {
+    let place = state.find(key.table, &key.key);
+    if state.has_standing(who, key.table, &key.key, place, &now) {
         return Err(Stop::Refused(Refusal::Duplicate));
     }
     let row = row.copy(state.alloc())?;
     let txid = tell_write(state, who, &key, None, Some(&row), gate, &mut step.effects)?;
-    Ok(write_key(state, who, txid, key, Some(row), step)?)
+    Ok(write_key(state, who, txid, key, place, Some(row), step)?)
 }
 
 /// Changes the row that the session sees at the key; if there is none, it changes 0 rows.
@@ -87,14 +88,15 @@ pub(crate) fn change_key<G: WriteGate>(
     ensures { Writes G.rule (state.old, gate.old) (state.new, gate.new) step.old step.new who result (attempts (seen state.old) ((rows_by (seen state.old)).key who key.table key.key) who key.table key.key (Changes sets.now)) }
 {
     let now = state.snapshot_now()?;
-    let Some(old) = state.row_shown(who, key.table, &key.key, &now) else {
+    let place = state.find(key.table, &key.key);
+    let Some(old) = state.row_shown(who, key.table, &key.key, place, &now) else {
         return Ok(step.answer(who, Reply::Number(0))?);
     };
     if let Some(holder) = state.other_holder(who, &key) {
         let attempt = Attempt::Changes(sets.copy(state.alloc())?);
         return wait(state, who, &key, attempt, holder, step);
     }
-    check_seen(state, who, key.table, &key.key, &now)?;
+    check_seen(state, who, key.table, &key.key, place, &now)?;
     let columns = state.schema(key.table).columns();
     let new = with_sets(state.alloc(), columns, sets.as_slice(), old)?;
     let txid = tell_write(
@@ -106,7 +108,7 @@ pub(crate) fn change_key<G: WriteGate>(
         gate,
         &mut step.effects,
     )?;
-    Ok(write_key(state, who, txid, key, Some(new), step)?)
+    Ok(write_key(state, who, txid, key, place, Some(new), step)?)
 }
 
 /// Deletes the row that the session sees at the key; if there is none, it deletes 0 rows.
@@ -122,15 +124,16 @@ pub(crate) fn delete_key<G: WriteGate>(
     ensures { Writes G.rule (state.old, gate.old) (state.new, gate.new) step.old step.new who result (attempts (seen state.old) ((rows_by (seen state.old)).key who key.table key.key) who key.table key.key Deletion) }
 {
     let now = state.snapshot_now()?;
-    let Some(old) = state.row_shown(who, key.table, &key.key, &now) else {
+    let place = state.find(key.table, &key.key);
+    let Some(old) = state.row_shown(who, key.table, &key.key, place, &now) else {
         return Ok(step.answer(who, Reply::Number(0))?);
     };
     if let Some(holder) = state.other_holder(who, &key) {
         return wait(state, who, &key, Attempt::Deletion, holder, step);
     }
-    check_seen(state, who, key.table, &key.key, &now)?;
+    check_seen(state, who, key.table, &key.key, place, &now)?;
     let txid = tell_write(state, who, &key, Some(old), None, gate, &mut step.effects)?;
-    Ok(write_key(state, who, txid, key, None, step)?)
+    Ok(write_key(state, who, txid, key, place, None, step)?)
 }
 
 /// Makes the session's attempt with the key. A statement that resumes comes in here.

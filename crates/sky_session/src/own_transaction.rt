@@ -12,7 +12,7 @@ ghost use Rattle.sky_model.specs.OwnTransaction.{txid_for, begin_of, commit_of, 
 ghost use Rattle.sky_session.specs.Effects.{with_effects};
 ghost use Rattle.sky_model.specs.Gates.{passed_all};
 ghost use Rattle.sky_model.specs.SessionMarks.{Enters, failing, ending};
-ghost use Rattle.sky_state.specs.Seen.{seen};
+ghost use Rattle.sky_state.specs.Seen.{seen, found_in};
 
 use crate::effect::{Effect, Effects};
 use sky_fits::{Block, allow};
@@ -79,6 +79,7 @@ pub(crate) fn begin_own(state: &mut RowState, who: SessionId, txid: u64) -> Resu
     requires { txid_for (seen state.old) who ≡ Ok txid }
     ensures ok { OnOk result (seen state.new ≡ after_part_marks (seen state.old) (begin_of who txid ((seen state.old).session who).txid)) }
     ensures err { OnErr result (seen state.new ≡ seen state.old) }
+    ensures stay { state.new.tables ≡ state.old.tables }
 {
     if state.own_txid(who).is_none() {
         state.began(who)?;
@@ -123,18 +124,21 @@ pub(crate) fn commit_own(
     Ok(())
 }
 
-/// Writes the key in the session's transaction, which has this id or gets it. If the session is in no block, the
-/// transaction then commits. A transaction that is this write alone takes no lock: nobody could wait for it.
+/// Writes the key, which was found at the place, in the session's transaction, which has this id or gets it. If the
+/// session is in no block, the transaction then commits. A transaction that is this write alone takes no lock: nobody
+/// could wait for it.
 pub(crate) fn write_own(
     state: &mut RowState,
     who: SessionId,
     txid: u64,
     key: LockKey,
+    place: Option<usize>,
     row: Option<Row>,
     effects: &mut Effects,
 ) -> Result<(), NoMemory>
     requires id { txid_for (seen state.old) who ≡ Ok txid }
     requires within { key.table < length (seen state.old).tables }
+    requires found { place ≡ found_in state.old key.table key.key }
     requires free { other_holder (seen state.old).holder who key.table key.key ≡ None }
     requires awake { is_waiting who (seen state.old).waiting ≡ false }
     ensures marks { OnOk result (seen state.new ≡ after_part_marks (seen state.old)
@@ -142,12 +146,12 @@ pub(crate) fn write_own(
     ensures told { OnOk result (effects.new ≡ with_effects effects.old (commit_of who txid ((seen state.old).session who).block)) }
 {
     if is_alone(state, who) {
-        state.wrote_alone(who, key, row)?;
+        state.wrote_alone(who, key, place, row)?;
         effects.push(Effect::Committed(txid))?;
         return Ok(());
     }
     begin_own(state, who, txid)?;
-    state.wrote(who, txid, key, row)?;
+    state.wrote(who, txid, key, place, row)?;
     commit_own(state, who, txid, effects)?;
     Ok(())
 }

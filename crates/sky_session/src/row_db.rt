@@ -1,4 +1,4 @@
-ghost use Rattle.std.specs.Prelude.{◌≡◌, ◌↔◌, ◌≢◌, [], true, false, None, Some, Ok, Err, IfOk, OnOk, OnErr, MatchOption, IsTrue, IsSome, Option, List, ◌<◌, is_ok, length, map, take};
+ghost use Rattle.std.specs.Prelude.{◌≡◌, ◌↔◌, ◌≢◌, [], true, false, None, Some, Ok, Err, IfOk, OnOk, OnErr, MatchOption, IsTrue, IsSome, Option, List, ◌<◌, is_ok, is_some, is_none, if◌then◌else◌, length, map, take};
 ghost use Rattle.std.specs.Option.{option_copied};
 ghost use Rattle.sky_val.specs.declared.val.Val.{Val};
 ghost use Rattle.sky_keys.specs.Versions.{above, newest_but, read, rows_read, version_of, versions_at};
@@ -361,6 +361,32 @@ impl RowDb {
     {
         self.state.wrote_work(txid, table, key, row)?;
         Ok(())
+    }
+
+    /// The same, but only if the key has a row before, as the worker's transaction left it or else in the snapshot, or, if
+    /// `needs_row` is false, only if it has none. Answers whether it was written.
+    pub fn worker_write_if(
+        &mut self,
+        txid: u64,
+        snapshot: &Snapshot,
+        table: u32,
+        key: Key,
+        row: Option<Row>,
+        needs_row: bool,
+    ) -> Result<bool, NoMemory>
+        requires within { table < length (seen self.old).tables }
+        requires running { contains txid (seen self.old).workers ≡ true }
+        requires free { (seen self.old).holder table key ≡ None }
+        requires last { let versions = versions_at key ((seen self.old).versions table) in
+            IsSome (version_of txid versions) → newest_but None versions ≡ version_of txid versions }
+        ensures made { let before = read snapshot.now (Some txid) (versions_at key ((seen self.old).versions table)) in
+            IfOk result (λ made. made ≡ (if needs_row then is_some before else is_none before)) }
+        ensures mark { (old : Option (List Val)) → IfOk result (λ made. made ≡ true → seen self.new ≡ after_part (seen self.old) (tabled (wrote of_worker txid table key old row))) }
+        ensures unmade { IfOk result (λ made. made ≡ false → seen self.new ≡ seen self.old) }
+        ensures same { OnErr result (seen self.new ≡ seen self.old) }
+    {
+        self.state
+            .wrote_work_if(txid, snapshot, table, key, row, needs_row)
     }
 
     /// The key's row as the worker's transaction left it, or else in the snapshot.

@@ -23,7 +23,7 @@ ghost use Rattle.sky_val.specs.declared.val.Val.{Val};
 ghost use Rattle.sky_session.specs.Effects.{EffectsView, with_effects};
 ghost use Rattle.sky_session.specs.Gives.{Ran, Writes};
 ghost use Rattle.sky_model.specs.Stops.{StopsAs, Keeps};
-ghost use Rattle.sky_state.specs.Seen.{seen};
+ghost use Rattle.sky_state.specs.Seen.{seen, found_in};
 
 use crate::answer::RowStep;
 use crate::effect::{Effect, Effects};
@@ -92,14 +92,16 @@ pub(crate) fn check_seen(
     who: SessionId,
     table: u32,
     key: &Key,
+    place: Option<usize>,
     now: &Snapshot,
 ) -> Result<(), Refusal>
     requires within { table < length (seen state.now).tables }
+    requires found { place ≡ found_in state.now table key.now }
     requires now { now.now ≡ snapshot_now (seen state.now) }
     ensures ok { OnOk result (is_seen ((rows_by (seen state.now)).key who table key.now) ≡ Ok tt) }
     ensures err { IfErr result (λ refusal. is_seen ((rows_by (seen state.now)).key who table key.now) ≡ Err refusal) }
 {
-    match state.unseen(who, table, key, now) {
+    match state.unseen(who, table, key, place, now) {
         Some(txid) => Err(Refusal::Serialize(txid)),
         None => Ok(()),
     }
@@ -163,17 +165,20 @@ pub(crate) fn tell_write<G: WriteGate>(
     Ok(txid)
 }
 
-/// Makes the write that the gate and the effects have recorded, of a key that no other session holds.
+/// Makes the write that the gate and the effects have recorded, of a key that was found at the place, and that no other
+/// session holds.
 pub(crate) fn write_key(
     state: &mut RowState,
     who: SessionId,
     txid: u64,
     key: LockKey,
+    place: Option<usize>,
     row: Option<Row>,
     step: &mut RowStep,
 ) -> Result<(), NoMemory>
     requires id { txid_for (seen state.old) who ≡ Ok txid }
     requires within { key.table < length (seen state.old).tables }
+    requires found { place ≡ found_in state.old key.table key.key }
     requires free { other_holder (seen state.old).holder who key.table key.key ≡ None }
     requires awake { is_waiting who (seen state.old).waiting ≡ false }
     ensures marks { (old : Option (List Val)) → OnOk result (seen state.new ≡ after_part_marks (seen state.old) (in_own who txid ((seen state.old).session who) (tabled (wrote (of_session who) txid key.table key.key old row) ∷ []))) }
@@ -181,7 +186,7 @@ pub(crate) fn write_key(
         → OnOk result (step.new.effects ≡ with_effects before (in_own who txid ((seen state.old).session who) (tabled (wrote (of_session who) txid key.table key.key old row) ∷ []))) }
     ensures replied { OnOk result (step.new.replies ≡ step.old.replies ++ (who, Number 1) ∷ []) }
 {
-    write_own(state, who, txid, key, row, &mut step.effects)?;
+    write_own(state, who, txid, key, place, row, &mut step.effects)?;
     step.answer(who, Reply::Number(1))?;
     Ok(())
 }
@@ -284,7 +289,8 @@ pub(crate) fn get(
     let table = table_called(state, table)?;
     key_fits(state.alloc(), state.schema(table).columns(), key)?;
     let now = state.snapshot_now()?;
-    let reply = match state.row_shown(who, table, key, &now) {
+    let place = state.find(table, key);
+    let reply = match state.row_shown(who, table, key, place, &now) {
         Some(row) => Reply::Row(row.copy(state.alloc())?),
         None => Reply::NoRow,
     };

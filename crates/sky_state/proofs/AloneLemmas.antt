@@ -57,7 +57,7 @@ taken-released keys who table key free = λ i t k. by t k (is_same_key table key
     by t k false e = refl
 
 -- writing a version changes one table's versions, and no columns
-pub version-written : (tables : List TableView) (n t : ℕ) (key : List Val) (row : Option (List Val)) (old new : TableView) → n < length tables → old ≡ get_or tables n old → new ≡ record old { versions = written t key row old.versions }
+pub version-written : (tables : List TableView) (n t : ℕ) (key : List Val) (row : Option (List Val)) (old new : TableView) → n < length tables → old ≡ get_or tables n old → new ≡ record old { versions = written t key row old.versions; places = new.places }
     → (columns_of (slice_set tables n new) ≡ columns_of tables) × (versions_of (slice_set tables n new) ≡ changed_at n (written t key row) (versions_of tables))
 version-written tables n t key row old new lt at is = (
   λ i m. (ap (λ (v : TableView). v.columns) (set-at tables n m new no_table lt) ∙ columns m (n == m) refl) i,

@@ -55,6 +55,10 @@ session-set sessions was who old new f same lt at is = (λ i n. pointwise n i) �
     pointwise : (n : ℕ) → seen_session (get_or (slice_set sessions who new) n rest) ≡ (if who == n then f (seen_session (get_or sessions n rest)) else seen_session (get_or sessions n rest))
     pointwise n = ap seen_session (set-at sessions who n new rest lt) ∙ by n (who == n) refl
 
+-- a table without the places of its keys
+abbrev pub unplaced : TableView → TableView
+unplaced table = record table { places = [] }
+
 -- a table without the versions of a transaction, if that is forgotten
 abbrev pub forgetting : ℕ → Bool → TableView → TableView
 forgetting t true table = record table { versions = forgotten t table.versions }
@@ -65,10 +69,10 @@ forgot-columns t true table = refl
 forgot-columns t false table = refl
 
 -- if there is no table there is nothing to forget
-pub forgot-versions : (t n count : ℕ) (tables : List TableView) → length tables ≤ count → (forgetting t (nat_lt n count) (table_of tables n)).versions ≡ forgotten t (table_of tables n).versions
+pub forgot-versions : (t n count : ℕ) (tables : List TableView) → length tables ≤ count → (forgetting t (nat_lt n count) (unplaced (table_of tables n))).versions ≡ forgotten t (table_of tables n).versions
 forgot-versions t n count tables le = by (nat_lt n count) refl
   where
-    by : (b : Bool) → nat_lt n count ≡ b → (forgetting t b (table_of tables n)).versions ≡ forgotten t (table_of tables n).versions
+    by : (b : Bool) → nat_lt n count ≡ b → (forgetting t b (unplaced (table_of tables n))).versions ≡ forgotten t (table_of tables n).versions
     by true e = refl
     by false e =
         let past : length tables ≤ n = grind (arith, nat_tests) in
@@ -76,23 +80,24 @@ forgot-versions t n count tables le = by (nat_lt n count) refl
         ap (λ (v : TableView). v.versions) none ∙ ap (λ (v : TableView). forgotten t v.versions) (sym none)
 
 -- one more table has forgotten
-pub forgets-next : (t i : ℕ) (now was : List TableView) (old new : TableView) → i < length now → old ≡ get_or now i old → new ≡ forgetting t true old
-    → ((n : ℕ) → table_of now n ≡ forgetting t (nat_lt n i) (table_of was n)) → (n : ℕ) → table_of (slice_set now i new) n ≡ forgetting t (nat_lt n (i + 1)) (table_of was n)
-forgets-next t i now was old new lt at is all n = set-at now i n new no_table lt ∙ by (i == n) refl
+pub forgets-next : (t i : ℕ) (now was : List TableView) (old new : TableView) → i < length now → old ≡ get_or now i old → unplaced new ≡ forgetting t true (unplaced old)
+    → ((n : ℕ) → unplaced (table_of now n) ≡ forgetting t (nat_lt n i) (unplaced (table_of was n)))
+    → (n : ℕ) → unplaced (table_of (slice_set now i new) n) ≡ forgetting t (nat_lt n (i + 1)) (unplaced (table_of was n))
+forgets-next t i now was old new lt at is all n = ap unplaced (set-at now i n new no_table lt) ∙ by (i == n) refl
   where
-    at_once : forgetting t true old ≡ forgetting t true (table_of was i)
+    at_once : forgetting t true (unplaced old) ≡ forgetting t true (unplaced (table_of was i))
     at_once =
         let first : nat_lt i i ≡ false = grind (arith, nat_tests) in
-        ap (forgetting t true) (sym (read-at now i old no_table lt at) ∙ all i ∙ ap (λ b. forgetting t b (table_of was i)) first)
+        ap (forgetting t true) (ap unplaced (sym (read-at now i old no_table lt at)) ∙ all i ∙ ap (λ b. forgetting t b (unplaced (table_of was i))) first)
 
-    by : (b : Bool) → (i == n) ≡ b → (if b then new else table_of now n) ≡ forgetting t (nat_lt n (i + 1)) (table_of was n)
+    by : (b : Bool) → (i == n) ≡ b → unplaced (if b then new else table_of now n) ≡ forgetting t (nat_lt n (i + 1)) (unplaced (table_of was n))
     by true e =
         let one : i ≡ n = grind (arith, nat_tests) in
         let within : true ≡ nat_lt n (i + 1) = grind (arith, nat_tests) in
-        is ∙ at_once ∙ ap (λ m. forgetting t true (table_of was m)) one ∙ ap (λ b. forgetting t b (table_of was n)) within
+        is ∙ at_once ∙ ap (λ m. forgetting t true (unplaced (table_of was m))) one ∙ ap (λ b. forgetting t b (unplaced (table_of was n))) within
     by false e =
         let same : nat_lt n i ≡ nat_lt n (i + 1) = grind (arith, nat_tests) in
-        all n ∙ ap (λ b. forgetting t b (table_of was n)) same
+        all n ∙ ap (λ b. forgetting t b (unplaced (table_of was n))) same
 
 -- one more item
 read-pushed : {A : Type 0} → (xs : List A) (x d : A) (n : ℕ) → get_or (xs ++ x ∷ []) n d ≡ (if length xs == n then x else get_or xs n d)
@@ -105,7 +110,7 @@ read-pushed (y ∷ ys) x d (suc n) =
 
 -- a table of these columns, without a row
 abbrev made : List Column → TableView
-made columns = record { columns = columns; versions = [] }
+made columns = record { columns = columns; versions = []; places = [] }
 
 columns-made : (tables : List TableView) (columns : List Column) → columns_of (tables ++ made columns ∷ []) ≡ changed_at (length tables) (λ _. columns) (columns_of tables)
 columns-made tables columns = λ i n. (ap (λ (v : TableView). v.columns) (read-pushed tables (made columns) no_table n) ∙ by n (length tables == n)) i

@@ -1,15 +1,16 @@
 -- What the code keeps, read as the definitions' state.
-use Rattle.std.specs.Prelude.{ℕ, Bool, false, ◌==◌, List, [], None, slice_index_or}
+use Rattle.std.specs.Prelude.{ℕ, Bool, false, ◌==◌, List, [], Option, None, slice_index_or}
 use Rattle.std.specs.Int.{bit_at}
 use Rattle.std.specs.Option.{option_map_or}
 use Rattle.std.specs.Map.{lookup}
 use Rattle.std.specs.BTreeMap.{is_at}
 use Rattle.std.specs.Ordering.{nat_cmp}
+use Rattle.sky_val.specs.declared.val.Val.{Val}
 use Rattle.sky_val.specs.declared.column.Column.{Column}
 use Rattle.sky_val.specs.Entries.{Entries}
 use Rattle.sky_keys.specs.declared.version.Version.{Version}
 use Rattle.sky_txid.specs.Snapshot.{SnapshotView}
-use Rattle.sky_rows.specs.Table.{TableView}
+use Rattle.sky_rows.specs.Table.{TableView, found}
 use Rattle.sky_locks.specs.Locks.{holder}
 use Rattle.sky_model.specs.declared.stmt.Attempt.{Attempt}
 use Rattle.sky_model.specs.declared.stmt.Attempt.TheVariants.{Deletion}
@@ -40,7 +41,7 @@ session_of sessions who = seen_session (slice_index_or sessions who rest)
 
 -- a table that doesn't exist
 abbrev pub no_table : TableView
-no_table = record { columns = []; versions = [] }
+no_table = record { columns = []; versions = []; places = [] }
 
 -- the tables, by number
 abbrev pub table_of : List TableView → ℕ → TableView
@@ -51,6 +52,10 @@ columns_of tables n = (table_of tables n).columns
 
 abbrev pub versions_of : List TableView → ℕ → Entries (List Version)
 versions_of tables n = (table_of tables n).versions
+
+-- where a key of a table is found, if it has a version
+abbrev pub found_in : RowStateView → ℕ → List Val → Option ℕ
+found_in d table key = found (table_of d.tables.values table) key
 
 -- whether a transaction has written in a table: its bit for the table is set
 abbrev pub wrote_in : List (ℕ × ℕ) → (table t : ℕ) → Bool

@@ -7,7 +7,8 @@ ghost use Rattle.sky_names.specs.Places.{place_of};
 ghost use Rattle.sky_model.specs.History.{of_session, began, ended, block_begun, repeats, looked, block_failed, block_ended, connected, disconnected, tabled, table_made, wrote, waited, read_only};
 ghost use Rattle.sky_model.specs.State.{after_part, after_part_marks};
 ghost use Rattle.sky_keys.specs.Versions.{written, forgotten};
-ghost use Rattle.sky_state.specs.Seen.{seen, columns_of, versions_of};
+ghost use Rattle.sky_rows.specs.Table.{found};
+ghost use Rattle.sky_state.specs.Seen.{seen, found_in, columns_of, versions_of};
 
 use crate::row_state::RowState;
 use crate::session::Sight;
@@ -40,6 +41,7 @@ impl RowState {
         ensures id { IfOk result (λ txid. txid ≡ (seen self.old).next) }
         ensures mark { IfOk result (λ txid. seen self.new ≡ after_part (seen self.old) (began (of_session who) txid)) }
         ensures err { OnErr result (seen self.new ≡ seen self.old) }
+        ensures stay { self.new.tables ≡ self.old.tables }
     {
         self.sessions.make_room(who)?;
         let txid = self.trans.begin()?;
@@ -124,17 +126,19 @@ impl RowState {
         Ok(())
     }
 
-    /// The session's transaction wrote a key of a table, and the session holds the key from then on. The row that the
-    /// key had isn't kept, so in the mark it is none. A table forgets which keys the transactions below the least
-    /// running one wrote: they have ended, and nobody asks for that any more.
+    /// The session's transaction wrote a key of a table, which was found at the place, and the session holds the key
+    /// from then on. The row that the key had isn't kept, so in the mark it is none. A table forgets which keys the
+    /// transactions below the least running one wrote: they have ended, and nobody asks for that any more.
     pub fn wrote(
         &mut self,
         who: SessionId,
         txid: u64,
         key: LockKey,
+        place: Option<usize>,
         row: Option<Row>,
     ) -> Result<(), NoMemory>
         requires within { key.table < length (seen self.old).tables }
+        requires found { place ≡ found_in self.old key.table key.key }
         requires free { other_holder (seen self.old).holder who key.table key.key ≡ None }
         requires awake { is_waiting who (seen self.old).waiting ≡ false }
         ensures { OnOk result (seen self.new ≡ after_part (seen self.old) (tabled (wrote (of_session who) txid key.table key.key None row))) }
@@ -147,7 +151,7 @@ impl RowState {
         let least = self.trans.least().unwrap_or(txid);
         let table = self.tables.get_mut(key.table as usize);
         table.prune(least);
-        table.write(txid, key.key, row)?;
+        table.write_at(place, txid, key.key, row)?;
         Ok(())
     }
 
@@ -157,9 +161,11 @@ impl RowState {
         &mut self,
         who: SessionId,
         key: LockKey,
+        place: Option<usize>,
         row: Option<Row>,
     ) -> Result<(), NoMemory>
         requires within { key.table < length (seen self.old).tables }
+        requires found { place ≡ found_in self.old key.table key.key }
         requires free { other_holder (seen self.old).holder who key.table key.key ≡ None }
         requires single { ((seen self.old).session who).txid ≡ None }
         requires room { (seen self.old).next < 2 ^ 62 }
@@ -173,6 +179,7 @@ impl RowState {
             least,
             txid,
             key.key,
+            place,
             row,
         )?;
         self.writers.end(txid);
@@ -216,16 +223,18 @@ fn put_row(
     least: Option<u64>,
     txid: u64,
     key: Key,
+    place: Option<usize>,
     row: Option<Row>,
 ) -> Result<(), NoMemory>
-    ensures { OnOk result (table.new ≡ record table.old { versions = written txid key row table.old.versions }) }
+    requires { place ≡ found table.old key }
+    ensures { OnOk result (table.new ≡ record table.old { versions = written txid key row table.old.versions; places = table.new.places }) }
 {
     match least {
         Some(least) => {
             table.prune(least);
-            table.write(txid, key, row)
+            table.write_at(place, txid, key, row)
         }
-        None => table.write_last(txid, key, row),
+        None => table.write_last_at(place, txid, key, row),
     }
 }
 

@@ -1,4 +1,4 @@
-ghost use Rattle.std.specs.Prelude.{◌≡◌, ◌↔◌, ◌<◌, ◌^◌, [], IfOk, IfSome, MatchOption, IsTrue, None, Some, length, unwrap_or};
+ghost use Rattle.std.specs.Prelude.{◌≡◌, ◌↔◌, ◌<◌, ◌^◌, List, [], IfOk, IfSome, MatchOption, IsTrue, None, Some, length, unwrap_or};
 ghost use Rattle.std.specs.Option.{option_copied};
 ghost use Rattle.sky_fits.specs.Blocks.{seen_block};
 ghost use Rattle.sky_txid.specs.Snapshot.{SnapshotView};
@@ -8,7 +8,9 @@ ghost use Rattle.sky_model.specs.Sessions.{place_of_sight};
 ghost use Rattle.sky_model.specs.State.{part_of};
 ghost use Rattle.sky_model.specs.ShownRows.{snapshot_now, snapshot_for, least_writer};
 ghost use Rattle.sky_model.specs.Made.{takes_sight};
-ghost use Rattle.sky_state.specs.Seen.{seen};
+ghost use Rattle.sky_val.specs.declared.val.Val.{Val};
+ghost use Rattle.sky_rows.specs.Table.{found};
+ghost use Rattle.sky_state.specs.Seen.{seen, found_in};
 
 use crate::attempts::Attempts;
 use crate::sessions::Sessions;
@@ -169,6 +171,7 @@ impl RowState {
         requires { number < length (seen self.now).tables }
         ensures columns { result.now.columns ≡ (seen self.now).columns number }
         ensures versions { result.now.versions ≡ (seen self.now).versions number }
+        ensures found { (key : List Val) → found result.now key ≡ found_in self.now number key }
     {
         self.tables.get(number as usize)
     }

@@ -1,7 +1,7 @@
 //! What can happen to the transactions of workers, which are of no session, and what these read. They hold no key, so
 //! nobody waits for them.
 
-ghost use Rattle.std.specs.Prelude.{◌≡◌, ◌<◌, ◌^◌, List, true, false, Option, None, Some, IsSome, IfOk, OnOk, OnErr, length, map, take};
+ghost use Rattle.std.specs.Prelude.{◌≡◌, ◌<◌, ◌^◌, List, true, false, Option, None, Some, IsSome, is_some, is_none, if◌then◌else◌, IfOk, OnOk, OnErr, length, map, take};
 ghost use Rattle.std.specs.Option.{option_copied};
 ghost use Rattle.sky_val.specs.declared.val.Val.{Val};
 ghost use Rattle.sky_keys.specs.Versions.{above, newest_but, read, rows_read, version_of, versions_at};
@@ -74,6 +74,40 @@ impl RowState {
         rows.write(txid, key, row)?;
         self.writers.note(table, txid);
         Ok(())
+    }
+
+    /// The same, but only if the key has a row before, as the transaction left it or else in the snapshot, or, if
+    /// `needs_row` is false, only if it has none. Answers whether it wrote.
+    pub fn wrote_work_if(
+        &mut self,
+        txid: u64,
+        snapshot: &Snapshot,
+        table: u32,
+        key: Key,
+        row: Option<Row>,
+        needs_row: bool,
+    ) -> Result<bool, NoMemory>
+        requires within { table < length (seen self.old).tables }
+        requires running { contains txid (seen self.old).workers ≡ true }
+        requires free { (seen self.old).holder table key ≡ None }
+        requires last { let versions = versions_at key ((seen self.old).versions table) in
+            IsSome (version_of txid versions) → newest_but None versions ≡ version_of txid versions }
+        ensures made { let before = read snapshot.now (Some txid) (versions_at key ((seen self.old).versions table)) in
+            IfOk result (λ made. made ≡ (if needs_row then is_some before else is_none before)) }
+        ensures ok { (old : Option (List Val)) → IfOk result (λ made. made ≡ true → seen self.new ≡ after_part (seen self.old) (tabled (wrote of_worker txid table key old row))) }
+        ensures unmade { IfOk result (λ made. made ≡ false → seen self.new ≡ seen self.old) }
+        ensures err { OnErr result (seen self.new ≡ seen self.old) }
+    {
+        self.writers.make_room(txid)?;
+        let least = self.trans.least().unwrap_or(txid);
+        let rows = self.tables.get_mut(table as usize);
+        rows.prune(least);
+        let is_made = rows.write_if(txid, snapshot, key, row, needs_row)?;
+        if !is_made {
+            return Ok(false);
+        }
+        self.writers.note(table, txid);
+        Ok(true)
     }
 
     /// The key's row as the transaction left it, or else in the snapshot.

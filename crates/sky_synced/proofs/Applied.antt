@@ -26,7 +26,7 @@ use Rattle.sky_model.proofs.Legal.{Legal}
 use Rattle.sky_model.proofs.SnapshotLaws.{legal_place}
 use Rattle.sky_model.proofs.TickOrder.{is_made}
 use Rattle.sky_model.proofs.RowSights.{Since, here, later}
-use Rattle.sky_model.proofs.InCopyTables.{leaf_table}
+use Rattle.sky_model.proofs.InCopyTables.{leaf_table, changed_by, is_past_copy}
 use Rattle.sky_model.proofs.ApplyCalls.{is_for_applying, gives-applies}
 use Rattle.sky_model.proofs.StatementMarks.{EachMark, each-rest, each-given, when-true, AnyReply, either}
 use Rattle.sky_model.proofs.PastHistories.{history-marks}
@@ -42,7 +42,7 @@ use Rattle.sky_replicas.proofs.Sources.{root-has}
 use Rattle.sky_synced.specs.Tables.{has_own_tick, tick_in}
 use Rattle.sky_synced.specs.LawsOfChanges.{is_picked, reached, IsLedOn, WasApplied}
 use Rattle.sky_synced.proofs.Covering.{EndedBy}
-use Rattle.sky_synced.proofs.ChangedTables.{goes_along, leafs_tick, changed_by, tick_after, Was, was, table-named}
+use Rattle.sky_synced.proofs.ChangedTables.{leafs_tick, tick_after, Was, was, table-named}
 use Rattle.sky_synced.proofs.RestingTables.{Rests, rests-between}
 use Rattle.sky_synced.proofs.Showing.{is_late, Shows, ComesTo, shows-at, ended-on, IsBetween, none-bad, applied-at}
 use Rattle.sky_synced.proofs.ReachedTicks.{Reaches, AllReach, work_marks, each-work, to_tick, after-applied, reached-applied, is-for}
@@ -50,6 +50,7 @@ use Rattle.sky_synced.proofs.LedMarks.{AllApplied, all-on-top, all-written, IsAb
 use Rattle.sky_synced.proofs.LedTables.{led-on}
 use Rattle.sky_synced.proofs.Going.{AllPlaces, places-under, come, ShowsIn, HandedAt, Based, Goes, BaseSuits, based-within, source-stays, apart, apart-root, listed-now}
 use Rattle.sky_synced.proofs.NextBatch.{IsNext, HasCome, IsThisLeaf, this-leaf, own-come, leafs-come, same-come, ShowsHere, leaf-is, shows-here, picks_for, is-picked, gives, none-picked, all-fit, may-apply}
+use Rattle.sky_synced.proofs.FollowPasts.{batches-marks}
 
 -- ---- the marks of it
 
@@ -71,10 +72,6 @@ still-based past e (mark ∷ marks) each all base =
     let rest : StillBased (within e mark ∷ past) (on_top (within e mark ∷ past) (map (within e) marks)) =
     still-based (within e mark ∷ past) e marks (each-rest is_for_applying mark marks each) all (based-within past e mark now base suits) in
     record { base = rest.base; sources = λ d p from. rest.sources d p (source-stays past e mark now base suits d p from) }
-
-pub batches-marks : (past : Past) (e : ℕ) (marks : List Mark) → batches (on_top past (map (within e) marks)) ≡ batches past
-batches-marks past e [] = refl
-batches-marks past e (mark ∷ marks) = batches-marks (within e mark ∷ past) e marks
 
 each-applying : (h : History) (es : List Event) (pick : Pick) (tick : ℕ) → EachMark is_for_applying (call_marks h (applying es pick tick))
 each-applying h es pick tick =
@@ -141,7 +138,7 @@ module _ (past : Past) (d p : ℕ) (b : Batch) (pick : Pick) (g : Goes past) (fr
   -- ---- a table of the leaf
 
   -- it was there
-  module _ (name : List ℕ) (u : LeafTable) (there : leaf_table name (node after) ≡ Some u) (along : goes_along u.state ≡ true) where
+  module _ (name : List ℕ) (u : LeafTable) (there : leaf_table name (node after) ≡ Some u) (along : is_past_copy u.state ≡ true) where
     w : Was (node h) (applied pick b.cur) name u
     w = was h (applied pick b.cur) tt name u (ap (leaf_table name) (sym applied_is.stored) ∙ there) along
 
@@ -163,8 +160,8 @@ module _ (past : Past) (d p : ℕ) (b : Batch) (pick : Pick) (g : Goes past) (fr
             subst IsSame (sym (w.is ∙ ap (λ y. changed_by (applied y b.cur) t) is))
             (by_test (λ c. IsSame (if c then with_tick b.cur t else t)) (bytes_eq other t.name) (λ _. record { names = refl; states = refl; snapshots = refl }) (λ _. record { names = refl; states = refl; snapshots = refl }))
 
-    t-along : goes_along t.state ≡ true
-    t-along = ap goes_along (sym u-is.states) ∙ along
+    t-along : is_past_copy t.state ≡ true
+    t-along = ap is_past_copy (sym u-is.states) ∙ along
 
     s : ShowsHere past d p b pick g from place next has t
     s = shows-here past d p b pick g from place next has name t w.there t-along
@@ -293,7 +290,7 @@ module _ (past : Past) (d p : ℕ) (b : Batch) (pick : Pick) (g : Goes past) (fr
       }
 
   -- a table of another leaf
-  shown-other : (x : ℕ) → (d == x) ≡ false → (name : List ℕ) (t : LeafTable) → leaf_table name (node (history_in past x)) ≡ Some t → goes_along t.state ≡ true → ShowsIn now x (history_in past x) t
+  shown-other : (x : ℕ) → (d == x) ≡ false → (name : List ℕ) (t : LeafTable) → leaf_table name (node (history_in past x)) ≡ Some t → is_past_copy t.state ≡ true → ShowsIn now x (history_in past x) t
   shown-other x other name t there along = record { p = s.p; from = based.sources x s.p s.from; shows = both.0; rests = both.1 }
     where
       s : ShowsIn past x (history_in past x) t
@@ -306,7 +303,7 @@ module _ (past : Past) (d p : ℕ) (b : Batch) (pick : Pick) (g : Goes past) (fr
   -- nothing is handed over meanwhile, unless it is by its own copy
   handed-own : (pick ≡ of_synced → (name : List ℕ) (t : LeafTable) (tick : ℕ) → leaf_table name (node h) ≡ Some t → t.state ≡ DoSync tick → ⊥) → (name : List ℕ) (u : LeafTable) (tick : ℕ)
       → leaf_table name (node after) ≡ Some u → u.state ≡ DoSync tick → (leafs_tick (node after) ≡ tick) × (batches past d ≡ None)
-  handed-own none name u tick there state = of pick refl (was h (applied pick b.cur) tt name u (ap (leaf_table name) (sym applied_is.stored) ∙ there) (ap goes_along state))
+  handed-own none name u tick there state = of pick refl (was h (applied pick b.cur) tt name u (ap (leaf_table name) (sym applied_is.stored) ∙ there) (ap is_past_copy state))
     where
       of : (x : Pick) → pick ≡ x → Was (node h) (applied pick b.cur) name u → (leafs_tick (node after) ≡ tick) × (batches past d ≡ None)
       of of_synced is v = absurd (none is name v.t tick v.there (ap LeafTable.state (sym (v.is ∙ ap (λ y. changed_by (applied y b.cur) v.t) is)) ∙ state))

@@ -3,34 +3,34 @@ use Rattle.std.proofs.Common.{arith, ◌≡◌, ℕ, ◌==◌, ◌^◌, nat_le, 
 use Rattle.std.specs.List.{list_any}
 use Rattle.std.proofs.lemmas.Bool.{false_from_ne_true, and_parts, or_parts, eqb-true}
 use Rattle.std.proofs.lemmas.List.Elements.{All-nil, All-cons, All-head, All-tail}
-use Rattle.sky_val.specs.declared.val.Val.{Val}
+use Rattle.std.proofs.Math.Bool.{and-false}
 use Rattle.sky_val.specs.declared.event.Event.{Event}
 use Rattle.sky_names.specs.Places.{place_of}
 use Rattle.sky_txid.specs.Ids.{contains}
 use Rattle.sky_txid.specs.Snapshot.{SnapshotView, sees}
 use Rattle.londiste_state.specs.Nodes.{Node, of_root, of_leaf, Leaf}
 use Rattle.sky_keys.specs.Waits.{is_waiting}
-use Rattle.sky_model.specs.declared.reply.Reply.TheVariants.{Done, Null}
+use Rattle.sky_model.specs.declared.reply.Reply.TheVariants.{Null}
 use Rattle.sky_model.specs.declared.reply.Refusal.TheVariants.{TxidsSpent}
-use Rattle.sky_model.specs.History.{Mark, Pick, Whose, of_synced, copy_of, of_session, of_worker, of_copy, began, ended, tabled, wrote, noded, copied, applied, hold_ended, History}
+use Rattle.sky_model.specs.History.{Mark, Pick, Whose, of_synced, copy_of, of_session, of_worker, of_copy, began, ended, tabled, wrote, noded, copied, applied, History}
 use Rattle.sky_model.specs.Transactions.{next_txid, workers, has_ended}
-use Rattle.sky_model.specs.Copies.{copies, copy_txid, is_copied_by, is_copys, Hold}
-use Rattle.sky_model.specs.Rows.{Write, table_names, columns_of, wrote_in, writes as writes_of}
+use Rattle.sky_model.specs.Copies.{copies, copy_txid, is_copied_by, is_copys}
+use Rattle.sky_model.specs.Rows.{table_names, columns_of, wrote_in, writes as writes_of}
 use Rattle.sky_model.specs.Nodes.{node}
 use Rattle.sky_model.specs.Sessions.{has_open, block, session}
 use Rattle.sky_model.specs.Locks.{waiting}
 use Rattle.sky_model.specs.Allowed.{allowed}
 use Rattle.sky_model.specs.Made.{takes_sight}
 use Rattle.sky_model.specs.State.{RowPart, part_of, after_part, Database, database_of}
-use Rattle.sky_model.specs.Outcome.{Outcome, Checked, ◌>>=◌, ◌>>◌, refused_if, answers, does_marks, marks_of}
+use Rattle.sky_model.specs.Outcome.{Outcome, Checked, ◌>>=◌, ◌>>◌, refused_if, answers, marks_of}
 use Rattle.sky_model.specs.OwnTransaction.{next_id}
 use Rattle.sky_model.specs.Promises.{after_all}
 use Rattle.sky_model.specs.Reader.{part_by_history, database_by_history}
 use Rattle.sky_model.specs.SessionMarks.{entry_place}
 use Rattle.sky_model.specs.Settling.{marked}
-use Rattle.sky_model.specs.StepCopy.{copy_write, copy_writes, deletions, insertions, rows_now, begins_copy as begins_copying, all_fit, copies_rows, ends_copy as ends_copying, given_up}
+use Rattle.sky_model.specs.StepCopy.{ends_copy as ends_copying}
 use Rattle.sky_model.specs.StepApply.{has_synced, picks, picked, change_write, work_write, applies_event, Applying, write_then, applies_events, applies_in, ends_applying, applies_picked, is_of_copied, kept_snapshot, is_change, is_of_table}
-use Rattle.sky_model.specs.StepNode.{NodeCall, joining, parting, fetching, finishing, making_leaf, adding, removing, moving, listing, unlisting, beginning_copy, copying_rows, ending_copy, giving_up_copy, applying, holding, letting_go, if_there, set_queue, table_number, may_serve, call_form, node_does}
+use Rattle.sky_model.specs.StepNode.{NodeCall, joining, parting, fetching, finishing, making_leaf, adding, removing, moving, listing, unlisting, ending_copy, applying, if_there, set_queue, table_number, may_serve, call_form, node_does}
 use Rattle.sky_model.specs.DatabaseCalls.{DatabaseCall, stepped, entered, failed, worked, served, database_does, database_part}
 use Rattle.sky_model.specs.HistoryPlaces.{IsPlace}
 use Rattle.sky_model.proofs.Legal.{Fine, begins_work, ends_work, begins_copy, ends_copy, writes, copies_row, applies_row, Legal, legal-below_mark, fine_mark}
@@ -47,10 +47,12 @@ use Rattle.sky_model.proofs.Good.{same-session}
 use Rattle.sky_model.proofs.Histories.{legal_calls}
 use Rattle.sky_model.proofs.StatementMarks.{EachMark, each-map, each-rest, each-given, when-true, Gives, gives-map, AnyReply, after, either}
 use Rattle.sky_model.proofs.Cases.{by_test, by_same}
+use Rattle.sky_model.proofs.PendingOwners.{legal-before}
+use Rattle.sky_model.proofs.ApplyingLaws.{all-filter}
 use Rattle.sky_replicas.proofs.Copying.{one-table}
 use Rattle.sky_replicas.proofs.SessionsMarks.{is_sessions, sessions-turn, sessions-enters, sessions-fails, sessions-daemon}
 use Rattle.sky_synced.specs.LawsOfChanges.{SaysCopied, is_picked, SaysApplied, CopiesWriteOwnTables, CopiesSayThatTheyEnd, BatchesSayThatTheyAreApplied, is_session, CommitsAreFollowed}
-use Rattle.sky_synced.proofs.Following.{legal-marked}
+use Rattle.sky_synced.proofs.CopyingCalls.{is_copying, gives-copying, given_up-then}
 
 -- ---- what workers have written
 
@@ -95,12 +97,8 @@ none-step but h l _ (applies_row n u key old new is) spared ih table t free work
     other = by_same (λ b. (n == table && b) ≡ false) u t (λ same. absurd (cc (sym spared ∙ ap but same ∙ free))) (λ _. grind (arith))
 none-step but h l _ _ spared ih table t free works apart = ih table t free works apart
 
-never : (b : Bool) → (b && false) ≡ false
-never true = refl
-never false = refl
-
 none-wrote : (h : History) → Legal h → (table t : ℕ) → writes_of table t h ≡ [] → wrote_in table t h ≡ false
-none-wrote h l table t none = is-written h l table t ∙ ap (λ ws. not (has_ended h t) && some ws) none ∙ never (not (has_ended h t))
+none-wrote h l table t none = is-written h l table t ∙ ap (λ ws. not (has_ended h t) && some ws) none ∙ and-false (not (has_ended h t))
 
 -- ---- what a mark above a place is to be
 
@@ -178,7 +176,7 @@ quiet-step h mark l quiet b =
 quiet-marks : (h : History) (marks : List Mark) → Legal (marked h marks) → EachMark is_quiet marks → IsBetween h → IsBetween (marked h marks)
 quiet-marks h [] l each b = b
 quiet-marks h (mark ∷ marks) l each b =
-    quiet-marks (mark ∷ h) marks l (each-rest is_quiet mark marks each) (quiet-step h mark (legal-marked (mark ∷ h) marks l) (when-true (EachMark is_quiet marks) (is_quiet mark) each) b)
+    quiet-marks (mark ∷ h) marks l (each-rest is_quiet mark marks each) (quiet-step h mark (legal-before (mark ∷ h) marks l) (when-true (EachMark is_quiet marks) (is_quiet mark) each) b)
 
 -- so are those of sessions
 sessions-quiet : (mark : Mark) → is_sessions mark ≡ true → is_quiet mark ≡ true
@@ -202,31 +200,10 @@ consumers-quiet mark e = refl
 quiet-consumers : (d : Database) (call : NodeCall) → is_consumers call ≡ true → Quiet (call_form d call)
 quiet-consumers d call e = gives-map AnyReply AnyReply is_for_consumers is_quiet (λ reply any. any) consumers-quiet (call_form d call) (gives-consumers d call e)
 
-quiet-written : (d : RowPart) (table t : ℕ) (ws : List Write) → EachMark is_quiet (copy_writes d table t ws)
-quiet-written d table t [] = tt
-quiet-written d table t (w ∷ ws) = quiet-written (after_part d (copy_write d table t w)) table t ws
-
-quiet-begins : (d : Database) (table : ℕ) (o : Option ℕ) → Quiet (begins_copying d table o)
-quiet-begins d table (Some t) = (tt, tt)
-quiet-begins d table None = of (next_id d.part)
-  where
-    of : (c : Checked ℕ) → Quiet (c >>= (λ t. does_marks Done (began (of_copy table) t ∷ copy_writes (after_part d.part (began (of_copy table) t)) table t (deletions (rows_now d.part table)))))
-    of (Err refusal) = tt
-    of (Ok t) = (tt, quiet-written (after_part d.part (began (of_copy table) t)) table t (deletions (rows_now d.part table)))
-
-quiet-rows : (d : Database) (table t : ℕ) (rows : List (List Val)) → Quiet (copies_rows d table t rows)
-quiet-rows d table t rows =
-    either AnyReply is_quiet (all_fit (d.part.columns table) rows) (does_marks Done (copy_writes d.part table t (insertions (d.part.columns table) rows))) (answers Null)
-    (tt, quiet-written d.part table t (insertions (d.part.columns table) rows)) (tt, tt)
-
--- once a copy is given up
-quiet-then : (table : ℕ) (name : List ℕ) (o : Option ℕ) (marks : List Mark) → EachMark is_quiet marks → EachMark is_quiet (given_up table name o ++ marks)
-quiet-then table name None marks each = each
-quiet-then table name (Some t) marks each = each
-
-quiet-given_up : (table : ℕ) (name : List ℕ) (o : Option ℕ) → EachMark is_quiet (given_up table name o)
-quiet-given_up table name None = tt
-quiet-given_up table name (Some t) = tt
+copying-quiet : (mark : Mark) → is_copying mark ≡ true → is_quiet mark ≡ true
+copying-quiet (ended (of_copy n) t true) e = absurd (cc e)
+copying-quiet (tabled (wrote of_worker t table key old new)) e = absurd (cc e)
+copying-quiet mark e = refl
 
 abbrev is_quiet_call : NodeCall → Bool
 is_quiet_call (ending_copy name under tick) = false
@@ -238,19 +215,15 @@ quiet-form d (ending_copy name under tick) e = absurd (cc e)
 quiet-form d (applying events pick tick) e = absurd (cc e)
 quiet-form d (making_leaf name provider tick) e = (tt, tt)
 quiet-form d (adding name) e = gives-there is_quiet (table_number d name) _ (λ table. search (after))
-quiet-form d (removing name) e = gives-there is_quiet (table_number d name) _ (λ table. (tt, quiet-then table name (copy_txid table d.copies) _ tt))
-quiet-form d (moving name state) e = gives-there is_quiet (table_number d name) _ (λ table. (tt, quiet-then table name (copy_txid table d.copies) _ tt))
+quiet-form d (removing name) e = gives-there is_quiet (table_number d name) _ (λ table. (tt, given_up-then is_quiet copying-quiet table name (copy_txid table d.copies) _ tt))
+quiet-form d (moving name state) e = gives-there is_quiet (table_number d name) _ (λ table. (tt, given_up-then is_quiet copying-quiet table name (copy_txid table d.copies) _ tt))
 quiet-form d (listing name) e = gives-there is_quiet (set_queue d) _ (λ queue. gives-there is_quiet (table_number d name) _ (λ table. search (after)))
 quiet-form d (unlisting name) e = gives-there is_quiet (table_number d name) _ (λ table. (tt, tt))
 quiet-form d (joining consumer) e = quiet-consumers d (joining consumer) refl
 quiet-form d (parting consumer) e = quiet-consumers d (parting consumer) refl
 quiet-form d (fetching consumer) e = quiet-consumers d (fetching consumer) refl
 quiet-form d (finishing batch) e = quiet-consumers d (finishing batch) refl
-quiet-form d (beginning_copy name) e = gives-there is_quiet (table_number d name) _ (λ table. quiet-begins d table (copy_txid table d.copies))
-quiet-form d (copying_rows name rows) e = gives-there is_quiet (table_number d name) _ (λ table. gives-there is_quiet (copy_txid table d.copies) _ (λ t. quiet-rows d table t rows))
-quiet-form d (giving_up_copy name) e = gives-there is_quiet (table_number d name) _ (λ table. (tt, quiet-given_up table name (copy_txid table d.copies)))
-quiet-form d holding e = (tt, tt)
-quiet-form d (letting_go hold) e = either AnyReply is_quiet (list_any (λ (x : Hold). x.number == hold) d.holds) (does_marks Done (noded (hold_ended hold) ∷ [])) (answers Null) (tt, tt) (tt, tt)
+quiet-form d call e = gives-copying is_quiet copying-quiet d call refl
 
 quiet-call : (h : History) (call : NodeCall) → is_quiet_call call ≡ true → Legal (marked h (marks_of (node_does (database_of h) call))) → IsBetween h → IsBetween (marked h (marks_of (node_does (database_of h) call)))
 quiet-call h call e l b =
@@ -315,12 +288,6 @@ record IsFor (h : History) (pick : Pick) (table : ℕ) : Type 0 where
 -- for that of an event that is picked
 abbrev IsForOwn : History → Pick → Event → Type 0
 IsForOwn h pick event = (name : List ℕ) → event.ev_extra1 ≡ Some name → is_picked pick name (node h) ≡ true
-
-all-filter : (p : Event → Bool) (events : List Event) → All (λ e. p e ≡ true) (filter p events)
-all-filter p [] = All-nil (λ e. p e ≡ true)
-all-filter p (e ∷ events) =
-    by_test (λ b. p e ≡ b → All (λ e. p e ≡ true) (if b then e ∷ filter p events else filter p events)) (p e)
-    (λ _ is. All-cons (λ e. p e ≡ true) e (filter p events) is (all-filter p events)) (λ _ _. all-filter p events) refl
 
 leaf-picks : (l : Leaf) (pick : Pick) (event : Event) → picks l pick event ≡ true → (name : List ℕ) → event.ev_extra1 ≡ Some name → is_picked pick name (Some (of_leaf l)) ≡ true
 leaf-picks l of_synced event is name named =
@@ -394,7 +361,7 @@ went h pick t g (event ∷ events) w all l =
 
         at_write : T write (after_part (part_of g) write)
         at_write = subst (T write) (part_of-mark g write) (λ legal.
-            ih (write ∷ g) (wrote-event h pick t g event w (All-head (IsForOwn h pick) event events all) mark x (legal-marked (write ∷ g) (applies_events (part_of (write ∷ g)) t events).marks legal)) legal)
+            ih (write ∷ g) (wrote-event h pick t g event w (All-head (IsForOwn h pick) event events all) mark x (legal-before (write ∷ g) (applies_events (part_of (write ∷ g)) t events).marks legal)) legal)
 
 -- the id that it is given
 given-id : (h : History) (t : ℕ) → next_id (part_of h) ≡ Ok t → t ≡ next_txid h
@@ -407,7 +374,7 @@ given-id h t = of (nat_le (2 ^ 62) (next_txid h))
 -- no running transaction of a worker has written a table, once it has ended
 closed-work : (k : History) (t : ℕ) (c : Bool) → Legal (ended of_worker t c ∷ k) → NoneWritten (λ u. u == t) k → NoneWritten (λ _. false) (ended of_worker t c ∷ k)
 closed-work k t c l none table u free works apart =
-    by_test (λ b. (u == t) ≡ b → writes_of table u k ≡ []) (u == t) (λ _ same. absurd (cc (sym works ∙ contains-filter u t (workers k) ∙ ap (λ b. contains u (workers k) && not b) same ∙ never (contains u (workers k)))))
+    by_test (λ b. (u == t) ≡ b → writes_of table u k ≡ []) (u == t) (λ _ same. absurd (cc (sym works ∙ contains-filter u t (workers k) ∙ ap (λ b. contains u (workers k) && not b) same ∙ and-false (contains u (workers k)))))
     (λ _ other. none-step (λ v. v == t) k (legal-below_mark l) (ended of_worker t c) (fine_mark l) refl none table u other works apart) refl
 
 module _ (h : History) (pick : Pick) (tick t : ℕ) where
@@ -445,10 +412,10 @@ module _ (h : History) (pick : Pick) (tick t : ℕ) where
 -- the history below some marks of a batch is legal
 legal-work : (g : History) (pick : Pick) (tick t many : ℕ) (marks : List Mark) (bad : Option ℕ) → Legal (marked g (marks_of (ends_applying pick tick t many marks bad))) → Legal (marked (began of_worker t ∷ g) marks)
 legal-work g pick tick t many marks None l =
-    legal-marked (marked (began of_worker t ∷ g) marks) (ended of_worker t true ∷ noded (applied pick tick) ∷ [])
+    legal-before (marked (began of_worker t ∷ g) marks) (ended of_worker t true ∷ noded (applied pick tick) ∷ [])
     (subst Legal (behind-append part_by_history (began of_worker t ∷ g) marks (ended of_worker t true ∷ noded (applied pick tick) ∷ [])) l)
 legal-work g pick tick t many marks (Some id) l =
-    legal-marked (marked (began of_worker t ∷ g) marks) (ended of_worker t false ∷ []) (subst Legal (behind-append part_by_history (began of_worker t ∷ g) marks (ended of_worker t false ∷ [])) l)
+    legal-before (marked (began of_worker t ∷ g) marks) (ended of_worker t false ∷ []) (subst Legal (behind-append part_by_history (began of_worker t ∷ g) marks (ended of_worker t false ∷ [])) l)
 
 applied-batch : (h : History) → Legal h → (pick : Pick) (tick : ℕ) (events : List Event) → IsBetween h → (t : ℕ) → t ≡ next_txid h
     → (let made : Applying = applies_in (part_of h) t (picked (node h) pick events) in (many : ℕ) → StaysBetween h (ends_applying pick tick t many made.marks made.bad))
@@ -462,7 +429,7 @@ applied-batch h l pick tick events b t new many = λ legal.
       nodes = refl;
       ready = λ next. tt;
       suit = (record { next = shut-suits h (began of_worker t) b.shut; own = tt }, b.suit);
-      none = none-step (λ u. u == t) h l (began of_worker t) (fine_mark (legal-marked g (applies_events d t es).marks below)) refl (λ table u free works apart. b.none table u refl works apart);
+      none = none-step (λ u. u == t) h l (began of_worker t) (fine_mark (legal-before g (applies_events d t es).marks below)) refl (λ table u free works apart. b.none table u refl works apart);
       wrote_for = λ table wrote_it. absurd (cc (sym (none-wrote h l table t (begun h l table t (omega (arith, new)))) ∙ wrote_it));
     } in
     let at_work : AtWork h pick t (marked g (applies_events d t es).marks) =

@@ -1,8 +1,8 @@
 -- The rows of a table change only by the commit of a transaction that has written it.
-use Rattle.std.proofs.Common.{◌≡◌, ℕ, List, [], ◌∷◌, Bool, true, false, not, ◌&&◌, Some, refl, sym, ap, ◌∙◌}
+use Rattle.std.proofs.Common.{◌≡◌, ℕ, [], ◌∷◌, Bool, true, false, not, ◌&&◌, Some, refl, sym, ap, ◌∙◌}
 use Rattle.sky_model.specs.History.{Mark, Whose, of_session, ended, tabled, wrote, History}
 use Rattle.sky_model.specs.Sessions.{own_txid}
-use Rattle.sky_model.specs.Rows.{Write, wrote_in, committed, writes as writes_of, put_all, rows}
+use Rattle.sky_model.specs.Rows.{wrote_in, committed, writes as writes_of, put_all, rows}
 use Rattle.sky_model.proofs.Legal.{Fine, ends, Legal, legal-below_mark, fine_mark}
 use Rattle.sky_model.proofs.SnapshotLaws.{legal_place}
 use Rattle.sky_model.proofs.Snapshots.{ender-unended}
@@ -12,10 +12,7 @@ use Rattle.sky_model.proofs.CopiesCovered.{rows-wrote}
 use Rattle.sky_model.proofs.WritableTables.{read_only_tables_are_unwritten}
 use Rattle.sky_synced.specs.LawsOfChanges.{RowsChangeByCommits, SessionsCommitNoReadOnlyTable}
 use Rattle.sky_synced.proofs.Covering.{place-below}
-
-nothing : (ws : List Write) → some ws ≡ false → ws ≡ []
-nothing [] e = refl
-nothing (w ∷ ws) e = absurd (cc e)
+use Rattle.sky_synced.proofs.RestingTables.{nothing}
 
 -- one that ends, and hasn't written a table, has no writes there
 none-there : (h : History) → Legal h → (whose : Whose) (t : ℕ) (c : Bool) → Fine h (ended whose t c) → (table : ℕ) → wrote_in table t h ≡ false → writes_of table t h ≡ []

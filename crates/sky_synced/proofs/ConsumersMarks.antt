@@ -1,9 +1,10 @@
 -- Sessions and daemons leave the consumers of nodes where they are: statements on consumers and batches are refused for these, and others leave no such marks.
 use Rattle.std.proofs.Common.{arith, ◌≡◌, ℕ, zero, suc, ℤ, ◌==◌, ◌+◌, ◌^◌, nat_le, nat_lt, List, [], ◌∷◌, ◌++◌, length, find, Bool, true, false, not, ◌&&◌, ◌||◌, Option, Some, None, Ok, Err, IfOk, IfSome, is_some, option_map, unwrap_or, cond, bytes_eq, refl, sym, ap, subst, ◌∙◌, if◌then◌else◌}
-use Rattle.std.specs.List.{list_any}
-use Rattle.std.proofs.lemmas.Bool.{and_parts, eqb-true, false_from_ne_true, or_right}
+use Rattle.std.proofs.lemmas.Bool.{and_parts, eqb-true, or_right}
 use Rattle.std.proofs.lemmas.Bool.Decides.{nat_tests}
 use Rattle.std.proofs.lemmas.Result.{IfOk-at_ok}
+use Rattle.std.proofs.lemmas.List.Folds.{list_any_none}
+use Rattle.std.proofs.lemmas.List.Elements.{All-weaker}
 use Rattle.londiste_state.specs.Nodes.{Node, of_root, of_leaf, is_among}
 use Rattle.pgq_retry.specs.declared.retry.Retry.{Retry}
 use Rattle.pgq_retry.specs.Retries.{due_now}
@@ -12,7 +13,6 @@ use Rattle.sky_names.specs.Places.{named}
 use Rattle.sky_names.proofs.PlaceLemmas.{bytes_eq_refl, same_name}
 use Rattle.sky_urlenc.specs.RowEvents.{RowEvent}
 use Rattle.sky_model.specs.declared.stmt.RowStmt.{RowStmt}
-use Rattle.sky_model.specs.declared.stmt.RowStmt.TheVariants.{OpenDb, Close, Cancel, Insert, Update, Delete}
 use Rattle.sky_model.specs.declared.stmt.Stmt.{Stmt}
 use Rattle.sky_model.specs.declared.stmt.Stmt.TheVariants.{Row, CreateQueue, DropQueue, SetQueueConfig, QueueInfo, InsertEvent, Ticker, ForceTick, RegisterConsumer, RegisterConsumerAt, UnregisterConsumer, NextBatch, GetBatchEvents, GetBatchInfo, EventRetry, FinishBatch, MaintRetryEvents, MaintRotateStep1, MaintRotateStep2, ConsumerInfo, AddTrigger, CreateRoot, Node as OnNodes, Clock, PgqdOn, PgqdOff}
 use Rattle.sky_model.specs.declared.daemon.DaemonPart.{DaemonPart}
@@ -22,8 +22,8 @@ use Rattle.sky_model.specs.declared.reply.Reply.TheVariants.{Number}
 use Rattle.sky_model.specs.declared.reply.HeldBack.{HeldBack}
 use Rattle.sky_model.specs.declared.reply.Refusal.{Refusal}
 use Rattle.sky_model.specs.declared.reply.Refusal.TheVariants.{NodeConsumer, NoQueue}
-use Rattle.sky_model.specs.History.{Batch, Mark, of_session, of_worker, ended, looked, tabled, wrote, queued, made, registered, moved, unregistered, closed, asked, switched, noded, root_made, dropped, History}
-use Rattle.sky_model.specs.Queues.{NamedQueue, queues_made, queues, others_than, queue_number, queue_name, Tick, tick, is_pending}
+use Rattle.sky_model.specs.History.{Batch, Mark, of_session, of_worker, ended, looked, tabled, wrote, queued, registered, moved, unregistered, closed, asked, switched, noded, root_made, History}
+use Rattle.sky_model.specs.Queues.{NamedQueue, queues, queue_number, queue_name, Tick, tick, is_pending}
 use Rattle.sky_model.specs.Consumers.{Subscription}
 use Rattle.sky_model.specs.Sessions.{Block, has_open, block, Session}
 use Rattle.sky_model.specs.Locks.{waiting}
@@ -33,7 +33,7 @@ use Rattle.sky_model.specs.Outcome.{Outcome, Checked, ◌>>=◌, ◌>>◌, refus
 use Rattle.sky_model.specs.OwnTransaction.{begin_of, commit_of, next_id, txid_for, in_own}
 use Rattle.sky_model.specs.Allowed.{where_of, allowed}
 use Rattle.sky_model.specs.Printed.{ReplyHasMoments}
-use Rattle.sky_model.specs.Telling.{events_in, told_event, event_marks, told_by, told_of, with_told, tells}
+use Rattle.sky_model.specs.Telling.{events_of_write, told_event, event_marks, told_by, told_of, with_told, tells}
 use Rattle.sky_model.specs.Reader.{Shown, shown_in, database_by_history, within_part}
 use Rattle.sky_model.specs.Settling.{Turn, behind_marks, settling}
 use Rattle.sky_model.specs.StepQueue.{queue_called, next_event_id, next_tick, newest_id}
@@ -44,9 +44,11 @@ use Rattle.sky_model.specs.Daemon.{quietly, ticks_of, moved_by, again_if, retrie
 use Rattle.sky_model.specs.Calls.{row_form, switches_first, form, making, statement, database_turn}
 use Rattle.sky_model.proofs.Legal.{queue_of_set}
 use Rattle.sky_model.proofs.SetQueues.{not-sets}
-use Rattle.sky_model.proofs.QueueNumbers.{among-number, others-among, queue-below}
-use Rattle.sky_model.proofs.StatementMarks.{EachMark, each-map, each-append, each-front, each-first, each-rest, each-given, Gives, AnyReply, gives-map, after, checked, either, Kinds, no_more, may_leave, attempt_kinds, row_kinds, gives-row_form, by_commit, given-runs, settling-gives}
+use Rattle.sky_model.proofs.QueueNumbers.{among-number}
+use Rattle.sky_model.proofs.StatementMarks.{EachMark, each-map, each-append, each-front, each-first, each-rest, each-given, Gives, AnyReply, gives-map, after, checked, either, Kinds, no_more, may_leave, attempt_kinds, by_commit, given-runs, settling-gives}
 use Rattle.sky_model.proofs.Cases.{by_test, by_same, by_block, ok-then}
+use Rattle.sky_model.proofs.Commits.{Apart, queues-apart}
+use Rattle.sky_model.proofs.RowOutcomes.{is_of_rows, form-rows}
 use Rattle.sky_synced.proofs.Following.{is_of_node, spares}
 
 -- ---- marks that are of no consumer
@@ -85,14 +87,10 @@ row-apart k none who (noded (root_made name queue)) e = refl
 row-apart k none who (noded mark) e = e
 row-apart k none who mark e = refl
 
-no-queues : (b : Bool) (stmt : RowStmt) → (row_kinds b stmt).queues ≡ false
-no-queues b (OpenDb name) = refl
-no-queues b Close = refl
-no-queues b Cancel = refl
-no-queues b (Insert table row) = refl
-no-queues b (Update table key sets) = refl
-no-queues b (Delete table key) = refl
-no-queues b _ = refl
+rows-apart : (mark : Mark) → is_of_rows mark ≡ true → is_apart mark ≡ true
+rows-apart (queued mark) e = absurd (cc e)
+rows-apart (noded mark) e = absurd (cc e)
+rows-apart mark e = refl
 
 apart-told_by : (d : Database) (now : ℤ) (t : ℕ) (es : List RowEvent) → IfOk (told_by d now t es) (EachMark is_apart)
 apart-told_by d now t [] = tt
@@ -102,7 +100,7 @@ apart-told_by d now t (e ∷ es) =
     ok-then (EachMark is_apart) (told_by behind now t es) _ (λ rest is. IfOk-at_ok (EachMark is_apart) is (apart-told_by behind now t es)))
 
 apart-told_of : (d : Database) (now : ℤ) (mark : Mark) → IfOk (told_of d now mark) (EachMark is_apart)
-apart-told_of d now (tabled (wrote (of_session v) t table key old new)) = apart-told_by d now t (events_in d table old new)
+apart-told_of d now (tabled (wrote (of_session v) t table key old new)) = apart-told_by d now t (events_of_write d table old new)
 apart-told_of d now _ = tt
 
 apart-with_told : (d : Database) (now : ℤ) (marks : List Mark) → EachMark is_apart marks → IfOk (with_told d now marks) (EachMark is_apart)
@@ -142,10 +140,9 @@ apart-with_first marks (Ok o) each gives = (tt, each-append is_apart marks o.mar
 
 apart-rows : (d : Database) (shown : Shown) (now : ℤ) (who : ℕ) (stmt : RowStmt) → ApartGives (form d shown now who (Row stmt))
 apart-rows d shown now who stmt =
-    let k : Kinds = row_kinds (d.part.session who).is_open stmt in
     apart-with_first (switches_first d now who stmt) _ (apart-first d now who stmt)
     (apart-tells AnyReply d now _
-    (gives-map ReplyHasMoments AnyReply (may_leave k who) is_apart (λ reply has. tt) (row-apart k (no-queues (d.part.session who).is_open stmt) who) (row_form d.part shown.rows who stmt) (gives-row_form who d.part shown.rows stmt)))
+    (gives-map ReplyHasMoments AnyReply is_of_rows is_apart (λ reply has. tt) rows-apart (row_form d.part shown.rows who stmt) (form-rows d.part shown.rows who stmt)))
 
 -- statements on queues
 apart-own : (who t : ℕ) (s : Session) (marks : List Mark) → EachMark is_apart marks → EachMark is_apart (in_own who t s marks)
@@ -235,38 +232,7 @@ apart-form d shown now who PgqdOff e = (tt, tt)
 
 -- ---- queues by their numbers
 
--- no two have one
-abbrev Apart : List NamedQueue → Type 0
-Apart [] = Unit {0}
-Apart (x ∷ xs) = (list_any (λ y. y.number == x.number) xs ≡ false) × Apart xs
-
-apart-push : (xs : List NamedQueue) (last : NamedQueue) → list_any (λ y. y.number == last.number) xs ≡ false → Apart xs → Apart (xs ++ last ∷ [])
-apart-push [] last none apart = (refl, tt)
-apart-push (x ∷ xs) last none apart = (first xs apart.0, apart-push xs last (grind (arith, none)) apart.1)
-  where
-    other : (last.number == x.number) ≡ false
-    other = grind (arith, nat_tests, none)
-
-    first : (ys : List NamedQueue) → list_any (λ y. y.number == x.number) ys ≡ false → list_any (λ y. y.number == x.number) (ys ++ last ∷ []) ≡ false
-    first [] e = ap (λ b. b || false) other
-    first (y ∷ ys) e = grind (arith, first ys, e)
-
-apart-others : (p : ℕ) (xs : List NamedQueue) → Apart xs → Apart (others_than p xs)
-apart-others p [] apart = tt
-apart-others p (x ∷ xs) apart =
-    by_test (λ b. Apart (if b then x ∷ others_than p xs else others_than p xs)) (not (x.number == p))
-    (λ _. (false_from_ne_true (list_any (λ y. y.number == x.number) (others_than p xs)) (λ is. absurd (cc (sym apart.0 ∙ others-among p xs x.number is))), apart-others p xs apart.1))
-    (λ _. apart-others p xs apart.1)
-
-queues-apart : (h : History) → Apart (queues h)
-queues-apart [] = tt
-queues-apart (queued (made name t time) ∷ h) =
-    apart-push (queues h) (record { number = queues_made h; name = name })
-    (false_from_ne_true (list_any (λ y. y.number == queues_made h) (queues h)) (λ is. absurd (omega (arith, queue-below h (queues_made h) is)))) (queues-apart h)
-queues-apart (queued (dropped p) ∷ h) = apart-others p (queues h) (queues-apart h)
-queues-apart (_ ∷ h) = queues-apart h
-
--- so the name of a number is that by which the number is found
+-- the name of a number is that by which the number is found
 name-found : (name : List ℕ) (xs : List NamedQueue) (q : ℕ) → Apart xs → queue_number name xs ≡ Some q → queue_name q xs ≡ name
 name-found name [] q apart is = absurd (cc is)
 name-found name (x ∷ xs) q apart is =
@@ -283,7 +249,10 @@ name-found name (x ∷ xs) q apart is =
     at one = grind (arith, nat_tests, one)
 
     differs : queue_number name xs ≡ Some q → (x.number == q) ≡ false
-    differs later = by_same (λ b. b ≡ false) x.number q (λ one. absurd (cc (sym apart.0 ∙ ap (λ n. list_any (λ y. y.number == n) xs) one ∙ among-number name xs q later))) (λ _. refl)
+    differs later =
+        by_same (λ b. b ≡ false) x.number q
+        (λ one. absurd (cc (sym (list_any_none (λ y. y.number == q) xs (All-weaker (λ y. (x.number == y.number) ≡ false) (λ y. (y.number == q) ≡ false) (λ y other. grind (arith, nat_tests, one, other)) xs apart.0)) ∙ among-number name xs q later)))
+        (λ _. refl)
 
 -- ---- statements on consumers are refused for nodes'
 

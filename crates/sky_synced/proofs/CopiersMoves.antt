@@ -24,17 +24,18 @@ use Rattle.sky_model.specs.StepApply.{may_apply, kept_snapshot}
 use Rattle.sky_model.specs.StepNode.{NodeCall, joining, parting, holding, letting_go, beginning_copy, copying_rows, ending_copy, moving, is_full}
 use Rattle.sky_model.specs.WorkerMoves.{Move, only_prints, moves_to, behind_calls, handing}
 use Rattle.sky_model.specs.BatchMoves.{takes_next, goes_through}
-use Rattle.sky_model.specs.CopyMoves.{newest_of, piece_size, rows_from, rows_of, last_key, copies_piece, next_piece, copy_consumer, first_hand, starts_copy, copy_running, under_way, held_snapshot, continues, goes_on as copy_goes_on, copier, with_batch, has_caught_up, catches_up, hands_over, if_copied, moves_in, table_move, table_at, copy_move}
+use Rattle.sky_model.specs.CopyMoves.{newest_of, piece_size, rows_from, rows_of, last_key, copies_piece, next_piece, copy_consumer, first_hand, starts_copy, copy_running, under_way, held_snapshot, continues, starts_or_continues as copy_goes_on, copier, goes_through_or, has_caught_up, catches_up, hands_over, if_copied, moves_in, table_move, table_at, copy_move}
 use Rattle.sky_model.specs.ReplayMoves.{is_on_way}
 use Rattle.sky_model.proofs.Legal.{Legal}
 use Rattle.sky_model.proofs.Cases.{by_test}
+use Rattle.sky_model.proofs.InCopyTables.{found, found-named}
 use Rattle.sky_synced.specs.Tables.{has_own_tick}
 use Rattle.sky_synced.proofs.Following.{Following}
 use Rattle.sky_synced.proofs.FollowingCalls.{after_call, following-again, spares-parting, spares-joining}
-use Rattle.sky_synced.proofs.LeafFollows.{found, found-named, found-here, found-other, copy_name, CopyOf, LeafFollows, copy-off_way, off-way, ChangesOne, changed}
+use Rattle.sky_synced.proofs.LeafFollows.{found-here, found-other, copy_name, CopyOf, LeafFollows, copy-off_way, off-way, ChangesOne, changed, copied-on-way}
 use Rattle.sky_synced.proofs.LeafNodes.{IsOfCalls, leaf-begun, leaf-rows, leaf-ended, leaf-moved, GoesInto, leaf-moves}
 use Rattle.sky_synced.proofs.WorkersMoves.{after_each, SparesEach, legal-each, kept-each, TickGoes, Goes, MayGo, goes-through, goes-next}
-use Rattle.sky_synced.proofs.LeafMoves.{names-apart, each-append, spares-append, spares-holding, spares-letting_go, MoveFollows, copied-way}
+use Rattle.sky_synced.proofs.LeafMoves.{names-apart, each-append, spares-append, spares-holding, spares-letting_go, MoveFollows}
 
 -- what the workers of a leaf's tables have in hand, once that of one table has this
 abbrev pub handed : List ℕ → Option Hand → (List ℕ → Option Hand) → List ℕ → Option Hand
@@ -212,7 +213,7 @@ module _ (h k : History) (q : ℕ) (l : Leaf) (batch : Option BatchHand) (hand :
 
   module _ (t : LeafTable) (is : found name l.tables ≡ Some t) (has : has_own_tick t.state ≡ true) (called : t.name ≡ name) where
     on_way : is_on_way t.state ≡ true
-    on_way = copied-way t.state has
+    on_way = copied-on-way t.state has
 
     c : CopyOf h q l t (hand name)
     c = f.copies name t is
@@ -408,10 +409,10 @@ module _ (h k : History) (q : ℕ) (l : Leaf) (batch : Option BatchHand) (hand :
     by-goes (Ok move) g = copier-goes t is has called move g
     by-goes (Err refusal) g = tt
 
-    with-batch : (other : Checked (Move BatchHand)) → (batch_in (hand name) ≡ None → CopyFollowsIf (handing of_batch other)) → CopyFollowsIf (handing of_batch (with_batch (database_of h) (database_of k) t (batch_in (hand name)) other))
+    with-batch : (other : Checked (Move BatchHand)) → (batch_in (hand name) ≡ None → CopyFollowsIf (handing of_batch other)) → CopyFollowsIf (handing of_batch (goes_through_or (database_of h) (database_of k) t (batch_in (hand name)) other))
     with-batch other without = of (batch_in (hand name)) refl
       where
-        of : (o : Option BatchHand) → batch_in (hand name) ≡ o → CopyFollowsIf (handing of_batch (with_batch (database_of h) (database_of k) t o other))
+        of : (o : Option BatchHand) → batch_in (hand name) ≡ o → CopyFollowsIf (handing of_batch (goes_through_or (database_of h) (database_of k) t o other))
         of None empty = without empty
         of (Some b) there = by-goes (goes_through (database_of h) (database_of k) (copier (node k) t) b) (goes-through h k q (copier (node k) t) b legal may (follows_at (Some b) there))
 
@@ -422,13 +423,13 @@ module _ (h k : History) (q : ℕ) (l : Leaf) (batch : Option BatchHand) (hand :
     either-copied true x y here there = here
     either-copied false x y here there = there
 
-    catching : CopyFollowsIf (handing of_batch (with_batch (database_of h) (database_of k) t (batch_in (hand name)) (catches_up (database_of h) (database_of k) t)))
+    catching : CopyFollowsIf (handing of_batch (goes_through_or (database_of h) (database_of k) t (batch_in (hand name)) (catches_up (database_of h) (database_of k) t)))
     catching =
         with-batch (catches_up (database_of h) (database_of k) t) (λ empty.
         either-copied (has_caught_up (database_of h) t) (moves_to (WannaSync t.tick) t.name) (takes_next (database_of h) (copier (node k) t))
         (subst (λ x. CopyFollowsIf (handing of_batch (moves_to (WannaSync t.tick) x))) (sym called) (copier-waits t is has called (WannaSync t.tick) (TableMoved name (WannaSync t.tick) ∷ []) refl empty)) (takes empty))
 
-    handing-over : (tick : ℕ) → t.state ≡ DoSync tick → CopyFollowsIf (handing of_batch (with_batch (database_of h) (database_of k) t (batch_in (hand name)) (hands_over (database_of h) (database_of k) tick t)))
+    handing-over : (tick : ℕ) → t.state ≡ DoSync tick → CopyFollowsIf (handing of_batch (goes_through_or (database_of h) (database_of k) t (batch_in (hand name)) (hands_over (database_of h) (database_of k) tick t)))
     handing-over tick state =
         with-batch (hands_over (database_of h) (database_of k) tick t) (λ empty.
         either-copied (t.tick == tick) (Ok (record { provider = parting own ∷ []; replica = moving t.name Synced ∷ []; replies = TableMoved t.name Synced ∷ []; hand = None })) (takes_next (database_of h) (copier (node k) t))

@@ -14,7 +14,7 @@ use Rattle.sky_model.specs.Nodes.{node}
 use Rattle.sky_model.specs.StepNode.{may_copy}
 use Rattle.sky_model.specs.NodesOfWorld.{Located}
 use Rattle.sky_model.specs.World.{history_in, nodes}
-use Rattle.sky_model.proofs.Legal.{Fine, begins, begins_work, begins_copy, Legal, legal-below_mark, fine_mark}
+use Rattle.sky_model.proofs.Legal.{Legal, legal-below_mark, fine_mark}
 use Rattle.sky_model.proofs.SnapshotLaws.{legal_place}
 use Rattle.sky_model.proofs.TickOrder.{is_made}
 use Rattle.sky_model.proofs.RowSights.{Since, here, later, legal-since}
@@ -22,6 +22,7 @@ use Rattle.sky_model.proofs.NodeTables.{one-place}
 use Rattle.sky_model.proofs.InCopyTables.{leaf_table}
 use Rattle.sky_model.proofs.Good.{same-session}
 use Rattle.sky_model.proofs.Cases.{by_test}
+use Rattle.sky_model.proofs.Snapshots.{begun-next}
 use Rattle.sky_changes.specs.Listing.{IsListed, StaysListed}
 use Rattle.sky_changes.proofs.Places.{to-below, from-below, since-joined, since-or, either-since, one-place as one-only}
 use Rattle.sky_changes.proofs.ListedTables.{place-kept, columns-kept}
@@ -54,12 +55,6 @@ since-past (within e mark ∷ above) before p =
     by_test (λ b. Since (history_in before p) (if b then mark ∷ history_in (above ++ before) p else history_in (above ++ before) p)) (e == p) (λ _. later rest) (λ _. rest)
 since-past (_ ∷ above) before p = since-past above before p
 
--- a transaction begins once
-began-next : {h : History} {whose : Whose} {t : ℕ} → Fine h (began whose t) → t ≡ next_txid h
-began-next (begins who none) = refl
-began-next begins_work = refl
-began-next (begins_copy n may) = refl
-
 next-grows : (mark : Mark) (h : History) → next_txid h ≤ next_txid (mark ∷ h)
 next-grows (began whose t) h = omega arith
 next-grows _ h = omega arith
@@ -74,7 +69,7 @@ module _ (d : ℕ) (whose : Whose) (t : ℕ) where
   begun-below : (above : List Fact) (past : Past) → Legal (history_in (above ++ began_in past) d) → t < next_txid (history_in (above ++ began_in past) d)
   begun-below [] past l =
       let at : Legal (began whose t ∷ history_in past d) = subst Legal (own-first past) l in
-      subst (λ h. t < next_txid h) (sym (own-first past)) (let new : t ≡ next_txid (history_in past d) = began-next (fine_mark at) in omega (arith, new))
+      subst (λ h. t < next_txid h) (sym (own-first past)) (let new : t ≡ next_txid (history_in past d) = begun-next _ _ _ (fine_mark at) in omega (arith, new))
   begun-below (within e mark ∷ above) past l =
       let h : History = history_in (above ++ began_in past) d in
       by_test (λ b. Legal (if b then mark ∷ h else h) → t < next_txid (if b then mark ∷ h else h)) (e == d)
@@ -87,7 +82,7 @@ module _ (d : ℕ) (whose : Whose) (t : ℕ) where
       let at : Legal (began whose t ∷ history_in past d) = subst Legal (own-first past) l in
       let low : Legal (history_in (above ++ began_in before) d) = subst (λ p. Legal (history_in p d)) is (legal-below_mark at) in
       let less = begun-below above before low in
-      let new : t ≡ next_txid (history_in (above ++ began_in before) d) = began-next (fine_mark at) ∙ ap (λ p. next_txid (history_in p d)) is in
+      let new : t ≡ next_txid (history_in (above ++ began_in before) d) = begun-next _ _ _ (fine_mark at) ∙ ap (λ p. next_txid (history_in p d)) is in
       omega (arith, less, new)
 
   legal-tail : (fact : Fact) (past : Past) → Legal (history_in (fact ∷ past) d) → Legal (history_in past d)

@@ -9,7 +9,6 @@ use Rattle.sky_model.specs.HistoryPlaces.{IsPlace}
 use Rattle.sky_model.proofs.Legal.{makes, ticks_next, Legal, next, legal-below_mark, fine_mark}
 use Rattle.sky_model.proofs.Snapshots.{ender-unended}
 use Rattle.sky_model.proofs.TickOrder.{is_made, unmade_above, unmade_beyond}
-use Rattle.sky_model.proofs.Listings.{made_since}
 use Rattle.sky_model.proofs.RowSights.{Since, here, later, legal-since, ended-behind, ended-since}
 use Rattle.sky_model.proofs.CopiesCovered.{rows-wrote}
 use Rattle.sky_model.proofs.Good.{same-session}
@@ -32,10 +31,6 @@ tick-stays (next {h = h} l (ticks_next p m time seq i above c)) q id made_it =
     let other : (p == q && m == id) ≡ false = grind (arith, nat_tests, unmade_above h l q id, above, made_it) in
     ap (λ b. if b then h else at_tick q id h) other
 tick-stays (next l _) q id made_it = refl
-
--- and so does the tick
-pub made-stays : (mark : Mark) (k : History) (q id : ℕ) → is_made q id k ≡ true → is_made q id (mark ∷ k) ≡ true
-made-stays mark k q id made_it = made_since q id (mark ∷ []) k made_it
 
 -- ---- the later of two places
 

@@ -1,4 +1,4 @@
--- What a call of the world keeps, if each mark of a session's statement or of a daemon does, each statement on nodes, and what else happens beside them. Of
+-- What a call of the world keeps, if the marks of a session's statement or of a daemon do, each statement on nodes, and what else happens beside them. Of
 -- the place of the call, and of the one after it, something may be known besides.
 use Rattle.std.proofs.Common.{◌≡◌, ℕ, ℤ, List, [], ◌∷◌, ◌++◌, map, length, nat_le, Bool, true, false, not, ◌&&◌, Option, Some, None, Ok, Err, IfOk, is_some, refl, sym, ap, subst, ◌∙◌, if◌then◌else◌}
 use Rattle.std.proofs.lemmas.Bool.{and_parts}
@@ -22,13 +22,15 @@ use Rattle.sky_model.specs.NodesOfWorld.{WorldOutcome, node_called}
 use Rattle.sky_model.specs.WorkersOfWorld.{node_form}
 use Rattle.sky_model.specs.World.{World, world_of, session_names, database_names, home, history_in, on_top}
 use Rattle.sky_model.specs.Calls.{opening, opens, outside_does, left_if, is_leaving, may_make, of_daemon_if, beside, database_turn, gets_node, node_if, world_does, does_at, session_does, turn, Call, called, past_of}
+use Rattle.sky_model.specs.InForm.{IsInForm, IsNodeInForm}
 use Rattle.sky_model.proofs.Histories.{same-turn-within, same-daemon-within}
 use Rattle.sky_model.proofs.PastHistories.{on_top-append, history-marks}
 use Rattle.sky_model.proofs.ClockSteps.{after-clock}
 use Rattle.sky_model.proofs.Marks.{database_of-marks}
 use Rattle.sky_model.proofs.Good.{same-session}
-use Rattle.sky_model.proofs.StatementMarks.{EachMark, each-rest, when-true}
+use Rattle.sky_model.proofs.StatementMarks.{EachMark}
 use Rattle.sky_replicas.proofs.SessionsMarks.{is_sessions, sessions-turn, sessions-daemon}
+use Rattle.sky_synced.proofs.ConsumersMarks.{SparesNodes, spares-turn, spares-daemon}
 
 -- whether a fact is none in a database, of a node, and of what a worker has in hand
 abbrev pub is_beside : Fact → Bool
@@ -38,15 +40,11 @@ is_beside (in_hand d table hand) = false
 is_beside (batch_in_hand d batch) = false
 is_beside fact = true
 
-module _ (At End Q : Past → Type 0) (stays : (past : Past) (d : ℕ) (mark : Mark) → is_sessions mark ≡ true → Q past → Q (within d mark ∷ past))
+module _ (At End Q : Past → Type 0)
+    (after-marks : (past : Past) (d : ℕ) (marks : List Mark) → EachMark is_sessions marks → SparesNodes (history_in past d) marks → Q past → Q (on_top past (map (within d) marks)))
     (noded : (past : Past) (d : ℕ) → is_some (node (history_in past d)) ≡ true → Q past → Q (node_made d ∷ past)) (aside : (past : Past) (fact : Fact) → is_beside fact ≡ true → Q past → Q (fact ∷ past))
     (appear : (past : Past) (name : List ℕ) → At past → At (appeared name ∷ past))
-    (forms : (past : Past) (d : ℕ) (s : NodeStmt) → At past → Q past → IfOk (node_form (world_of past) d s) (λ o. End (on_top past o.facts) → Q (on_top past o.facts))) where
-  after-marks : (past : Past) (d : ℕ) (marks : List Mark) → EachMark is_sessions marks → Q past → Q (on_top past (map (within d) marks))
-  after-marks past d [] each q = q
-  after-marks past d (mark ∷ marks) each q =
-      after-marks (within d mark ∷ past) d marks (each-rest is_sessions mark marks each) (stays past d mark (when-true (EachMark is_sessions marks) (is_sessions mark) each) q)
-
+    (forms : (past : Past) (d : ℕ) (s : NodeStmt) → IsNodeInForm s → At past → Q past → IfOk (node_form (world_of past) d s) (λ o. End (on_top past o.facts) → Q (on_top past o.facts))) where
   -- facts that keep it
   abbrev Keep : List Fact → Type 0
   Keep facts = (past : Past) → Q past → Q (on_top past facts)
@@ -80,13 +78,17 @@ module _ (At End Q : Past → Type 0) (stays : (past : Past) (d : ℕ) (mark : M
   turn-marks : (past : Past) (d : ℕ) (now : ℤ) (who : ℕ) (stmt : Stmt) → EachMark is_sessions (database_turn (within_database by_past d) past now who stmt).marks
   turn-marks past d now who stmt = subst (λ (x : Turn). EachMark is_sessions x.marks) (sym (same-turn-within past d now who stmt)) (sessions-turn (history_in past d) now who stmt)
 
+  turn-spares : (past : Past) (d : ℕ) (now : ℤ) (who : ℕ) (stmt : Stmt) → SparesNodes (history_in past d) (database_turn (within_database by_past d) past now who stmt).marks
+  turn-spares past d now who stmt = subst (λ (x : Turn). SparesNodes (history_in past d) x.marks) (sym (same-turn-within past d now who stmt)) (spares-turn (history_in past d) now who stmt)
+
   -- what happens besides is to keep it after the marks
   after-deed : (past : Past) (d who : ℕ) (stmt : Stmt) (outside : List Fact)
       → ((let q : Past = on_top past (map (within d) (database_turn (within_database by_past d) past (world_of past).now who stmt).marks) in Q q → Q (on_top q outside)))
       → Q past → Q (on_top past (deed_in d outside (database_turn (within_database by_past d) past (world_of past).now who stmt)).facts)
   after-deed past d who stmt outside keep q =
       let turn_within : Turn = database_turn (within_database by_past d) past (world_of past).now who stmt in
-      subst Q (sym (on_top-append past (map (within d) turn_within.marks) outside)) (keep (after-marks past d turn_within.marks (turn-marks past d (world_of past).now who stmt) q))
+      subst Q (sym (on_top-append past (map (within d) turn_within.marks) outside))
+      (keep (after-marks past d turn_within.marks (turn-marks past d (world_of past).now who stmt) (turn-spares past d (world_of past).now who stmt) q))
 
   after-opens : (past : Past) (who : ℕ) (stmt : Stmt) (name : List ℕ) (found : Option ℕ) → Q past → Q (on_top past (opens by_past past who stmt name found).facts)
   after-opens past who stmt name (Some d) q = after-deed past d who stmt (entered who d ∷ []) (λ x. aside _ (entered who d) refl x) q
@@ -120,32 +122,33 @@ module _ (At End Q : Past → Type 0) (stays : (past : Past) (d : ℕ) (mark : M
           ∙ ap (λ (x : Database). is_some (after_marks x deed.marks).node) (sym is)
           ∙ (and_parts (not (is_some old.node)) (is_some (after_marks old deed.marks).node) got).1
 
-  after-at : (past : Past) (who : ℕ) (stmt : Stmt) (d : ℕ) → At past → Q past → End (on_top past (does_at by_past past who stmt d).facts) → Q (on_top past (does_at by_past past who stmt d).facts)
-  after-at past who (OnNodes s) d at q at_end =
-      end-if past (may_make ((world_of past).database d) who (OnNodes s)) _ _ (after-does past who (node_form (world_of past) d s) (forms past d s at q) q) (after-deed past d who (OnNodes s) [] (λ x. x) q) at_end
-  after-at past who (CreateRoot name queue) d at q at_end =
+  after-at : (past : Past) (who : ℕ) (stmt : Stmt) (d : ℕ) → IsInForm stmt → At past → Q past → End (on_top past (does_at by_past past who stmt d).facts) → Q (on_top past (does_at by_past past who stmt d).facts)
+  after-at past who (OnNodes s) d form at q at_end =
+      end-if past (may_make ((world_of past).database d) who (OnNodes s)) _ _ (after-does past who (node_form (world_of past) d s) (forms past d s form at q) q) (after-deed past d who (OnNodes s) [] (λ x. x) q) at_end
+  after-at past who (CreateRoot name queue) d form at q at_end =
       let turn_within : Turn = database_turn (within_database by_past d) past (world_of past).now who (CreateRoot name queue) in
       let got : Bool = gets_node ((world_of past).database d) turn_within in
       after-if past (may_make ((world_of past).database d) who (CreateRoot name queue) && is_some (node_called (world_of past) name)) _ _ q
       (after-deed past d who (CreateRoot name queue) (node_if got d) (keep-node past d ((world_of past).database d) turn_within refl got refl) q)
-  after-at past who stmt d at q at_end = after-deed past d who stmt (beside (world_of past) who stmt d) (keep-beside (world_of past) who stmt d _) q
+  after-at past who stmt d form at q at_end = after-deed past d who stmt (beside (world_of past) who stmt d) (keep-beside (world_of past) who stmt d _) q
 
-  after-session : (past : Past) (who : ℕ) (stmt : Stmt) (home_is : Option ℕ) → At past → Q past → End (on_top past (session_does by_past past who stmt home_is).facts) → Q (on_top past (session_does by_past past who stmt home_is).facts)
-  after-session past who stmt None at q at_end = after-outside past who stmt (opening stmt) q
-  after-session past who stmt (Some d) at q at_end = after-at past who stmt d at q at_end
+  after-session : (past : Past) (who : ℕ) (stmt : Stmt) (home_is : Option ℕ) → IsInForm stmt → At past → Q past → End (on_top past (session_does by_past past who stmt home_is).facts) → Q (on_top past (session_does by_past past who stmt home_is).facts)
+  after-session past who stmt None form at q at_end = after-outside past who stmt (opening stmt) q
+  after-session past who stmt (Some d) form at q at_end = after-at past who stmt d form at q at_end
 
   after-works : (past : Past) (d : ℕ) (part : DaemonPart) (now : ℤ) → Q past → Q (on_top past (map (within d) (daemon_does (within_database by_past d) past part now).marks))
   after-works past d part now q =
       let deed : Turn = daemon_does (within_database by_past d) past part now in
-      after-marks past d deed.marks (subst (λ (x : Turn). EachMark is_sessions x.marks) (sym (same-daemon-within past d part now)) (sessions-daemon (history_in past d) part now)) q
+      after-marks past d deed.marks (subst (λ (x : Turn). EachMark is_sessions x.marks) (sym (same-daemon-within past d part now)) (sessions-daemon (history_in past d) part now))
+      (subst (λ (x : Turn). SparesNodes (history_in past d) x.marks) (sym (same-daemon-within past d part now)) (spares-daemon (history_in past d) part now)) q
 
-  after-statement : (past : Past) (who : ℕ) (stmt : Stmt) → At past → Q past → End (on_top past (turn by_past who stmt past).facts) → Q (on_top past (turn by_past who stmt past).facts)
-  after-statement past who (Clock time) at q at_end = after-clock Q (λ p moment holds. aside p (clock_at moment) refl holds) after-works past who time (waits_at (world_of past) who (home past who)) q
-  after-statement past who stmt at q at_end = after-session past who stmt (home past who) at q at_end
+  after-statement : (past : Past) (who : ℕ) (stmt : Stmt) → IsInForm stmt → At past → Q past → End (on_top past (turn by_past who stmt past).facts) → Q (on_top past (turn by_past who stmt past).facts)
+  after-statement past who (Clock time) form at q at_end = after-clock Q (λ p moment holds. aside p (clock_at moment) refl holds) after-works past who time (waits_at (world_of past) who (home past who)) q
+  after-statement past who stmt form at q at_end = after-session past who stmt (home past who) form at q at_end
 
-  after-found : (past : Past) (call : Call) (found : Option ℕ) → At past → Q past → End (on_top past (called by_past past call found).facts) → Q (on_top past (called by_past past call found).facts)
-  after-found past call (Some who) at q at_end = after-statement past who call.stmt at q at_end
-  after-found past call None at q at_end = of (nat_le 256 (length (session_names past))) at_end
+  after-found : (past : Past) (call : Call) (found : Option ℕ) → IsInForm call.stmt → At past → Q past → End (on_top past (called by_past past call found).facts) → Q (on_top past (called by_past past call found).facts)
+  after-found past call (Some who) form at q at_end = after-statement past who call.stmt form at q at_end
+  after-found past call None form at q at_end = of (nat_le 256 (length (session_names past))) at_end
     where
       who : ℕ
       who = length (session_names past)
@@ -159,8 +162,8 @@ module _ (At End Q : Past → Type 0) (stays : (past : Past) (d : ℕ) (mark : M
       of : (b : Bool) → End (on_top past (if b then refuses who (TooMany Sessions) else followed by_past past (turn by_past who call.stmt) (appears call.who)).facts)
           → Q (on_top past (if b then refuses who (TooMany Sessions) else followed by_past past (turn by_past who call.stmt) (appears call.who)).facts)
       of true e = q
-      of false e = subst Q (sym split) (after-statement (appeared call.who ∷ past) (length (session_names past)) call.stmt (appear past call.who at) (aside past (appeared call.who) refl q) (subst End split e))
+      of false e = subst Q (sym split) (after-statement (appeared call.who ∷ past) (length (session_names past)) call.stmt form (appear past call.who at) (aside past (appeared call.who) refl q) (subst End split e))
 
   -- after a call
-  pub after-call : (call : Call) (calls : List Call) → At (past_of calls) → Q (past_of calls) → End (past_of (call ∷ calls)) → Q (past_of (call ∷ calls))
-  after-call call calls at q at_end = after-found (past_of calls) call (place_of call.who (session_names (past_of calls))) at q at_end
+  pub after-call : (call : Call) (calls : List Call) → IsInForm call.stmt → At (past_of calls) → Q (past_of calls) → End (past_of (call ∷ calls)) → Q (past_of (call ∷ calls))
+  after-call call calls form at q at_end = after-found (past_of calls) call (place_of call.who (session_names (past_of calls))) form at q at_end

@@ -17,28 +17,20 @@ use Rattle.sky_model.proofs.Histories.{AllLegal}
 use Rattle.sky_model.proofs.Good.{same-session}
 use Rattle.sky_model.proofs.Cases.{by_test, by_same}
 use Rattle.sky_replicas.proofs.Keeping.{Noded}
-use Rattle.sky_replicas.proofs.HandsAt.{hands-marks}
-use Rattle.sky_replicas.proofs.CallPasts.{call_marks, called, after_calls, history-called, histories-elsewhere}
+use Rattle.sky_replicas.proofs.CallPasts.{called, after_calls, history-called, histories-elsewhere}
+use Rattle.sky_replicas.proofs.KeptCalls.{hands-calls}
 use Rattle.sky_synced.proofs.Following.{Following}
 use Rattle.sky_synced.proofs.LeafFollows.{copy_name, LeafFollows, KeptAt, all-kept}
 use Rattle.sky_synced.proofs.WorkersMoves.{after_each, SparesEach, kept-each}
 use Rattle.sky_synced.proofs.LeafMoves.{dotted, MoveFollows}
 use Rattle.sky_synced.proofs.CopiersMoves.{handed, same-hands}
-use Rattle.sky_synced.proofs.FollowPasts.{AtSource, Follow, Next, follow-next, batches-marks, Sourced, Stays, stays-calls, legal-calls}
+use Rattle.sky_synced.proofs.FollowPasts.{AtSource, Follow, Next, follow-next, Sourced, Stays, stays-calls, legal-calls, batches-calls}
 
 -- ---- pasts after calls
 
 each-calls : (past : Past) (e : ℕ) (calls : List NodeCall) → history_in (after_calls past e calls) e ≡ after_each (history_in past e) calls
 each-calls past e [] = refl
 each-calls past e (call ∷ calls) = each-calls (called past e call) e calls ∙ ap (λ h. after_each h calls) (history-called past e call)
-
-hands-calls : (past : Past) (e : ℕ) (calls : List NodeCall) → hands (after_calls past e calls) ≡ hands past
-hands-calls past e [] = refl
-hands-calls past e (call ∷ calls) = hands-calls (called past e call) e calls ∙ hands-marks past e (call_marks (history_in past e) call)
-
-batches-calls : (past : Past) (e : ℕ) (calls : List NodeCall) → batches (after_calls past e calls) ≡ batches past
-batches-calls past e [] = refl
-batches-calls past e (call ∷ calls) = batches-calls (called past e call) e calls ∙ batches-marks past e (call_marks (history_in past e) call)
 
 -- ---- names of other leaves
 

@@ -1,13 +1,12 @@
 -- Where the consumers of all leaves' workers are, fact by fact.
-use Rattle.std.proofs.Common.{◌≡◌, ℕ, ◌==◌, List, [], ◌∷◌, map, Bool, true, false, Some, None, is_some, refl, sym, ap, subst, ◌∙◌, if◌then◌else◌}
+use Rattle.std.proofs.Common.{◌≡◌, ℕ, List, [], ◌∷◌, map, true, Some, None, is_some, refl, sym, ap, subst, ◌∙◌, if◌then◌else◌}
 use Rattle.londiste_state.specs.Nodes.{of_leaf, Leaf}
 use Rattle.sky_model.specs.History.{Mark, noded, root_made, History, Fact, within, node_made, in_hand, batch_in_hand, Past}
-use Rattle.sky_model.specs.Queues.{queues}
 use Rattle.sky_model.specs.Nodes.{node}
 use Rattle.sky_model.specs.Settling.{marked}
 use Rattle.sky_model.specs.StepNode.{NodeCall}
 use Rattle.sky_model.specs.World.{history_in, hands, batches, on_top}
-use Rattle.sky_model.proofs.Legal.{queue_of_set, Legal}
+use Rattle.sky_model.proofs.Legal.{Legal}
 use Rattle.sky_model.proofs.Histories.{AllLegal}
 use Rattle.sky_model.proofs.PastHistories.{history-marks}
 use Rattle.sky_model.proofs.StatementMarks.{EachMark, each-rest, when-true}
@@ -21,6 +20,7 @@ use Rattle.sky_replicas.proofs.SessionsMarks.{is_sessions}
 use Rattle.sky_synced.proofs.Following.{Following, following-marks}
 use Rattle.sky_synced.proofs.ConsumersMarks.{SparesNodes}
 use Rattle.sky_synced.proofs.LeafFollows.{copy_name, LeafFollows, KeptAt, all-kept}
+use Rattle.sky_synced.proofs.EachStatement.{is_beside}
 
 -- ---- what is so
 
@@ -42,12 +42,6 @@ pub record Follow (past : Past) : Type 0 where
 
 abbrev pub KeptFollow : Past → Type 0
 KeptFollow past = AllLegal past → Follow past
-
--- a provider's database isn't its leaf's
-pub source-apart : (past : Past) (d : ℕ) (l : Leaf) (a : AtSource past d l) → node (history_in past d) ≡ Some (of_leaf l) → (a.p == d) ≡ false
-source-apart past d l a leaf =
-    by_same (λ b. b ≡ false) a.p d
-    (λ same. absurd (cc (sym a.follows.replays.of_set ∙ ap (queue_of_set (queues (history_in past a.p))) (ap (λ n. node (history_in past n)) same ∙ leaf)))) (λ _. refl)
 
 -- ---- a past after another
 
@@ -86,6 +80,10 @@ follow-next past now f noded_now sourced next bare empty = record {
 pub batches-marks : (past : Past) (e : ℕ) (marks : List Mark) → batches (on_top past (map (within e) marks)) ≡ batches past
 batches-marks past e [] = refl
 batches-marks past e (mark ∷ marks) = batches-marks (within e mark ∷ past) e marks
+
+pub batches-calls : (past : Past) (e : ℕ) (calls : List NodeCall) → batches (after_calls past e calls) ≡ batches past
+batches-calls past e [] = refl
+batches-calls past e (call ∷ calls) = batches-calls (called past e call) e calls ∙ batches-marks past e (call_marks (history_in past e) call)
 
 -- nodes and sources stay
 pub record Stays (past now : Past) : Type 0 where
@@ -183,15 +181,7 @@ follow-made past e has kept after =
     follow-next past (node_made e ∷ past) f (made-noded past e has f.all_noded) (λ d p from. source-made past e d p from)
     (λ d l is. record { was = l; is_leaf = is; named = refl; follows = (f.leaves d l is).follows }) (λ d is. f.bare d is) (λ d name is. f.empty d name is)
 
--- whether a fact is of sessions, of names, or of the clock and daemons
-abbrev pub is_aside : Fact → Bool
-is_aside (within d mark) = false
-is_aside (node_made d) = false
-is_aside (in_hand d table hand) = false
-is_aside (batch_in_hand d batch) = false
-is_aside fact = true
-
-pub follow-aside : (past : Past) (fact : Fact) → is_aside fact ≡ true → KeptFollow past → KeptFollow (fact ∷ past)
+pub follow-aside : (past : Past) (fact : Fact) → is_beside fact ≡ true → KeptFollow past → KeptFollow (fact ∷ past)
 follow-aside past (within d mark) e kept after = absurd (cc e)
 follow-aside past (node_made d) e kept after = absurd (cc e)
 follow-aside past (in_hand d table hand) e kept after = absurd (cc e)

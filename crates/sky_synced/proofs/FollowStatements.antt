@@ -1,17 +1,16 @@
 -- Each statement on nodes leaves the consumers of all leaves' workers where they follow.
-use Rattle.std.proofs.Common.{◌≡◌, inl, inr, ℕ, List, [], ◌∷◌, ◌++◌, Bool, true, false, not, Option, Some, None, Ok, Err, IfOk, option_map, bytes_eq, refl, sym, ap, subst, ◌∙◌, if◌then◌else◌}
+use Rattle.std.proofs.Common.{◌≡◌, inl, inr, ℕ, List, [], ◌∷◌, ◌++◌, true, false, Option, Some, None, Ok, Err, IfOk, option_map, bytes_eq, refl, sym, ap, subst, ◌∙◌, if◌then◌else◌}
 use Rattle.std.specs.Option.{option_and_then}
 use Rattle.sky_names.proofs.PlaceLemmas.{bytes_eq_sym}
 use Rattle.londiste_state.specs.declared.state.TableState.{TableState}
 use Rattle.londiste_state.specs.Nodes.{Node, of_root, of_leaf, Leaf, LeafTable, is_among, table_of, tables_of, without_leaf_table}
 use Rattle.sky_model.specs.declared.reply.Reply.TheVariants.{Done}
-use Rattle.sky_model.specs.declared.reply.Refusal.{Refusal}
-use Rattle.sky_model.specs.declared.reply.Refusal.TheVariants.{NoNode, NotInSet, NotProvider}
+use Rattle.sky_model.specs.declared.reply.Refusal.TheVariants.{NoNode, NotProvider}
 use Rattle.sky_model.specs.History.{History, of_synced, in_hand, batch_in_hand, Past}
 use Rattle.sky_model.specs.Hands.{CopyHand, BatchHand, Hand, copy_in, batch_in}
 use Rattle.sky_model.specs.Nodes.{node}
 use Rattle.sky_model.specs.State.{database_of}
-use Rattle.sky_model.specs.Outcome.{Checked, ◌>>=◌, ◌>>◌, refused_if, found_or}
+use Rattle.sky_model.specs.Outcome.{Checked, ◌>>=◌, found_or}
 use Rattle.sky_model.specs.StepNode.{NodeCall, parting, set_queue}
 use Rattle.sky_model.specs.StepApply.{may_apply}
 use Rattle.sky_model.specs.WorkerMoves.{Move}
@@ -22,13 +21,15 @@ use Rattle.sky_model.specs.WorkersOfWorld.{moves, source, source_alike, leaf_tab
 use Rattle.sky_model.specs.World.{World, world_of, history_in, nodes, hands, batches, on_top}
 use Rattle.sky_model.proofs.Legal.{Legal}
 use Rattle.sky_model.proofs.Histories.{AllLegal}
-use Rattle.sky_model.proofs.Cases.{by_test}
+use Rattle.sky_model.proofs.Cases.{by_test, ok-then}
+use Rattle.sky_model.proofs.InCopyTables.{found, found-less, found-gone}
 use Rattle.sky_replicas.proofs.NodeNames.{provider_of, database_among, names_in, source_of, called-database}
 use Rattle.sky_replicas.proofs.CallPasts.{after_calls, on-move}
 use Rattle.sky_replicas.proofs.Sources.{source-is, alike-is}
+use Rattle.sky_replicas.proofs.KeptCalls.{leaf-is}
 use Rattle.sky_synced.proofs.Following.{empty-handed}
 use Rattle.sky_synced.proofs.FollowingCalls.{spares-parting}
-use Rattle.sky_synced.proofs.LeafFollows.{found, found-less, found-gone, copy_name, CopyOf, LeafFollows, KeptAt, copy-kept, copy-off_way, all-kept, replayed, off-way, changed}
+use Rattle.sky_synced.proofs.LeafFollows.{copy_name, CopyOf, LeafFollows, KeptAt, copy-kept, copy-off_way, all-kept, replayed, off-way, changed}
 use Rattle.sky_synced.proofs.LeafNodes.{IsOfCalls, leaf-given_up, leaf-removed}
 use Rattle.sky_synced.proofs.WorkersMoves.{after_each, SparesEach, kept-each}
 use Rattle.sky_synced.proofs.LeafMoves.{names-apart, spares-append, spares-letting_go, MoveFollows, replay-follows}
@@ -127,12 +128,6 @@ removed-follows h k q l batch hand name legal_k leaf among f = record {
 
 -- ---- statements
 
--- a leaf's table
-leaf-is : (name table : List ℕ) (n : Node) (l : Leaf) → leaf_table name table n ≡ Ok l → n ≡ of_leaf l
-leaf-is name table (of_root r) l is = absurd (cc is)
-leaf-is name table (of_leaf m) l is =
-    by_test (λ b. (refused_if b (NotInSet table) >> Ok m) ≡ Ok l → of_leaf m ≡ of_leaf l) (not (is_among table (tables_of (of_leaf m)))) (λ _ e. absurd (cc e)) (λ _ e. let same : m ≡ l = cc e in ap of_leaf same) is
-
 provider-is : (past : Past) (d p : ℕ) (l : Leaf) → node (history_in past d) ≡ Some (of_leaf l) → providers_database (world_of past) l ≡ Ok p → source_of past d ≡ Some p
 provider-is past d p l leaf is = of (node_called (world_of past) l.provider) refl is
   where
@@ -187,21 +182,9 @@ module _ (past : Past) (kept : KeptFollow past) (made : (d : ℕ) → IsOfCalls 
       let f : Follow past = kept legal in
       follow-hand past d p l f leaf own (inr is_own) move (same-source f d p l leaf from) name move.hand (mv legal f) after)
 
-  if-test : (b : Bool) (refusal : Refusal) (c : Checked WorldOutcome) → (b ≡ false → KeptIfOk c) → KeptIfOk (refused_if b refusal >> c)
-  if-test true refusal c holds = tt
-  if-test false refusal c holds = holds refl
-
-  if-found : {A : Type 0} (o : Option A) (refusal : Refusal) (next : A → Checked WorldOutcome) → ((a : A) → o ≡ Some a → KeptIfOk (next a)) → KeptIfOk (found_or o refusal >>= next)
-  if-found None refusal next holds = tt
-  if-found (Some a) refusal next holds = holds a refl
-
-  if-given : {A : Type 0} (c : Checked A) (next : A → Checked WorldOutcome) → ((a : A) → c ≡ Ok a → KeptIfOk (next a)) → KeptIfOk (c >>= next)
-  if-given (Ok a) next holds = holds a refl
-  if-given (Err refusal) next holds = tt
-
   pub kept-steps : (d : ℕ) (name : List ℕ) (n : Node) → node (history_in past d) ≡ Some n → KeptIfOk (leaf_steps w d name n)
   kept-steps d name (of_root r) leaf = tt
-  kept-steps d name (of_leaf l) leaf = if-given (providers_database w l) _ (λ p is.
+  kept-steps d name (of_leaf l) leaf = ok-then _ (providers_database w l) _ (λ p is.
       let from : source_of past d ≡ Some p = provider-is past d p l leaf is in
       move-batch p d l leaf from (replay_move (w.database p) (w.database d) l (w.batches d)) (λ legal f.
       replay-follows (history_in past p) (history_in past d) (f.leaves d l leaf).queue l (batches past d) (hands past d) (legal p) (legal d) leaf
@@ -209,7 +192,7 @@ module _ (past : Past) (kept : KeptFollow past) (made : (d : ℕ) → IsOfCalls 
 
   pub kept-copies : (d : ℕ) (name table : List ℕ) (n : Node) → node (history_in past d) ≡ Some n → KeptIfOk (leaf_table name table n >>= (λ l. source_alike w d l table
       >>= (λ p. moves w p d (in_hand d table) (copy_move (w.database p) (w.database d) table (w.hands d table)))))
-  kept-copies d name table n is = if-given (leaf_table name table n) _ (λ l is_table. if-given (source_alike w d l table) _ (λ p alike.
+  kept-copies d name table n is = ok-then _ (leaf_table name table n) _ (λ l is_table. ok-then _ (source_alike w d l table) _ (λ p alike.
       let leaf : node (history_in past d) ≡ Some (of_leaf l) = is ∙ ap Some (leaf-is name table n l is_table) in
       let from : source_of past d ≡ Some p = (alike-is past d p l table leaf alike).source.from in
       move-hand p d l leaf from (copy_consumer (node (history_in past d))) table (ap copy_consumer leaf) (copy_move (w.database p) (w.database d) table (w.hands d table)) (λ legal f.
@@ -231,7 +214,7 @@ module _ (past : Past) (kept : KeptFollow past) (made : (d : ℕ) → IsOfCalls 
 
   pub kept-restart_table : (d : ℕ) (name table : List ℕ) (n : Node) → node (history_in past d) ≡ Some n
       → KeptIfOk (leaf_table name table n >>= (λ l. source w l table >>= (λ p. moves w p d (in_hand d table) (Ok (restarting table (w.hands d table))))))
-  kept-restart_table d name table n is = if-given (leaf_table name table n) _ (λ l is_table. if-given (source w l table) _ (λ p at.
+  kept-restart_table d name table n is = ok-then _ (leaf_table name table n) _ (λ l is_table. ok-then _ (source w l table) _ (λ p at.
       let leaf : node (history_in past d) ≡ Some (of_leaf l) = is ∙ ap Some (leaf-is name table n l is_table) in
       let from : source_of past d ≡ Some p = (source-is past d p l table leaf at).from in
       move-hand p d l leaf from (copy_name l) table refl (Ok (restarting table (w.hands d table))) (λ legal f.
@@ -239,7 +222,7 @@ module _ (past : Past) (kept : KeptFollow past) (made : (d : ℕ) → IsOfCalls 
 
   pub kept-leaves : (d : ℕ) (l : Leaf) (name : List ℕ) → node (history_in past d) ≡ Some (of_leaf l) → is_among name (tables_of (of_leaf l)) ≡ true
       → KeptIfOk (source w l name >>= (λ p. moves w p d (in_hand d name) (Ok (leaves_leaf l name (w.hands d name)))))
-  kept-leaves d l name leaf among = if-given (source w l name) _ (λ p at.
+  kept-leaves d l name leaf among = ok-then _ (source w l name) _ (λ p at.
       let from : source_of past d ≡ Some p = (source-is past d p l name leaf at).from in
       move-hand p d l leaf from (copy_name l) name refl (Ok (leaves_leaf l name (w.hands d name))) (λ legal f.
       removed-follows (history_in past p) (history_in past d) (f.leaves d l leaf).queue l (batches past d) (hands past d) name (legal d) leaf among (at-source f d p l leaf from)))

@@ -2,11 +2,10 @@
 use Rattle.std.proofs.Common.{◌≡◌, ℕ, ◌==◌, List, [], ◌∷◌, ◌++◌, map, true, false, Option, Some, None, Ok, is_some, option_map, bytes_eq, refl, sym, ap, subst, ◌∙◌, if◌then◌else◌}
 use Rattle.std.specs.Option.{option_or, option_and_then}
 use Rattle.sky_names.proofs.PlaceLemmas.{bytes_eq_refl}
-use Rattle.londiste_state.specs.Nodes.{Node, of_root, of_leaf, node_name, Root, Leaf, LeafTable, new_table, with_leaf_table, with_root_table, without_root_table}
+use Rattle.londiste_state.specs.Nodes.{Node, of_root, of_leaf, Root, Leaf, LeafTable, new_table, with_leaf_table, with_root_table, without_root_table}
 use Rattle.sky_model.specs.declared.reply.Reply.TheVariants.{Number}
 use Rattle.sky_model.specs.declared.reply.Refusal.TheVariants.{ConsumerExists}
 use Rattle.sky_model.specs.History.{Mark, queued, traced, untraced, tabled, read_only, noded, listed, unlisted, joined, leaf_made, leaf_added, History, within, node_made, Past}
-use Rattle.sky_txid.specs.Ids.{contains}
 use Rattle.sky_urlenc.specs.RowEvents.{Trigger}
 use Rattle.sky_model.specs.Hands.{BatchHand, Hand, batch_in}
 use Rattle.sky_model.specs.Queues.{queues}
@@ -26,13 +25,15 @@ use Rattle.sky_model.proofs.PastHistories.{on_top-append, history-marks}
 use Rattle.sky_model.proofs.Good.{same-session}
 use Rattle.sky_model.proofs.StatementMarks.{EachMark, Gives, AnyReply}
 use Rattle.sky_model.proofs.Cases.{by_same}
-use Rattle.sky_replicas.proofs.NodeNames.{provider_of, named-stays, database_among, names_in, source_of, among-same}
+use Rattle.sky_model.proofs.InCopyTables.{found, found-push}
+use Rattle.sky_replicas.proofs.NodeNames.{provider_of, database_among, names_in, source_of}
 use Rattle.sky_replicas.proofs.Keeping.{legal-before, fine-within, Noded, noded-within, source-within, source-made, made-noded}
 use Rattle.sky_replicas.proofs.Others.{legal-under}
 use Rattle.sky_replicas.proofs.HandsAt.{hands-marks}
+use Rattle.sky_replicas.proofs.ProvidedTables.{found-within}
 use Rattle.sky_synced.proofs.Following.{spares, Following, following-marks}
 use Rattle.sky_synced.proofs.FollowingCalls.{following-joined, spares-joins}
-use Rattle.sky_synced.proofs.LeafFollows.{found, found-push, copy_name, CopyOf, LeafFollows, KeptAt, all-kept, changed}
+use Rattle.sky_synced.proofs.LeafFollows.{copy_name, CopyOf, LeafFollows, KeptAt, all-kept, changed}
 use Rattle.sky_synced.proofs.LeafMoves.{dotted}
 use Rattle.sky_synced.proofs.FollowPasts.{AtSource, Follow, KeptFollow, Next, follow-next, batches-marks, Sourced, Stays, stays-marks, follow-marked}
 use Rattle.sky_synced.proofs.FollowMoves.{differ-if, provider-apart}
@@ -139,26 +140,12 @@ joins-new h q c out is = of (subscription_id q c h) refl
         absurd (cc (sym is ∙ ap (λ o. refused_if (is_some {T = Subscription} (option_map (λ id. record { id = id; position = position q c h; active = active q c h }) o)) (ConsumerExists c)
         >> (registers (database_of h) q c (newest_id (queue_of h q)) >>= (λ registering. does_marks (Number (newest_id (queue_of h q))) (registering.marks ++ noded (joined c) ∷ [])))) e))
 
--- the database of a name stays
-found-mark : (past : Past) (e : ℕ) (mark : Mark) (name : List ℕ) (p : ℕ) → Noded past → Fine (history_in past e) mark → database_among (names_in past) name (nodes past) ≡ Some p
-    → database_among (names_in (within e mark ∷ past)) name (nodes past) ≡ Some p
-found-mark past e mark name p all fine is = among-same (names_in (within e mark ∷ past)) (names_in past) name (nodes past) same ∙ is
-  where
-    same : (x : ℕ) → contains x (nodes past) ≡ true → names_in (within e mark ∷ past) x ≡ names_in past x
-    same x there = by (node (history_in past x)) refl (all x there)
-      where
-        by : (o : Option Node) → node (history_in past x) ≡ o → is_some o ≡ true → names_in (within e mark ∷ past) x ≡ names_in past x
-        by None none some = absurd (cc some)
-        by (Some n) found some =
-            by_same (λ b. option_map node_name (node (if b then mark ∷ history_in past x else history_in past x)) ≡ option_map node_name (node (history_in past x))) e x
-            (λ one. (named-stays (history_in past x) mark n found (subst (λ k. Fine (history_in past k) mark) one fine)).name ∙ sym (ap (option_map node_name) found)) (λ _. refl)
-
 found-marks : (past : Past) (e : ℕ) (marks : List Mark) (name : List ℕ) (p : ℕ) → AllLegal (on_top past (map (within e) marks)) → Noded past → database_among (names_in past) name (nodes past) ≡ Some p
     → database_among (names_in (on_top past (map (within e) marks))) name (nodes (on_top past (map (within e) marks))) ≡ Some p
 found-marks past e [] name p legal all is = is
 found-marks past e (mark ∷ marks) name p legal all is =
     let fine = fine-within past e mark (legal-under (within e mark ∷ past) (map (within e) marks) legal) in
-    found-marks (within e mark ∷ past) e marks name p legal (noded-within past e mark fine all) (found-mark past e mark name p all fine is)
+    found-marks (within e mark ∷ past) e marks name p legal (noded-within past e mark fine all) (found-within past e mark name p all fine is)
 
 module _ (past : Past) (d p queue : ℕ) (name provider : List ℕ) (out : Outcome) (bare : node (history_in past d) ≡ None) (called : database_among (names_in past) provider (nodes past) ≡ Some p)
     (set : queue_of_set (queues (history_in past p)) (node (history_in past p)) ≡ Some queue) (ok : joins (database_of (history_in past p)) queue name ≡ Ok out) (undotted : has_dot name ≡ false) (kept : KeptFollow past) where
@@ -231,7 +218,7 @@ module _ (past : Past) (d p queue : ℕ) (name provider : List ℕ) (out : Outco
     new_from =
         source-made one d d p
         (ap (λ n. option_and_then (λ x. database_among (names_in one) x (nodes one)) (provider_of n)) at_d
-        ∙ found-mark middle d mark provider p s.all_noded fine (found-marks past p out.marks provider p legal_middle f.all_noded called))
+        ∙ found-within middle d mark provider p s.all_noded fine (found-marks past p out.marks provider p legal_middle f.all_noded called))
 
     root_there : (n : Option Node) → node (history_in now p) ≡ n → queue_of_set (queues (history_in now p)) n ≡ Some queue
     root_there n is = ap (queue_of_set (queues (history_in now p))) (sym is) ∙ subst (λ g. queue_of_set (queues g) (node g) ≡ Some queue) (sym at_p) joined_there.of_set

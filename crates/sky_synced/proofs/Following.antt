@@ -1,16 +1,15 @@
 -- Where a consumer of a set's queue is that has come to a tick, and the marks that leave it there.
-use Rattle.std.proofs.Common.{arith, ◌≡◌, ℕ, ◌==◌, ◌+◌, ◌≤◌, List, [], ◌∷◌, ◌++◌, Bool, true, false, not, ◌&&◌, ◌||◌, Option, Some, None, IfSome, option_map, bytes_eq, refl, sym, ap, subst, ◌∙◌, if◌then◌else◌}
-use Rattle.std.proofs.lemmas.Bool.{or_right}
-use Rattle.std.proofs.lemmas.List.Folds.{list_any-append}
-use Rattle.londiste_state.specs.Nodes.{Root, Leaf, Node, of_root, of_leaf, is_among, all_but}
-use Rattle.sky_names.proofs.PlaceLemmas.{bytes_eq_refl, same_name}
-use Rattle.sky_model.specs.History.{Batch, Mark, queued, made, ticked, registered, moved, unregistered, closed, noded, NodeMark, root_made, leaf_made, listed, unlisted, joined, parted, leaf_added, leaf_removed, state_set, copied, applied, restarted, hold_begun, hold_ended, History}
+use Rattle.std.proofs.Common.{arith, ◌≡◌, ℕ, ◌==◌, ◌+◌, ◌≤◌, List, [], ◌∷◌, Bool, true, false, not, ◌&&◌, Option, Some, None, IfSome, option_map, bytes_eq, refl, sym, ap, subst, ◌∙◌, if◌then◌else◌}
+use Rattle.std.proofs.lemmas.Bool.{not-true}
+use Rattle.londiste_state.specs.Nodes.{Root, Leaf, Node, of_root, of_leaf, is_among}
+use Rattle.sky_names.proofs.PlaceLemmas.{bytes_eq_refl}
+use Rattle.sky_model.specs.History.{Batch, Mark, queued, registered, moved, unregistered, closed, noded, NodeMark, root_made, leaf_made, listed, unlisted, joined, parted, leaf_added, leaf_removed, state_set, copied, applied, restarted, hold_begun, hold_ended, History}
 use Rattle.sky_model.specs.Hands.{BatchHand}
 use Rattle.sky_model.specs.Queues.{queues_made, queues}
 use Rattle.sky_model.specs.Consumers.{subscription_id, position, last_batch, active_batch, of_another}
 use Rattle.sky_model.specs.Nodes.{at_root, at_leaf, after_node, node}
 use Rattle.sky_model.specs.Settling.{marked}
-use Rattle.sky_model.proofs.Legal.{queue_of_set, NodeFits, makes, moves, unregisters, opens, closes, drops, nodes, Legal, start, next, legal-below_mark}
+use Rattle.sky_model.proofs.Legal.{queue_of_set, NodeFits, makes, moves, unregisters, opens, closes, drops, nodes, Legal, start, next}
 use Rattle.sky_model.proofs.NodeReadings.{same-node}
 use Rattle.sky_model.proofs.NodeTables.{has-queue}
 use Rattle.sky_model.proofs.SetQueues.{set-made, set-dropped}
@@ -19,6 +18,9 @@ use Rattle.sky_model.proofs.TickOrder.{is_made}
 use Rattle.sky_model.proofs.Good.{same-session}
 use Rattle.sky_model.proofs.StatementMarks.{EachMark, each-rest, when-true}
 use Rattle.sky_model.proofs.Cases.{by_test, by_same}
+use Rattle.sky_model.proofs.PendingOwners.{legal-before}
+use Rattle.sky_model.proofs.Listings.{made_since}
+use Rattle.sky_replicas.proofs.ProvidedTables.{among-push, among-less}
 use Rattle.sky_synced.specs.LawsOfOwners.{set_consumers}
 
 -- ---- marks that leave a consumer where it is
@@ -36,10 +38,6 @@ spares q c (queued (closed batch)) = not (batch.queue == q && bytes_eq c batch.c
 spares q c (noded (parted name)) = not (bytes_eq name c)
 spares q c mark = true
 
-pub not-so : (b : Bool) → not b ≡ true → b ≡ false
-not-so true e = absurd (cc e)
-not-so false e = refl
-
 pub itself : (q : ℕ) (name : List ℕ) → (q == q && bytes_eq name name) ≡ true
 itself q name = λ i. same-session q i && bytes_eq_refl name i
 
@@ -50,16 +48,16 @@ pub record StaysAt (q : ℕ) (c : List ℕ) (h g : History) : Type 0 where
 
 pub stays-at : (q : ℕ) (c : List ℕ) (h : History) (mark : Mark) → spares q c mark ≡ true → StaysAt q c h (mark ∷ h)
 stays-at q c h (queued (registered p name sub tick)) e =
-    let other : (p == q && bytes_eq c name) ≡ false = not-so (p == q && bytes_eq c name) e in
+    let other : (p == q && bytes_eq c name) ≡ false = not-true (p == q && bytes_eq c name) e in
     record { sub = ap (λ b. if b then Some sub else subscription_id q c h) other; position = ap (λ b. if b then tick else position q c h) other }
 stays-at q c h (queued (moved p name tick)) e =
-    let other : (p == q && bytes_eq c name) ≡ false = not-so (p == q && bytes_eq c name) e in
+    let other : (p == q && bytes_eq c name) ≡ false = not-true (p == q && bytes_eq c name) e in
     record { sub = refl; position = ap (λ b. if b then tick else position q c h) other }
 stays-at q c h (queued (unregistered p name sub)) e =
-    let other : (p == q && bytes_eq c name) ≡ false = not-so (p == q && bytes_eq c name) e in
+    let other : (p == q && bytes_eq c name) ≡ false = not-true (p == q && bytes_eq c name) e in
     record { sub = ap (λ b. if b then None else subscription_id q c h) other; position = ap (λ b. if b then 0 else position q c h) other }
 stays-at q c h (queued (closed batch)) e =
-    let other : (batch.queue == q && bytes_eq c batch.consumer) ≡ false = not-so (batch.queue == q && bytes_eq c batch.consumer) e in
+    let other : (batch.queue == q && bytes_eq c batch.consumer) ≡ false = not-true (batch.queue == q && bytes_eq c batch.consumer) e in
     record { sub = refl; position = ap (λ b. if b then batch.cur else position q c h) other }
 stays-at q c h mark e = record { sub = refl; position = refl }
 
@@ -95,34 +93,15 @@ active-stays h _ (next l (closes last was)) id b e is =
     by_same (λ x. (if x then None else active_batch id h) ≡ Some b) last.id id
     (λ same.
     let one : last ≡ b = cc (sym was ∙ ap (λ n. active_batch n h) same ∙ is) in
-    absurd (cc (sym (not-so (last.queue == b.queue && bytes_eq b.consumer last.consumer) e) ∙ ap (λ (x : Batch). x.queue == b.queue && bytes_eq b.consumer x.consumer) one ∙ itself b.queue b.consumer)))
+    absurd (cc (sym (not-true (last.queue == b.queue && bytes_eq b.consumer last.consumer) e) ∙ ap (λ (x : Batch). x.queue == b.queue && bytes_eq b.consumer x.consumer) one ∙ itself b.queue b.consumer)))
     (λ _. is)
 active-stays h _ (next l (moves p name sub t i has least most low)) id b e is =
-    ap (of_another p name) is ∙ ap (λ x. if x then None else Some b) (not-so (p == b.queue && bytes_eq b.consumer name) e)
+    ap (of_another p name) is ∙ ap (λ x. if x then None else Some b) (not-true (p == b.queue && bytes_eq b.consumer name) e)
 active-stays h _ (next l (unregisters p name sub i has)) id b e is =
-    ap (of_another p name) is ∙ ap (λ x. if x then None else Some b) (not-so (p == b.queue && bytes_eq b.consumer name) e)
+    ap (of_another p name) is ∙ ap (λ x. if x then None else Some b) (not-true (p == b.queue && bytes_eq b.consumer name) e)
 active-stays h _ (next l _) id b e is = is
 
--- a tick that is made stays so
-pub made-stays : (q tick : ℕ) (h : History) (mark : Mark) → is_made q tick h ≡ true → is_made q tick (mark ∷ h) ≡ true
-made-stays q tick h (queued (made name t time)) is = or_right (queues_made h == q && 1 == tick) (is_made q tick h) is
-made-stays q tick h (queued (ticked p m time seq)) is = or_right (p == q && m == tick) (is_made q tick h) is
-made-stays q tick h mark is = is
-
 -- a node's consumer stays one
-among-push : (name other : List ℕ) (names : List (List ℕ)) → is_among name names ≡ true → is_among name (names ++ other ∷ []) ≡ true
-among-push name other names is = list_any-append (bytes_eq name) names (other ∷ []) ∙ ap (λ b. b || (bytes_eq name other || false)) is
-
-among-less : (name other : List ℕ) (names : List (List ℕ)) → bytes_eq other name ≡ false → is_among name names ≡ true → is_among name (all_but other names) ≡ true
-among-less name other [] differ is = absurd (cc is)
-among-less name other (x ∷ xs) differ is =
-    by_test (λ b. bytes_eq name x ≡ b → (b || is_among name xs) ≡ true → is_among name (if not (bytes_eq other x) then x ∷ all_but other xs else all_but other xs) ≡ true) (bytes_eq name x)
-    (λ _ same _.
-    ap (λ b. is_among name (if not b then x ∷ all_but other xs else all_but other xs)) (ap (bytes_eq other) (sym (same_name name x same)) ∙ differ) ∙ ap (λ b. b || is_among name (all_but other xs)) same)
-    (λ _ _ rest.
-    let later : is_among name (all_but other xs) ≡ true = among-less name other xs differ rest in
-    by_test (λ b. is_among name (if not b then x ∷ all_but other xs else all_but other xs) ≡ true) (bytes_eq other x) (λ _. later) (λ _. grind (arith, later))) refl is
-
 root-keeps : (c : List ℕ) (f : Root → Root) (n : Option Node) → ((r : Root) → is_among c r.consumers ≡ true → is_among c (f r).consumers ≡ true) → is_of_node c n ≡ true → is_of_node c (option_map (at_root f) n) ≡ true
 root-keeps c f None keeps is = absurd (cc is)
 root-keeps c f (Some (of_leaf l)) keeps is = absurd (cc is)
@@ -139,7 +118,7 @@ node-noded h (leaf_made name provider tick) fits q c e is = absurd (cc (sym is �
 node-noded h (listed table) fits q c e is = root-keeps c _ (node h) (λ r among. among) is
 node-noded h (unlisted table) fits q c e is = root-keeps c _ (node h) (λ r among. among) is
 node-noded h (joined name) fits q c e is = root-keeps c _ (node h) (λ r among. among-push c name r.consumers among) is
-node-noded h (parted name) fits q c e is = root-keeps c _ (node h) (λ r among. among-less c name r.consumers (not-so (bytes_eq name c) e) among) is
+node-noded h (parted name) fits q c e is = root-keeps c _ (node h) (λ r among. among-less c name r.consumers (not-true (bytes_eq name c) e) among) is
 node-noded h (leaf_added table) fits q c e is = leaf-keeps c _ (node h) is
 node-noded h (leaf_removed table) fits q c e is = leaf-keeps c _ (node h) is
 node-noded h (state_set table state) fits q c e is = leaf-keeps c _ (node h) is
@@ -186,19 +165,15 @@ following-mark h mark q c tick hand l e f =
       registered = s.sub ∙ f.registered;
       from = subst (λ n. n ≤ tick) (sym s.position) f.from;
       upto = subst (λ n. tick ≤ n + 1) (sym s.position) f.upto;
-      made = made-stays q tick h mark f.made;
+      made = made_since q tick (mark ∷ []) h f.made;
       in_hand = hand-stays h mark l q c f.sub tick hand e f.in_hand;
     }
-
-pub legal-marked : (h : History) (marks : List Mark) → Legal (marked h marks) → Legal h
-legal-marked h [] l = l
-legal-marked h (mark ∷ marks) l = legal-below_mark (legal-marked (mark ∷ h) marks l)
 
 pub following-marks : (h : History) (marks : List Mark) (q : ℕ) (c : List ℕ) (tick : ℕ) (hand : Option BatchHand) → Legal (marked h marks) → EachMark (spares q c) marks → Following h q c tick hand → Following (marked h marks) q c tick hand
 following-marks h [] q c tick hand l each f = f
 following-marks h (mark ∷ marks) q c tick hand l each f =
     following-marks (mark ∷ h) marks q c tick hand l (each-rest (spares q c) mark marks each)
-    (following-mark h mark q c tick hand (legal-marked (mark ∷ h) marks l) (when-true (EachMark (spares q c) marks) (spares q c mark) each) f)
+    (following-mark h mark q c tick hand (legal-before (mark ∷ h) marks l) (when-true (EachMark (spares q c) marks) (spares q c mark) each) f)
 
 -- a worker that has lost what it had in hand
 pub empty-handed : (h : History) (q : ℕ) (c : List ℕ) (tick : ℕ) (hand : Option BatchHand) → Following h q c tick hand → Following h q c tick None

@@ -1,5 +1,5 @@
 -- What calls of a provider's database leave of a consumer that has come to a tick.
-use Rattle.std.proofs.Common.{arith, ◌≡◌, ℕ, ◌==◌, ◌+◌, ◌^◌, ◌<◌, ◌≤◌, nat_le, nat_lt, List, [], ◌∷◌, ◌++◌, length, length-append, Bool, true, false, not, ◌&&◌, ◌||◌, Option, Some, None, Ok, IfOk, is_some, option_map, unwrap_or, bytes_eq, refl, sym, ap, subst, ◌∙◌, if◌then◌else◌}
+use Rattle.std.proofs.Common.{arith, ◌≡◌, ℕ, ◌==◌, ◌+◌, ◌^◌, ◌<◌, nat_le, nat_lt, List, [], ◌∷◌, ◌++◌, length, Bool, true, false, not, ◌&&◌, ◌||◌, Option, Some, None, Ok, IfOk, is_some, option_map, unwrap_or, bytes_eq, refl, sym, ap, subst, ◌∙◌, if◌then◌else◌}
 use Rattle.std.specs.List.{list_any}
 use Rattle.std.proofs.lemmas.Bool.Decides.{nat_tests}
 use Rattle.std.proofs.lemmas.Bool.{and_parts, eqb-true, or_right}
@@ -11,7 +11,7 @@ use Rattle.sky_model.specs.declared.reply.Refusal.TheVariants.{ConsumerExists, I
 use Rattle.sky_model.specs.declared.reply.Limit.TheVariants.{Consumers}
 use Rattle.sky_model.specs.History.{Batch, Mark, queued, registered, moved, unregistered, opened, closed, noded, joined, parted, History}
 use Rattle.sky_model.specs.Hands.{BatchHand}
-use Rattle.sky_model.specs.Queues.{NamedQueue, queues, Tick, tick, ticks, kept_ticks, newest_tick, id_of}
+use Rattle.sky_model.specs.Queues.{NamedQueue, queues, Tick, tick, kept_ticks}
 use Rattle.sky_model.specs.Consumers.{all_but, consumers, subscription_id, position, active, Subscription, subscription, last_subscription, last_batch, active_batch}
 use Rattle.sky_model.specs.Nodes.{after_node, node}
 use Rattle.sky_model.specs.State.{queue_of, Database, database_of, after_marks}
@@ -22,32 +22,26 @@ use Rattle.sky_model.specs.StepNode.{NodeCall, joining, parting, fetching, finis
 use Rattle.sky_model.specs.BatchMoves.{taken}
 use Rattle.sky_model.specs.CopyMoves.{newest_of}
 use Rattle.sky_model.specs.Settling.{marked}
-use Rattle.sky_model.proofs.Legal.{queue_of_set, IsQueue, registers, moves, unregisters, opens, closes as fine_closes, nodes as fine_nodes, Legal, start, next}
-use Rattle.sky_model.proofs.QueueNumbers.{among-number}
+use Rattle.sky_model.proofs.Legal.{queue_of_set, registers, moves, unregisters, opens, closes as fine_closes, nodes as fine_nodes, Legal, start, next}
 use Rattle.sky_model.proofs.NodeReadings.{set-number, same-node}
 use Rattle.sky_model.proofs.ActiveBatches.{IsActive, active_batches}
-use Rattle.sky_model.proofs.TickOrder.{is_made, is_made-tick}
-use Rattle.sky_model.proofs.KeptTicks.{cut, cuts, above-is, newest-kept}
+use Rattle.sky_model.proofs.TickOrder.{is_made}
 use Rattle.sky_model.proofs.CopyCalls.{gives-there}
 use Rattle.sky_model.proofs.Good.{same-session}
 use Rattle.sky_model.proofs.StatementMarks.{EachMark, each-map, each-given, each-front, Gives, AnyReply}
-use Rattle.sky_model.proofs.Cases.{by_test, by_same}
-use Rattle.sky_synced.proofs.Following.{is_of_node, spares, itself, active-stays, InHand, Following, following-marks, legal-marked}
+use Rattle.sky_model.proofs.Cases.{by_test}
+use Rattle.sky_model.proofs.PendingOwners.{legal-before}
+use Rattle.sky_model.proofs.MadeCopies.{few-consumers, all_but-less}
+use Rattle.sky_model.proofs.Members.{among-consumers}
+use Rattle.sky_synced.proofs.Following.{is_of_node, spares, itself, active-stays, InHand, Following, following-marks}
 use Rattle.sky_synced.proofs.ConsumersMarks.{is_apart, apart-spares, apart-takes}
+use Rattle.sky_synced.proofs.SetTicks.{set-stands, queues-newest}
 
 abbrev pub after_call : History → NodeCall → History
 after_call h call = marked h (marks_of (node_does (database_of h) call))
 
 pub set-is : (h : History) (q : ℕ) → queue_of_set (queues h) (node h) ≡ Some q → set_queue (database_of h) ≡ Some q
 set-is h q is = set-number (database_of h) ∙ is
-
-pub set-stands : (h : History) (q : ℕ) → queue_of_set (queues h) (node h) ≡ Some q → IsQueue h q
-set-stands h q is = of (node h) is
-  where
-    of : (n : Option Node) → queue_of_set (queues h) n ≡ Some q → IsQueue h q
-    of None e = absurd (cc e)
-    of (Some (of_leaf l)) e = absurd (cc e)
-    of (Some (of_root r)) e = among-number r.queue (queues h) q e
 
 -- ---- the batch of a consumer that has an active one
 
@@ -139,7 +133,7 @@ pub following-fetched : (h : History) (q : ℕ) (c : List ℕ) (tick : ℕ) → 
 following-fetched h q c tick l f out does b is =
     let marks : List Mark = marks_of (node_does (database_of h) (fetching c)) in
     let g : Following (marked h marks) q c tick None = following-marks h marks q c tick None l (spares-fetching (database_of h) q c c) f in
-    let by : TakenBy h q c (Ok out) = subst (TakenBy h q c) (sym (fetching-is h q c f.sub f.of_set f.registered) ∙ does) (taken-is h (legal-marked h marks l) q c (record { id = f.sub; position = position q c h; active = active q c h }) (active q c h) refl) in
+    let by : TakenBy h q c (Ok out) = subst (TakenBy h q c) (sym (fetching-is h q c f.sub f.of_set f.registered) ∙ does) (taken-is h (legal-before h marks l) q c (record { id = f.sub; position = position q c h; active = active q c h }) (active q c h) refl) in
     let w : IsTaken (marked h marks) q c b = subst (λ x. IsTaken (marked h (marks_of x)) q c b) (sym does) (by b is) in
     let a : IsActive (marked h marks) b.id b = active_batches (marked h marks) l b.id b w.active in
     let subs : b.sub ≡ g.sub = cc (sym a.owned ∙ (λ i. subscription_id (w.queue i) (w.consumer i) (marked h marks)) ∙ g.registered) in
@@ -223,18 +217,6 @@ spares-finishing h q c id b is other =
 
 -- ---- a consumer joins, or leaves
 
--- the newest tick is made
-newest-there : (ts : List Tick) → is_some (newest_tick ts) ≡ true → is_some (tick (id_of (newest_tick ts)) ts) ≡ true
-newest-there [] e = absurd (cc e)
-newest-there (t ∷ []) e = ap (λ b. is_some (if b then Some t else None)) (same-session t.id)
-newest-there (t ∷ u ∷ ts) e =
-    by_test (λ b. is_some (if b then Some t else tick (id_of (newest_tick (u ∷ ts))) (u ∷ ts)) ≡ true) (t.id == id_of (newest_tick (u ∷ ts))) (λ _. refl) (λ _. newest-there (u ∷ ts) e)
-
-pub newest-made : (h : History) → Legal h → (q : ℕ) → IsQueue h q → is_made q (newest_id (queue_of h q)) h ≡ true
-newest-made h l q is =
-    ap (λ o. is_made q (id_of o) h) (newest-kept h l q is) ∙ sym (is_made-tick h q (id_of (newest_tick (ticks q h))))
-    ∙ newest-there (ticks q h) (above-is (cut q h) (newest_tick (ticks q h)) (cuts h l q is).fresh)
-
 joined-node : (c : List ℕ) (n : Option Node) (qs : List NamedQueue) (q : ℕ) → queue_of_set qs n ≡ Some q → is_of_node c (after_node (joined c) n) ≡ true
 joined-node c None qs q is = absurd (cc is)
 joined-node c (Some (of_leaf l)) qs q is = absurd (cc is)
@@ -263,7 +245,7 @@ following-joined h q c out l set is = of (is_some (subscription q c h)) (nat_le 
           registered = ap (λ b. if b then Some sub else subscription_id q c h) (itself q c);
           from = omega (arith, place);
           upto = omega (arith, place);
-          made = newest-made h l q (set-stands h q set);
+          made = queues-newest h l q (set-stands h q set);
           in_hand = tt;
         }
 
@@ -274,45 +256,7 @@ following-joined h q c out l set is = of (is_some (subscription q c h)) (nat_le 
     of false false true e = absurd (cc e)
     of false false false e = let same : record { reply = Number at; marks = mark ∷ noded (joined c) ∷ [] } ≡ out = cc e in subst (λ (o : Outcome). Following (marked h o.marks) q c at None) same there
 
--- a consumer that leaves, and joins again
-
--- ones fewer
-less-than : (c : List ℕ) (names : List (List ℕ)) → length (all_but c names) ≤ length names
-less-than c [] = omega arith
-less-than c (x ∷ xs) = let ih = less-than c xs in by_test (λ b. length (if b then x ∷ all_but c xs else all_but c xs) ≤ length (x ∷ xs)) (not (bytes_eq x c)) (λ _. omega (arith, ih)) (λ _. omega (arith, ih))
-
-one-less : (c : List ℕ) (names : List (List ℕ)) → list_any (λ n. bytes_eq c n) names ≡ true → length (all_but c names) < length names
-one-less c [] is = absurd (cc is)
-one-less c (x ∷ xs) is =
-    let most = less-than c xs in
-    by_test (λ b. bytes_eq c x ≡ b → (b || list_any (λ n. bytes_eq c n) xs) ≡ true → length (all_but c (x ∷ xs)) < length (x ∷ xs)) (bytes_eq c x)
-    (λ _ same _. subst (λ b. length (if not b then x ∷ all_but c xs else all_but c xs) < length (x ∷ xs)) (sym (bytes_eq_sym x c ∙ same)) (omega (arith, most)))
-    (λ _ differ rest. let ih = one-less c xs rest in subst (λ b. length (if not b then x ∷ all_but c xs else all_but c xs) < length (x ∷ xs)) (sym (bytes_eq_sym x c ∙ differ)) (omega (arith, ih))) refl is
-
--- at most so many are registered
-few-consumers : (h : History) → Legal h → (q : ℕ) → length (consumers q h) ≤ 256
-few-consumers [] start q = omega arith
-few-consumers _ (next {h = h} l (registers p name sub t i none f g low few)) q =
-    by_same (λ b. length (if b then consumers q h ++ name ∷ [] else consumers q h) ≤ 256) p q
-    (λ same. let room : length (consumers q h) < 256 = subst (λ n. length (consumers n h) < 256) same few in omega (arith, room, length-append (consumers q h) (name ∷ []))) (λ _. few-consumers h l q)
-few-consumers _ (next {h = h} l (unregisters p name sub i has)) q =
-    let most = less-than name (consumers q h) in let ih = few-consumers h l q in
-    by_test (λ b. length (if b then all_but name (consumers q h) else consumers q h) ≤ 256) (p == q) (λ _. omega (arith, most, ih)) (λ _. ih)
-few-consumers _ (next {h = h} l _) q = few-consumers h l q
-
--- one that has a subscription is among them
-among-less : (name c : List ℕ) (names : List (List ℕ)) → list_any (λ n. bytes_eq c n) (all_but name names) ≡ (not (bytes_eq c name) && list_any (λ n. bytes_eq c n) names)
-among-less name c [] = grind arith
-among-less name c (n ∷ names) =
-    by_test (λ x. bytes_eq c n ≡ x → list_any (λ n. bytes_eq c n) (all_but name (n ∷ names)) ≡ (not (bytes_eq c name) && (x || list_any (λ n. bytes_eq c n) names))) (bytes_eq c n)
-    (λ _ is. let test : bytes_eq c name ≡ bytes_eq n name = ap (λ m. bytes_eq m name) (same_name c n is) in grind (arith, among-less name c names, test, is))
-    (λ _ other. grind (arith, among-less name c names, other)) refl
-
-among-consumers : (h : History) (q : ℕ) (c : List ℕ) → list_any (λ n. bytes_eq c n) (consumers q h) ≡ is_some (subscription_id q c h)
-among-consumers [] q c = refl
-among-consumers (queued (registered p name sub tick) ∷ h) q c = grind (arith, list_any-append (λ n. bytes_eq c n) (consumers q h) (name ∷ []), among-consumers h q c)
-among-consumers (queued (unregistered p name sub) ∷ h) q c = grind (arith, among-less name c (consumers q h), among-consumers h q c)
-among-consumers (_ ∷ h) q c = among-consumers h q c
+-- ---- a consumer that leaves, and joins again
 
 parting-is : (h : History) (q : ℕ) (c : List ℕ) (o : Option ℕ) → queue_of_set (queues h) (node h) ≡ Some q → subscription_id q c h ≡ o
     → node_does (database_of h) (parting c) ≡ parts q c (option_map (λ id. record { id = id; position = position q c h; active = active q c h }) o)
@@ -345,7 +289,7 @@ has-room h q c l set free = of (subscription_id q c h) refl
     of (Some sub) is =
         let left : History = queued (unregistered q c sub) ∷ h in
         let member : list_any (λ n. bytes_eq c n) (consumers q h) ≡ true = among-consumers h q c ∙ ap is_some is in
-        let below : length (all_but c (consumers q h)) < 256 = (let less = one-less c (consumers q h) member in let most = few-consumers h l q in omega (arith, less, most)) in
+        let below : length (all_but c (consumers q h)) < 256 = (let less = all_but-less c (consumers q h) member in let most = few-consumers h l q in omega (arith, less, most)) in
         subst (λ x. HasRoom h (marked h (marks_of x)) q c) (sym (parting-is h q c (Some sub) set is))
         (record {
           of_set = (same-node (parted c) refl (node h)).set (queues h) ∙ set;
@@ -360,8 +304,8 @@ pub following-again : (h : History) (q : ℕ) (c : List ℕ) → Legal (after_ca
     → sub_ids_spent (database_of h) ≡ false → Following (after_call (after_call h (parting c)) (joining c)) q c (newest_of (database_of h)) None
 following-again h q c l set free unspent =
     let g : History = after_call h (parting c) in
-    let legal : Legal g = legal-marked g (marks_of (node_does (database_of g) (joining c))) l in
-    let r : HasRoom h g q c = has-room h q c (legal-marked h (marks_of (node_does (database_of h) (parting c))) legal) set
+    let legal : Legal g = legal-before g (marks_of (node_does (database_of g) (joining c))) l in
+    let r : HasRoom h g q c = has-room h q c (legal-before h (marks_of (node_does (database_of h) (parting c))) legal) set
     (sym (ap (λ o. unwrap_or (option_map (λ queue. nat_le 256 (length ((database_of h).queue queue).members) && not (is_some (((database_of h).queue queue).sub c))) o) false) (set-is h q set)) ∙ free) in
     let does : node_does (database_of g) (joining c) ≡ joins (database_of g) q c = ap (λ o. if_there o (λ queue. joins (database_of g) queue c)) (set-is g q r.of_set) in
     let newest : newest_of (database_of h) ≡ newest_id (queue_of g q) = ap (λ o. unwrap_or (option_map (λ queue. newest_id ((database_of h).queue queue)) o) 0) (set-is h q set) ∙ sym r.newest in

@@ -8,7 +8,7 @@ use Rattle.sky_txid.specs.Snapshot.{SnapshotView}
 use Rattle.londiste_state.specs.declared.state.TableState.{TableState}
 use Rattle.londiste_state.specs.declared.state.TableState.TheVariants.{Absent, InCopy, CatchingUp, WannaSync, DoSync, Synced}
 use Rattle.londiste_state.specs.Moves.{is_allowed}
-use Rattle.londiste_state.specs.Nodes.{Node, of_root, of_leaf, Leaf, LeafTable, is_among, all_but, table_of, in_state, with_copy}
+use Rattle.londiste_state.specs.Nodes.{Node, of_root, of_leaf, Leaf, LeafTable, is_among, table_of, in_state, with_copy}
 use Rattle.sky_model.specs.History.{Mark, of_copy, of_worker, began, ended, tabled, wrote, noded, NodeMark, root_made, leaf_made, listed, unlisted, leaf_added, leaf_removed, state_set, copied, applied, History, Fact, within, node_made, batch_in_hand, Past}
 use Rattle.sky_model.specs.Transactions.{snapshot}
 use Rattle.sky_model.specs.Copies.{copies, is_copied_by}
@@ -26,23 +26,23 @@ use Rattle.sky_model.proofs.RowSights.{Since, here, later}
 use Rattle.sky_model.proofs.Guarded.{copied_by-push, copied_by-without, copied-by}
 use Rattle.sky_model.proofs.NodeTables.{one-place}
 use Rattle.sky_model.proofs.NodeReadings.{leaf-other, leaf-added, leaf-removed, same-tables}
-use Rattle.sky_model.proofs.InCopyTables.{leaf_table, IsInCopy, copies-in-copy}
+use Rattle.sky_model.proofs.InCopyTables.{leaf_table, IsInCopy, copies-in-copy, may-allowed, is_past_copy}
 use Rattle.sky_model.proofs.Good.{same-session}
 use Rattle.sky_model.proofs.Cases.{by_test, by_same}
-use Rattle.sky_changes.specs.Listing.{later_of, IsListed, StaysListed, takes_out}
+use Rattle.sky_changes.specs.Listing.{later_of, IsListed, StaysListed, is_unlisting}
 use Rattle.sky_changes.proofs.Places.{to-below, from-below, since-joined, one-place as one-only}
 use Rattle.sky_changes.proofs.ListedTables.{place-kept, columns-kept, fits-of}
 use Rattle.sky_replicas.proofs.NodeNames.{source_of}
 use Rattle.sky_replicas.proofs.Keeping.{Noded, source-within, source-made, noded-within, made-noded}
 use Rattle.sky_replicas.proofs.Sources.{root-has}
+use Rattle.sky_replicas.proofs.ProvidedTables.{IsUnused, among-all}
 use Rattle.sky_synced.specs.Tables.{tick_in}
 use Rattle.sky_synced.proofs.Covering.{place-below, EndedBy}
-use Rattle.sky_synced.proofs.ChangedTables.{goes_along, leafs_tick, Was, was, table-named}
+use Rattle.sky_synced.proofs.ChangedTables.{leafs_tick, Was, was, table-named}
 use Rattle.sky_synced.proofs.RestingTables.{Rests, applies_to, rests-step, rows-stay, among-found, leaf-found}
 use Rattle.sky_synced.proofs.Showing.{is_late, Shows, listed-above, shows-above, ComesTo, shows-at}
 use Rattle.sky_synced.proofs.LedMarks.{AllApplied, all-above}
 use Rattle.sky_synced.proofs.ReachedTicks.{AllReach, TickSuits, reach-mark}
-pub use Rattle.sky_synced.proofs.ReachedTicks.{allowed-by}
 
 -- ---- places
 
@@ -111,7 +111,7 @@ pub record Based (past : Past) : Type 0 where
 
 pub record Goes (past : Past) : Type 0 where
   pub base : Based past
-  pub shown : (d : ℕ) (name : List ℕ) (t : LeafTable) → leaf_table name (node (history_in past d)) ≡ Some t → goes_along t.state ≡ true → ShowsIn past d (history_in past d) t
+  pub shown : (d : ℕ) (name : List ℕ) (t : LeafTable) → leaf_table name (node (history_in past d)) ≡ Some t → is_past_copy t.state ≡ true → ShowsIn past d (history_in past d) t
   pub handed : (d : ℕ) (name : List ℕ) (t : LeafTable) (tick : ℕ) → leaf_table name (node (history_in past d)) ≡ Some t → t.state ≡ DoSync tick → HandedAt past d tick
   pub reached : (d : ℕ) → AllReach (history_in past d)
   pub batches_applied : (d : ℕ) → AllApplied past d (history_in past d)
@@ -166,10 +166,6 @@ MayGo past e name (DoSync tick) = HandedAt past e tick
 MayGo past e name Synced = (t : LeafTable) → leaf_table name (node (history_in past e)) ≡ Some t → (tick : ℕ) → t.state ≡ DoSync tick → t.tick ≡ tick
 MayGo past e name state = Unit {0}
 
--- no leaf of a database's root has a table
-abbrev pub IsUnused : Past → ℕ → List ℕ → Type 0
-IsUnused past e name = (d : ℕ) → source_of past d ≡ Some e → is_among name (leaf_tables (node (history_in past d))) ≡ false
-
 abbrev pub MarkSuits : Past → ℕ → Mark → Type 0
 MarkSuits past e (noded (unlisted name)) = IsUnused past e name
 MarkSuits past e (noded (leaf_added name)) = IsOffered (within e (noded (leaf_added name)) ∷ past) e name
@@ -189,13 +185,6 @@ base-suits : (past : Past) (e : ℕ) (mark : Mark) → MarkSuits past e mark →
 base-suits past e (noded (unlisted name)) suits = suits
 base-suits past e (noded (leaf_added name)) suits = suits
 base-suits past e mark suits = tt
-
-among-all : (name other : List ℕ) (names : List (List ℕ)) → is_among name (all_but other names) ≡ true → is_among name names ≡ true
-among-all name other [] is = is
-among-all name other (x ∷ xs) is =
-    by_test (λ b. is_among name (if b then x ∷ all_but other xs else all_but other xs) ≡ true → is_among name (x ∷ xs) ≡ true) (not (bytes_eq other x))
-    (λ _ e. by_test (λ b. (b || is_among name (all_but other xs)) ≡ true → (b || is_among name xs) ≡ true) (bytes_eq name x) (λ _ _. refl) (λ _ rest. among-all name other xs rest) e)
-    (λ _ rest. let later = among-all name other xs rest in grind (arith, later)) is
 
 -- a table that is being copied is a leaf's
 pub record Found (name : List ℕ) (h : History) : Type 0 where
@@ -259,10 +248,10 @@ module _ (past : Past) (e : ℕ) (mark : Mark) (all : AllPlaces (within e mark �
   since-now d = by_test (λ b. Since (history_in past d) (own past e mark d b)) (e == d) (λ _. later here) (λ _. here)
 
   -- a table of a leaf of this root isn't taken out of the set
-  unused-stays : (d : ℕ) (name : List ℕ) → source_of past d ≡ Some e → is_among name (leaf_tables (node (history_in past d))) ≡ true → takes_out name mark ≡ false
+  unused-stays : (d : ℕ) (name : List ℕ) → source_of past d ≡ Some e → is_among name (leaf_tables (node (history_in past d))) ≡ true → is_unlisting name mark ≡ false
   unused-stays d name from among = of mark suits
     where
-      of : (m : Mark) → BaseSuits past e m → takes_out name m ≡ false
+      of : (m : Mark) → BaseSuits past e m → is_unlisting name m ≡ false
       of (noded (unlisted other)) none =
           by_test (λ b. bytes_eq name other ≡ b → b ≡ false) (bytes_eq name other)
           (λ _ same. absurd (cc (sym (none d from) ∙ ap (λ x. is_among x (leaf_tables (node (history_in past d)))) (sym (same_name name other same)) ∙ among))) (λ _ _. refl) refl
@@ -293,8 +282,8 @@ module _ (past : Past) (e : ℕ) (mark : Mark) (all : AllPlaces (within e mark �
       P : History → Type 0
       P k = (x : Shows (history_in past d) k (come (node (history_in past d)) t) t) × Rests (history_in past d) x.table
 
-      out : e ≡ s.p → takes_out t.name mark ≡ false
-      out same = ap (λ n. takes_out n mark) same_table ∙ unused-stays d name (s.from ∙ ap Some (sym same)) (among-found name (node (history_in past d)) t there)
+      out : e ≡ s.p → is_unlisting t.name mark ≡ false
+      out same = ap (λ n. is_unlisting n mark) same_table ∙ unused-stays d name (s.from ∙ ap Some (sym same)) (among-found name (node (history_in past d)) t there)
 
       both : P (history_in now s.p)
       both = by_same (λ b. P (own past e mark s.p b)) e s.p
@@ -394,7 +383,7 @@ module _ (past : Past) (e : ℕ) (mark : Mark) (all : AllPlaces (within e mark �
 -- ---- a table of the database
 
 module _ (past : Past) (e : ℕ) (mark : Mark) (all : AllPlaces (within e mark ∷ past)) (g : Goes past) (suits : MarkSuits past e mark) where
-  shown-own : (name : List ℕ) (t u : LeafTable) → leaf_table name (node (history_in past e)) ≡ Some t → goes_along t.state ≡ true → (s : ShowsIn past e (history_in past e) t) → u.name ≡ t.name → u.snapshot ≡ t.snapshot
+  shown-own : (name : List ℕ) (t u : LeafTable) → leaf_table name (node (history_in past e)) ≡ Some t → is_past_copy t.state ≡ true → (s : ShowsIn past e (history_in past e) t) → u.name ≡ t.name → u.snapshot ≡ t.snapshot
       → come (node (mark ∷ history_in past e)) u ≡ come (node (history_in past e)) t
       → (is_late u.state ≡ true → EndedBy s.shows.held (at_tick s.shows.queue (come (node (history_in past e)) t) (history_in past s.p))) → ShowsIn (within e mark ∷ past) e (mark ∷ history_in past e) u
   shown-own name t u there along s names under comes covered = record {
@@ -439,7 +428,7 @@ module _ (past : Past) (e : ℕ) (mark : Mark) (all : AllPlaces (within e mark �
           (shows-at x kept names under covered, rests-step h name t there along x.table named mark (fine past e mark all g.base (base-suits past e mark suits)) (unapplied mark suits) s.rests))
 
   -- by a mark that leaves it as it is
-  shown-plain : (name : List ℕ) (t : LeafTable) → leaf_table name (node (history_in past e)) ≡ Some t → goes_along t.state ≡ true → leafs_tick (node (mark ∷ history_in past e)) ≡ leafs_tick (node (history_in past e))
+  shown-plain : (name : List ℕ) (t : LeafTable) → leaf_table name (node (history_in past e)) ≡ Some t → is_past_copy t.state ≡ true → leafs_tick (node (mark ∷ history_in past e)) ≡ leafs_tick (node (history_in past e))
       → ShowsIn (within e mark ∷ past) e (mark ∷ history_in past e) t
   shown-plain name t there along same =
       let s : ShowsIn past e (history_in past e) t = g.shown e name t there along in
@@ -476,26 +465,26 @@ module _ (past : Past) (e : ℕ) (mark : Mark) (all : AllPlaces (within e mark �
       come_is = ap (λ s. tick_in s (leafs_tick (node (mark ∷ history_in past e))) u.tick) state ∙ tick_is
 
   -- into a state
-  shown-moved : (name : List ℕ) (state : TableState) → MayGo past e name state → (t : LeafTable) → leaf_table name (node (history_in past e)) ≡ Some t → is_allowed t.state state ≡ true → goes_along state ≡ true
+  shown-moved : (name : List ℕ) (state : TableState) → MayGo past e name state → (t : LeafTable) → leaf_table name (node (history_in past e)) ≡ Some t → is_allowed t.state state ≡ true → is_past_copy state ≡ true
       → leafs_tick (node (mark ∷ history_in past e)) ≡ leafs_tick (node (history_in past e)) → ShowsIn (within e mark ∷ past) e (mark ∷ history_in past e) (in_state state t)
   shown-moved name state goes t there allowed along leafs = of t.state refl state goes allowed along
     where
       h : History
       h = history_in past e
 
-      of : (old : TableState) → t.state ≡ old → (new : TableState) → MayGo past e name new → is_allowed old new ≡ true → goes_along new ≡ true → ShowsIn (within e mark ∷ past) e (mark ∷ h) (in_state new t)
+      of : (old : TableState) → t.state ≡ old → (new : TableState) → MayGo past e name new → is_allowed old new ≡ true → is_past_copy new ≡ true → ShowsIn (within e mark ∷ past) e (mark ∷ h) (in_state new t)
       of CatchingUp was (WannaSync bound) may ok also =
-          let s : ShowsIn past e h t = g.shown e name t there (ap goes_along was) in
+          let s : ShowsIn past e h t = g.shown e name t there (ap is_past_copy was) in
           let own_tick : come (node h) t ≡ t.tick = ap (λ x. tick_in x (leafs_tick (node h)) t.tick) was in
-          shown-own name t (in_state (WannaSync bound) t) there (ap goes_along was) s refl refl (sym own_tick)
+          shown-own name t (in_state (WannaSync bound) t) there (ap is_past_copy was) s refl refl (sym own_tick)
           (λ _. subst (λ n. EndedBy s.shows.held (at_tick s.shows.queue n (history_in past s.p))) (sym own_tick) (may t there s))
       of (WannaSync bound) was (DoSync tick) may ok also =
-          let s : ShowsIn past e h t = g.shown e name t there (ap goes_along was) in
-          shown-own name t (in_state (DoSync tick) t) there (ap goes_along was) s refl refl (sym (ap (λ x. tick_in x (leafs_tick (node h)) t.tick) was)) (λ _. s.shows.covered (ap is_late was))
+          let s : ShowsIn past e h t = g.shown e name t there (ap is_past_copy was) in
+          shown-own name t (in_state (DoSync tick) t) there (ap is_past_copy was) s refl refl (sym (ap (λ x. tick_in x (leafs_tick (node h)) t.tick) was)) (λ _. s.shows.covered (ap is_late was))
       of (DoSync tick) was Synced may ok also =
-          let s : ShowsIn past e h t = g.shown e name t there (ap goes_along was) in
+          let s : ShowsIn past e h t = g.shown e name t there (ap is_past_copy was) in
           let at : HandedAt past e tick = g.handed e name t tick there was in
-          shown-own name t (in_state Synced t) there (ap goes_along was) s refl refl
+          shown-own name t (in_state Synced t) there (ap is_past_copy was) s refl refl
           (leafs ∙ at.leafs ∙ sym (may t there tick was) ∙ sym (ap (λ x. tick_in x (leafs_tick (node h)) t.tick) was)) (λ _. s.shows.covered (ap is_late was))
       of InCopy was CatchingUp may ok also = absurd may
       of old was Absent may ok also = absurd (cc also)
@@ -527,7 +516,7 @@ module _ (past : Past) (e : ℕ) where
 
   -- by a mark of the node
   shown-noded : (m : NodeMark) (all : AllPlaces (within e (noded m) ∷ past)) (g : Goes past) → MarkSuits past e (noded m) → NodeFits h m → (name : List ℕ) (u : LeafTable) → leaf_table name (after_node m (node h)) ≡ Some u
-      → goes_along u.state ≡ true → ShowsIn (within e (noded m) ∷ past) e (noded m ∷ h) u
+      → is_past_copy u.state ≡ true → ShowsIn (within e (noded m) ∷ past) e (noded m ∷ h) u
   shown-noded m all g suits fits name u is along = of m all suits fits (was h m fits name u is along)
     where
       T : NodeMark → Type 0
@@ -536,7 +525,7 @@ module _ (past : Past) (e : ℕ) where
       plain : (m : NodeMark) → AllPlaces (within e (noded m) ∷ past) → MarkSuits past e (noded m) → (t : LeafTable) → leaf_table name (node h) ≡ Some t → u ≡ t → leafs_tick (after_node m (node h)) ≡ leafs_tick (node h) → T m
       plain m all suits t there same leafs =
           subst (ShowsIn (within e (noded m) ∷ past) e (noded m ∷ h)) (sym same)
-          (shown-plain past e (noded m) all g suits name t there (ap (λ (x : LeafTable). goes_along x.state) (sym same) ∙ along) leafs)
+          (shown-plain past e (noded m) all g suits name t there (ap (λ (x : LeafTable). is_past_copy x.state) (sym same) ∙ along) leafs)
 
       of : (m : NodeMark) → AllPlaces (within e (noded m) ∷ past) → MarkSuits past e (noded m) → NodeFits h m → Was (node h) m name u → T m
       of (copied other under tick) all suits fits w =
@@ -550,15 +539,15 @@ module _ (past : Past) (e : ℕ) where
           let one : other ≡ name = same_name other w.t.name its ∙ table-named name (node h) w.t w.there in
           let there : leaf_table other (node h) ≡ Some w.t = ap (λ x. leaf_table x (node h)) one ∙ w.there in
           subst (ShowsIn (within e (noded (state_set other state)) ∷ past) e (noded (state_set other state) ∷ h)) (sym same)
-          (shown-moved past e (noded (state_set other state)) all g suits other state suits w.t there (allowed-by other state (node h) w.t there fits.may)
-          (ap (λ (x : LeafTable). goes_along x.state) (sym same) ∙ along) w.come))
+          (shown-moved past e (noded (state_set other state)) all g suits other state suits w.t there (may-allowed other state (node h) w.t there fits.may)
+          (ap (λ (x : LeafTable). is_past_copy x.state) (sym same) ∙ along) w.come))
           (λ _ _ same. plain (state_set other state) all suits w.t w.there same w.come) refl w.is
       of (applied pick tick) all suits fits w = absurd suits
       of m all suits fits w = plain m all suits w.t w.there w.is w.come
 
   -- by any mark
   shown-mark : (mark : Mark) (all : AllPlaces (within e mark ∷ past)) (g : Goes past) → MarkSuits past e mark → Fine h mark → (name : List ℕ) (u : LeafTable) → leaf_table name (node (mark ∷ h)) ≡ Some u
-      → goes_along u.state ≡ true → ShowsIn (within e mark ∷ past) e (mark ∷ h) u
+      → is_past_copy u.state ≡ true → ShowsIn (within e mark ∷ past) e (mark ∷ h) u
   shown-mark (noded m) all g suits is_fine name u is along = shown-noded m all g suits (fits-of is_fine) name u is along
   shown-mark mark all g suits is_fine name u is along = shown-plain past e mark all g suits name u is along refl
 
@@ -566,7 +555,7 @@ module _ (past : Past) (e : ℕ) where
 
   handed-noded : (m : NodeMark) (g : Goes past) → MarkSuits past e (noded m) → NodeFits h m → (name : List ℕ) (u : LeafTable) (tick : ℕ) → leaf_table name (after_node m (node h)) ≡ Some u → u.state ≡ DoSync tick
       → (leafs_tick (after_node m (node h)) ≡ tick) × (batches past e ≡ None)
-  handed-noded m g suits fits name u tick is state = of m suits (was h m fits name u is (ap goes_along state))
+  handed-noded m g suits fits name u tick is state = of m suits (was h m fits name u is (ap is_past_copy state))
     where
       T : NodeMark → Type 0
       T m = (leafs_tick (after_node m (node h)) ≡ tick) × (batches past e ≡ None)

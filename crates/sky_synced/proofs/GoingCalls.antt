@@ -1,21 +1,17 @@
 -- What each call of the world keeps.
-use Rattle.std.proofs.Common.{◌≡◌, ℕ, ◌==◌, List, [], ◌∷◌, ◌++◌, map, find, Bool, true, false, not, ◌&&◌, ◌||◌, Option, Some, None, Ok, Err, IfOk, All, is_some, option_map, bytes_eq, refl, sym, ap, subst, ◌∙◌, if◌then◌else◌}
-use Rattle.std.specs.Option.{option_and_then}
-use Rattle.std.proofs.lemmas.Bool.{false_from_ne_true, eqb-true}
+use Rattle.std.proofs.Common.{◌≡◌, ℕ, ◌==◌, List, [], ◌∷◌, ◌++◌, map, find, true, false, not, ◌||◌, Option, Some, None, Ok, Err, IfOk, All, is_some, option_map, refl, sym, ap, subst, ◌∙◌, if◌then◌else◌}
+use Rattle.std.proofs.lemmas.List.Elements.{All-head}
 use Rattle.sky_names.specs.Places.{place_of}
-use Rattle.sky_names.proofs.PlaceLemmas.{bytes_eq_refl}
-use Rattle.sky_txid.specs.Ids.{contains}
 use Rattle.londiste_state.specs.declared.state.TableState.{TableState}
 use Rattle.londiste_state.specs.Nodes.{Node, of_root, of_leaf, Leaf, LeafTable, node_name, is_among, table_of, tables_of}
 use Rattle.sky_model.specs.declared.stmt.NodeStmt.{NodeStmt}
 use Rattle.sky_model.specs.declared.stmt.NodeStmt.TheVariants.{CreateLeaf, AddTable, RemoveTable, TableState as ShowState, CopyStep, Restart, RestartTable, LondisteStep}
 use Rattle.sky_model.specs.declared.reply.Reply.{Reply}
 use Rattle.sky_model.specs.declared.reply.Reply.TheVariants.{Done}
-use Rattle.sky_model.specs.declared.reply.Refusal.{Refusal}
 use Rattle.sky_model.specs.declared.reply.Refusal.TheVariants.{AlreadyInSet, NodeExists, NoNode, NoTable, NotInSet, NotProvider, SchemaDiffers, TableBusy, TableInUse}
 use Rattle.sky_model.specs.Hands.{CopyHand, BatchHand, copy_in}
 use Rattle.sky_model.specs.History.{noded, leaf_made, leaf_added, tabled, read_only, appeared, Fact, within, node_made, in_hand, batch_in_hand, Past}
-use Rattle.sky_model.specs.Nodes.{node, is_root, is_leaf, set_tables, leaf_tables}
+use Rattle.sky_model.specs.Nodes.{node, is_root, is_leaf, set_tables}
 use Rattle.sky_model.specs.ShownRows.{least_writer}
 use Rattle.sky_model.specs.State.{database_of}
 use Rattle.sky_model.specs.Outcome.{Outcome, Checked, ◌>>=◌, ◌>>◌, refused_if, refused_by, found_or, does_marks, marks_of}
@@ -37,58 +33,25 @@ use Rattle.sky_model.proofs.NodeLaws.{sets_have_queues}
 use Rattle.sky_model.proofs.PastHistories.{on_top-append}
 use Rattle.sky_model.proofs.Histories.{histories_are_made_by_own_calls, world_place, legal_past}
 use Rattle.sky_model.proofs.Good.{same-session}
-use Rattle.sky_model.proofs.Cases.{by_test}
+use Rattle.sky_model.proofs.Cases.{by_test, ok-then}
+use Rattle.sky_model.proofs.StatementMarks.{each-map}
 use Rattle.sky_changes.specs.Listing.{IsListed}
-use Rattle.sky_replicas.proofs.NodeNames.{provider_of, database_among, names_in, source_of, called-database, among-named}
+use Rattle.sky_replicas.proofs.NodeNames.{source_of}
 use Rattle.sky_replicas.proofs.Keeping.{source-within}
 use Rattle.sky_replicas.proofs.Sources.{IsAlike, alike-is}
 use Rattle.sky_replicas.proofs.KeptCalls.{leaf-is, copied_tables_have_providers_rows}
 use Rattle.sky_replicas.proofs.CallPasts.{after_calls, on-move}
-use Rattle.sky_replicas.proofs.ProvidedTables.{IsOffered, HasProvider, AllProvided, suits-step as provided-step}
-use Rattle.sky_replicas.proofs.ProvidedCalls.{kept-provided}
-use Rattle.sky_synced.proofs.Going.{AllPlaces, apart-root, IsOffered as IsListedFor, IsUnused, Goes, KeptGoes, suits-step, suits-steps}
+use Rattle.sky_replicas.proofs.ProvidedTables.{HasProvider, suits-step as provided-step}
+use Rattle.sky_replicas.proofs.ProvidedCalls.{kept-provided, from-found, found-database, unused}
+use Rattle.sky_replicas.proofs.SessionsMarks.{is_sessions}
+use Rattle.sky_synced.proofs.Going.{AllPlaces, apart-root, IsOffered as IsListedFor, Goes, KeptGoes, suits-step, suits-steps}
 use Rattle.sky_synced.proofs.Showing.{IsBetween}
-use Rattle.sky_synced.proofs.PlainCalls.{Plain, ArePlain, plain-append, kept-mark, kept-marks, kept-calls, sessions-plain, plain-lists, plain-does}
+use Rattle.sky_synced.proofs.PlainCalls.{Plain, ArePlain, plain-append, kept-mark, kept-marks, kept-calls, sessions-plain, plain-lists, plain-does, is_plain}
 use Rattle.sky_synced.proofs.FollowingAt.{AllFollow, follow-appeared}
 use Rattle.sky_synced.proofs.CopyEnds.{AtEnd}
 use Rattle.sky_synced.proofs.GoingMoves.{AtStart, kept-copy_move, kept-replay}
 use Rattle.sky_synced.proofs.EachStatement.{is_beside, after-call}
-
--- ---- which databases are meant
-
--- a database of a leaf's provider
-pub from-found : (past : Past) (d p : ℕ) (l : Leaf) → node (history_in past d) ≡ Some (of_leaf l) → database_among (names_in past) l.provider (nodes past) ≡ Some p → source_of past d ≡ Some p
-from-found past d p l leaf found = ap (λ n. option_and_then (λ x. database_among (names_in past) x (nodes past)) (provider_of n)) leaf ∙ found
-
-pub found-database : (past : Past) (name : List ℕ) (n : Located) → node_called (world_of past) name ≡ Some n → database_among (names_in past) name (nodes past) ≡ Some n.database
-found-database past name n found = sym (called-database past name) ∙ ap (option_map Located.database) found
-
--- a database that no leaf uses is found by none of a list
-none-found : (p : ℕ → Bool) (ds : List ℕ) (d : ℕ) → find p ds ≡ None → contains d ds ≡ true → p d ≡ false
-none-found p [] d none is = absurd (cc is)
-none-found p (e ∷ ds) d none is =
-    by_test (λ b. p e ≡ b → (if b then Some e else find p ds) ≡ None → p d ≡ false) (p e) (λ _ _ some. absurd (cc some))
-    (λ _ isnt rest. of isnt (d == e) refl (none-found p ds d rest) is) refl none
-  where
-    of : p e ≡ false → (b : Bool) → (d == e) ≡ b → (contains d ds ≡ true → p d ≡ false) → (b || contains d ds) ≡ true → p d ≡ false
-    of isnt true same later e = ap p (eqb-true d _ same) ∙ isnt
-    of isnt false same later e = later e
-
-unused : (past : Past) (d : ℕ) (name : List ℕ) (root : List ℕ) → AllProvided past → names_in past d ≡ Some root → find (λ e. uses root name (node (history_in past e))) (nodes past) ≡ None → IsUnused past d name
-unused past d name root a named none e from = of (node (history_in past e)) refl
-  where
-    of : (n : Option Node) → node (history_in past e) ≡ n → is_among name (leaf_tables (node (history_in past e))) ≡ false
-    of None is = ap (λ n. is_among name (leaf_tables n)) is
-    of (Some (of_root r)) is = ap (λ n. is_among name (leaf_tables n)) is
-    of (Some (of_leaf l)) is = false_from_ne_true (is_among name (leaf_tables (node (history_in past e)))) (λ among.
-        let c : HasProvider past e = a.leaves e (ap is_leaf is) in
-        let o : IsOffered past e c.p name = c.tables name among in
-        let found : database_among (names_in past) l.provider (nodes past) ≡ Some d = sym (ap (λ n. option_and_then (λ x. database_among (names_in past) x (nodes past)) (provider_of n)) is) ∙ from in
-        let same : root ≡ l.provider = cc (sym named ∙ among-named (names_in past) l.provider (nodes past) d found) in
-        let is_user : uses root name (node (history_in past e)) ≡ true =
-        ap (uses root name) is ∙ ap (λ x. bytes_eq x l.provider && is_among name (tables_of (of_leaf l))) same ∙ ap (λ b. b && is_among name (tables_of (of_leaf l))) (bytes_eq_refl l.provider)
-        ∙ sym (ap (λ n. is_among name (leaf_tables n)) is) ∙ among in
-        absurd (cc (sym is_user ∙ none-found (λ k. uses root name (node (history_in past k))) (nodes past) e none o.listed)))
+use Rattle.sky_synced.proofs.UnlessRefused.{if-test, if-refused, if-found}
 
 plain-lets : (hand : Option CopyHand) → ArePlain (lets_go_for hand)
 plain-lets None = tt
@@ -106,22 +69,6 @@ module _ (past : Past) (start : AtStart past) (kept : KeptGoes past) where
 
   abbrev KeptIfOk : Checked WorldOutcome → Type 0
   KeptIfOk c = IfOk c (λ o. AtEnd (on_top past o.facts) → KeptGoes (on_top past o.facts))
-
-  if-test : (b : Bool) (refusal : Refusal) (c : Checked WorldOutcome) → (b ≡ false → KeptIfOk c) → KeptIfOk (refused_if b refusal >> c)
-  if-test true refusal c holds = tt
-  if-test false refusal c holds = holds refl
-
-  if-refused : (o : Option Refusal) (c : Checked WorldOutcome) → (o ≡ None → KeptIfOk c) → KeptIfOk (refused_by o >> c)
-  if-refused None c holds = holds refl
-  if-refused (Some refusal) c holds = tt
-
-  if-found : {A : Type 0} (o : Option A) (refusal : Refusal) (next : A → Checked WorldOutcome) → ((a : A) → o ≡ Some a → KeptIfOk (next a)) → KeptIfOk (found_or o refusal >>= next)
-  if-found None refusal next holds = tt
-  if-found (Some a) refusal next holds = holds a refl
-
-  if-checked : {A : Type 0} (c : Checked A) (next : A → Checked WorldOutcome) → ((a : A) → c ≡ Ok a → KeptIfOk (next a)) → KeptIfOk (c >>= next)
-  if-checked (Ok a) next holds = holds a refl
-  if-checked (Err refusal) next holds = tt
 
   kept-done : (d : ℕ) (reply : Reply) (c : Checked Outcome) → Plain c → KeptIfOk (done_in d reply c)
   kept-done d reply (Ok o) given = λ _. kept-marks past d o.marks given.1 kept
@@ -141,9 +88,9 @@ module _ (past : Past) (start : AtStart past) (kept : KeptGoes past) where
 
   kept-create_leaf : (d : ℕ) (name provider : List ℕ) → KeptIfOk (create_leaf w d name provider)
   kept-create_leaf d name provider =
-      if-test (is_some (node_called w name) || is_some (w.database d).node) (NodeExists name) _ (λ _.
-      if-found (node_called w provider) (NoNode provider) _ (λ p found.
-      if-found (set_queue (w.database p.database)) (NotProvider provider) _ (λ queue is.
+      if-test _ (is_some (node_called w name) || is_some (w.database d).node) (NodeExists name) _ (λ _.
+      if-found _ (node_called w provider) (NoNode provider) _ (λ p found.
+      if-found _ (set_queue (w.database p.database)) (NotProvider provider) _ (λ queue is.
       kept-leaf d p.database name provider (newest_id ((w.database p.database).queue queue)) (joins (w.database p.database) queue name) (plain-joins p.database queue name is))))
 
   -- a table joins a node
@@ -200,7 +147,7 @@ module _ (past : Past) (start : AtStart past) (kept : KeptGoes past) where
 
   kept-adds : (d table : ℕ) (name : List ℕ) (n : Node) → (w.database d).node ≡ Some n → KeptIfOk (adds_to w d table name n)
   kept-adds d table name (of_root r) stands =
-      if-found (set_queue (w.database d)) (NotProvider r.name) _ (λ queue _. kept-done d Done (lists (w.database d) queue table name) (plain-lists (w.database d) queue table name))
+      if-found _ (set_queue (w.database d)) (NotProvider r.name) _ (λ queue _. kept-done d Done (lists (w.database d) queue table name) (plain-lists (w.database d) queue table name))
   kept-adds d table name (of_leaf l) stands = at (node_called w l.provider) refl
     where
       at : (o : Option Located) → node_called w l.provider ≡ o → KeptIfOk (found_or (provides name o) (NotInSet name) >>= (λ p.
@@ -211,7 +158,7 @@ module _ (past : Past) (start : AtStart past) (kept : KeptGoes past) where
           refused_if (not (are_columns ((w.database d).part.columns table) (columns_called name (w.database p)))) (SchemaDiffers name) >> done_in d Done (adds (w.database d) table name))))
           (is_among name (tables_of m.node))
           (λ _ has.
-          if-test (not (are_columns ((w.database d).part.columns table) (columns_called name (w.database m.database)))) (SchemaDiffers name) _ (λ _.
+          if-test _ (not (are_columns ((w.database d).part.columns table) (columns_called name (w.database m.database)))) (SchemaDiffers name) _ (λ _.
           kept-added d table name (least_writer (w.database d).part table) (offered-for d name l m stands found has))) (λ _ _. tt) refl
 
   -- a move of a worker
@@ -223,7 +170,7 @@ module _ (past : Past) (start : AtStart past) (kept : KeptGoes past) where
   -- a table leaves a node
   kept-removes : (d table : ℕ) (name : List ℕ) (n : Node) → (w.database d).node ≡ Some n → KeptIfOk (removes_from w d table name n)
   kept-removes d table name (of_root r) stands =
-      if-refused (option_map TableInUse (first_user w r.name name)) _ (λ free _.
+      if-refused _ (option_map TableInUse (first_user w r.name name)) _ (λ free _.
       suits-steps past (map (within d) (marks_of (unlists table name)))
       (λ _ _. unused past d name r.name start.provided (ap (option_map node_name) stands) (none (name_in w) (find (λ e. uses r.name name (node (history_in past e))) (nodes past)) free), (λ _ _. tt, tt)) kept)
     where
@@ -231,7 +178,7 @@ module _ (past : Past) (start : AtStart past) (kept : KeptGoes past) where
       none f None e = refl
       none f (Some e) some = absurd (cc some)
   kept-removes d table name (of_leaf l) stands =
-      if-checked (source w l name) _ (λ p _.
+      ok-then _ (source w l name) _ (λ p _.
       kept-move p d (in_hand d name) (leaves_leaf l name (w.hands d name)) (λ _.
       suits-step _ (in_hand d name None) tt
       (kept-calls _ d (removing name ∷ []) (refl, tt)
@@ -241,7 +188,7 @@ module _ (past : Past) (start : AtStart past) (kept : KeptGoes past) where
 
   kept-state : (name table : List ℕ) (n : Node) → KeptIfOk (shows_state name table n)
   kept-state name table (of_root r) = tt
-  kept-state name table (of_leaf l) = if-found (table_of table l) (NotInSet table) _ (λ t _ _. kept)
+  kept-state name table (of_leaf l) = if-found _ (table_of table l) (NotInSet table) _ (λ t _ _. kept)
 
   kept-restarts : (d : ℕ) (name : List ℕ) (n : Node) → KeptIfOk (restarts d name n)
   kept-restarts d name (of_root r) = tt
@@ -273,7 +220,7 @@ module _ (past : Past) (start : AtStart past) (kept : KeptGoes past) where
   kept-steps : (d : ℕ) (name : List ℕ) (n : Node) → (w.database d).node ≡ Some n → KeptIfOk (leaf_steps w d name n)
   kept-steps d name (of_root r) stands = tt
   kept-steps d name (of_leaf l) stands =
-      if-checked (providers_database w l) _ (λ p is.
+      ok-then _ (providers_database w l) _ (λ p is.
       kept-moves p d (batch_in_hand d) (replay_move (w.database p) (w.database d) l (w.batches d))
       (at-least (λ (move : Move BatchHand). KeptGoes (batch_in_hand d move.hand ∷ after_calls (after_calls past p move.provider) d move.replica))
       (λ (move : Move BatchHand). AtEnd (batch_in_hand d move.hand ∷ after_calls (after_calls past p move.provider) d move.replica)
@@ -283,33 +230,33 @@ module _ (past : Past) (start : AtStart past) (kept : KeptGoes past) where
   kept-form : (d : ℕ) (s : NodeStmt) → KeptIfOk (node_form w d s)
   kept-form d (CreateLeaf name provider) = kept-create_leaf d name provider
   kept-form d (AddTable name table_name) =
-      if-found (node_called w name) (NoNode name) _ (λ n found.
-      if-found (place_of table_name (w.database n.database).part.tables) (NoTable table_name) _ (λ table there.
-      if-test (is_among table_name (tables_of n.node)) (AlreadyInSet table_name) _ (λ _.
+      if-found _ (node_called w name) (NoNode name) _ (λ n found.
+      if-found _ (place_of table_name (w.database n.database).part.tables) (NoTable table_name) _ (λ table there.
+      if-test _ (is_among table_name (tables_of n.node)) (AlreadyInSet table_name) _ (λ _.
       kept-adds n.database table table_name n.node (called-there w name n found))))
   kept-form d (RemoveTable name table_name) =
-      if-found (node_called w name) (NoNode name) _ (λ n found.
-      if-test (not (is_among table_name (tables_of n.node))) (NotInSet table_name) _ (λ _.
-      if-found (place_of table_name (w.database n.database).part.tables) (NoTable table_name) _ (λ table _.
+      if-found _ (node_called w name) (NoNode name) _ (λ n found.
+      if-test _ (not (is_among table_name (tables_of n.node))) (NotInSet table_name) _ (λ _.
+      if-found _ (place_of table_name (w.database n.database).part.tables) (NoTable table_name) _ (λ table _.
       kept-removes n.database table table_name n.node (called-there w name n found))))
-  kept-form d (ShowState name table) = if-found (node_called w name) (NoNode name) _ (λ n _. kept-state name table n.node)
+  kept-form d (ShowState name table) = if-found _ (node_called w name) (NoNode name) _ (λ n _. kept-state name table n.node)
   kept-form d (CopyStep name table) =
-      if-found (node_called w name) (NoNode name) _ (λ n found.
-      if-checked (leafs_table name table n.node) _ (λ l is_table.
-      if-checked (source_alike w n.database l table) _ (λ p is.
+      if-found _ (node_called w name) (NoNode name) _ (λ n found.
+      ok-then _ (leafs_table name table n.node) _ (λ l is_table.
+      ok-then _ (source_alike w n.database l table) _ (λ p is.
       let stands : node (history_in past n.database) ≡ Some (of_leaf l) = called-there w name n found ∙ ap Some (leaf-is name table n.node l is_table) in
       let alike : IsAlike past n.database p table = alike-is past n.database p l table stands is in
       kept-moves p n.database (in_hand n.database table) (copy_move (w.database p) (w.database n.database) table (w.hands n.database table))
       (kept-copy_move past n.database p start kept alike.source.from (ap is_leaf stands) table))))
-  kept-form d (Restart name) = if-found (node_called w name) (NoNode name) _ (λ n _. kept-restarts n.database name n.node)
+  kept-form d (Restart name) = if-found _ (node_called w name) (NoNode name) _ (λ n _. kept-restarts n.database name n.node)
   kept-form d (RestartTable name table) =
-      if-found (node_called w name) (NoNode name) _ (λ n _.
-      if-checked (leafs_table name table n.node) _ (λ l _.
-      if-checked (source w l table) _ (λ p _.
+      if-found _ (node_called w name) (NoNode name) _ (λ n _.
+      ok-then _ (leafs_table name table n.node) _ (λ l _.
+      ok-then _ (source w l table) _ (λ p _.
       kept-move p n.database (in_hand n.database table) (restarting table (w.hands n.database table)) (λ _.
       suits-step _ (in_hand n.database table None) tt
       (kept-calls _ n.database (giving_up_copy table ∷ []) (refl, tt) (kept-calls past p (lets_go_for (copy_in (w.hands n.database table))) (plain-lets (copy_in (w.hands n.database table))) kept))))))
-  kept-form d (LondisteStep name) = if-found (node_called w name) (NoNode name) _ (λ n found. kept-steps n.database name n.node (called-there w name n found))
+  kept-form d (LondisteStep name) = if-found _ (node_called w name) (NoNode name) _ (λ n found. kept-steps n.database name n.node (called-there w name n found))
 
 -- ---- a call
 
@@ -337,8 +284,8 @@ places-past calls in_form d = world_place calls d [] (history_in (past_of calls)
 -- what holds after some calls, if their workers follow, holds after one more
 pub goes-next : (call : Call) (calls : List Call) → All IsCallInForm (call ∷ calls) → All IsCallInForm calls → AllFollow (past_of calls) → Goes (past_of calls) → Goes (past_of (call ∷ calls))
 goes-next call calls in_form before follow g =
-    after-call AtStart AtEnd KeptGoes (λ past d mark is kept. kept-mark past d mark (sessions-plain mark is) kept) (λ past d has kept. suits-step past (node_made d) has kept) kept-aside start-appeared
-    (λ past d s start kept. kept-form past start kept d s) call calls
+    after-call AtStart AtEnd KeptGoes (λ past d marks each spared kept. kept-marks past d marks (each-map is_sessions is_plain sessions-plain marks each) kept) (λ past d has kept. suits-step past (node_made d) has kept) kept-aside start-appeared
+    (λ past d s form start kept. kept-form past start kept d s) call calls (All-head IsCallInForm call calls in_form).1
     (record { between = between-past calls; places = places-past calls before; provided = kept-provided calls (legal_past calls); follow = follow }) (λ _. g)
     (record {
       between = between-past (call ∷ calls);

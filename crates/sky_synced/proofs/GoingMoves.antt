@@ -24,15 +24,15 @@ use Rattle.sky_model.specs.StepApply.{picked, bad_event}
 use Rattle.sky_model.specs.StepNode.{NodeCall, joining, parting, fetching, finishing, moving, beginning_copy, copying_rows, ending_copy, applying, holding, letting_go, is_full, node_does}
 use Rattle.sky_model.specs.WorkerMoves.{Move, only_prints, moves_to, handing, behind_calls}
 use Rattle.sky_model.specs.BatchMoves.{Follower, events_in, has_applied, applies_in_hand, skips_in_hand, finishes_in_hand, taken, takes, takes_next, goes_through}
-use Rattle.sky_model.specs.ReplayMoves.{replayer, is_handed_over, is_met, first_in, next_to_copy, for_table, goes_on as goes_on_replaying, replay_move}
-use Rattle.sky_model.specs.CopyMoves.{piece_size, rows_from, rows_of, last_key, copies_piece, next_piece, copy_consumer, first_hand, starts_copy, under_way, continues, goes_on, copier, with_batch, has_caught_up, catches_up, hands_over, if_copied, moves_in, table_move, table_at, copy_move, copy_running}
+use Rattle.sky_model.specs.ReplayMoves.{replayer, is_handed_over, is_met, first_in, next_to_copy, for_table, empty_handed_move, replay_move}
+use Rattle.sky_model.specs.CopyMoves.{piece_size, rows_from, rows_of, last_key, copies_piece, next_piece, copy_consumer, first_hand, starts_copy, under_way, continues, starts_or_continues, copier, goes_through_or, has_caught_up, catches_up, hands_over, if_copied, moves_in, table_move, table_at, copy_move, copy_running}
 use Rattle.sky_model.specs.World.{history_in, hands, batches}
 use Rattle.sky_model.proofs.SnapshotLaws.{legal_place}
 use Rattle.sky_model.proofs.InCopyTables.{leaf_table}
 use Rattle.sky_model.proofs.Cases.{by_test}
 use Rattle.sky_replicas.proofs.NodeNames.{source_of}
 use Rattle.sky_replicas.proofs.ProvidedTables.{HasProvider, AllProvided}
-use Rattle.sky_replicas.proofs.CallPasts.{call_marks, called, after_calls, histories-elsewhere}
+use Rattle.sky_replicas.proofs.CallPasts.{called, after_calls, histories-elsewhere}
 use Rattle.sky_synced.specs.Tables.{has_own_tick}
 use Rattle.sky_synced.proofs.ChangedTables.{leafs_tick, table-named}
 use Rattle.sky_synced.proofs.Covering.{EndedBy}
@@ -44,7 +44,7 @@ use Rattle.sky_synced.proofs.FollowingAt.{FollowsIn, AllFollow, InWork, in-work,
 use Rattle.sky_synced.proofs.CopyEnds.{AtEnd}
 use Rattle.sky_synced.proofs.MovingTables.{kept-ending, kept-moving}
 use Rattle.sky_synced.proofs.NextBatch.{HasCome}
-use Rattle.sky_synced.proofs.Applied.{batches-marks}
+use Rattle.sky_synced.proofs.FollowPasts.{batches-calls}
 
 -- what is known before a call
 pub record AtStart (past : Past) : Type 0 where
@@ -142,10 +142,10 @@ module _ (past : Past) (d p : ℕ) (start : AtStart past) (kept : KeptGoes past)
     this-one : (u : LeafTable) → leaf_table t.name (node (history_in past d)) ≡ Some u → u ≡ t
     this-one u at = let both : Some t ≡ Some u = sym by-own-name ∙ at in sym (let one : t ≡ u = cc both in one)
 
-    pub kept-copys : (other : Checked (Move BatchHand)) → has_own_tick t.state ≡ true → BatchKept other → BatchKept (with_batch provider replica t (batch_in (hands past d name)) other)
+    pub kept-copys : (other : Checked (Move BatchHand)) → has_own_tick t.state ≡ true → BatchKept other → BatchKept (goes_through_or provider replica t (batch_in (hands past d name)) other)
     kept-copys other copied also = of (batch_in (hands past d name)) refl
       where
-        of : (o : Option BatchHand) → batch_in (hands past d name) ≡ o → BatchKept (with_batch provider replica t o other)
+        of : (o : Option BatchHand) → batch_in (hands past d name) ≡ o → BatchKept (goes_through_or provider replica t o other)
         of None is = also
         of (Some b) is =
             kept-through (copier replica.node t) b (batch_in (hands past d name)) is (start.follow.copies d p name t there copied from) (t, by-own-name, copied, refl) (λ e. absurd (cc e))
@@ -240,7 +240,7 @@ module _ (past : Past) (d p : ℕ) (start : AtStart past) (kept : KeptGoes past)
           kept-piece table name (snapshot_now provider.part) (parting (copy_consumer replica.node) ∷ joining (copy_consumer replica.node) ∷ holding ∷ []) (beginning_copy name ∷ []) (refl, (refl, (refl, tt))) (refl, tt)
           (first_hand provider) (rows_from provider name (snapshot_now provider.part) (first_hand provider).last piece_size)
 
-  kept-copying : (table name : List ℕ) (hand : Option CopyHand) (running : Option ℕ) → InHand table (handing of_copy (goes_on provider replica name hand running))
+  kept-copying : (table name : List ℕ) (hand : Option CopyHand) (running : Option ℕ) → InHand table (handing of_copy (starts_or_continues provider replica name hand running))
   kept-copying table name hand None = kept-starts table name
   kept-copying table name hand (Some t) = of (under_way provider hand)
     where
@@ -262,10 +262,10 @@ module _ (past : Past) (d p : ℕ) (start : AtStart past) (kept : KeptGoes past)
       in-state : (t : LeafTable) → leaf_table name (node (history_in past d)) ≡ Some t → (state : TableState) → t.state ≡ state → InHand name (moves_in state provider replica t hand)
       in-state t there InCopy is = kept-copying name t.name (copy_in hand) (copy_running replica t.name)
       in-state t there CatchingUp is =
-          if-copied name t hand (with_batch provider replica t (batch_in hand) (catches_up provider replica t))
+          if-copied name t hand (goes_through_or provider replica t (batch_in hand) (catches_up provider replica t))
           (kept-copys name t there (catches_up provider replica t) (ap has_own_tick is) (kept-catches name t there is))
       in-state t there (DoSync tick) is =
-          if-copied name t hand (with_batch provider replica t (batch_in hand) (hands_over provider replica tick t))
+          if-copied name t hand (goes_through_or provider replica t (batch_in hand) (hands_over provider replica tick t))
           (kept-copys name t there (hands_over provider replica tick t) (ap has_own_tick is) (kept-hands name t there tick is))
       in-state t there Synced is = prints-only name hand
       in-state t there Absent is = prints-only name hand
@@ -294,15 +294,10 @@ module _ (past : Past) (d p : ℕ) (start : AtStart past) (kept : KeptGoes past)
   fills (Ok move) holds none = suits-step (moved move) (batch_in_hand d move.hand) (λ g name t tick there state. absurd (none g name t tick there state)) holds
   fills (Err refusal) holds none = tt
 
-  -- the batches in hand stay as they are meanwhile
-  batches-called : (now : Past) (e : ℕ) (calls : List NodeCall) → batches (after_calls now e calls) ≡ batches now
-  batches-called now e [] = refl
-  batches-called now e (call ∷ calls) = batches-called (called now e call) e calls ∙ batches-marks now e (call_marks (history_in now e) call)
-
   busy : (b : BatchHand) → batches past d ≡ Some b → (move : Move BatchHand) → NoneHanded (moved move)
   busy b is move g name t tick there state =
       let idle = (g.handed d name t tick there state).idle in
-      cc (sym idle ∙ ap (λ f. f d) (batches-called (after_calls past p move.provider) d move.replica ∙ batches-called past p move.provider) ∙ is)
+      cc (sym idle ∙ ap (λ f. f d) (batches-calls (after_calls past p move.provider) d move.replica ∙ batches-calls past p move.provider) ∙ is)
 
   all-busy : (b : BatchHand) → batches past d ≡ Some b → (c : Checked (Move BatchHand)) → IfOk c (λ move. NoneHanded (moved move))
   all-busy b is (Ok move) = busy b is move
@@ -337,7 +332,7 @@ module _ (past : Past) (d p : ℕ) (start : AtStart past) (kept : KeptGoes past)
         of (Some batch) = λ _ name t tick there state.
             at-past goes name t tick (sym (ap (λ h. leaf_table name (node h)) (histories-elsewhere past p (fetching l.name ∷ []) d provider-apart)) ∙ there) state
 
-    kept-idle : batches past d ≡ None → LeafKept (goes_on_replaying provider l)
+    kept-idle : batches past d ≡ None → LeafKept (empty_handed_move provider l)
     kept-idle idle = of (first_in is_handed_over l) refl (first_in (is_met l.tick) l) (next_to_copy l)
       where
         of : (handed : Option (List ℕ)) → first_in is_handed_over l ≡ handed → (met next : Option (List ℕ))

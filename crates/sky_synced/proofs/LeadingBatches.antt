@@ -21,7 +21,7 @@ use Rattle.sky_model.specs.LawsOfApplying.{picked_of, IsApplied}
 use Rattle.sky_model.specs.WorkerMoves.{Move, only_prints, handing}
 use Rattle.sky_model.specs.BatchMoves.{Follower, events_in, done, has_applied, applies_in_hand, skips_in_hand, finishes_in_hand, goes_through}
 use Rattle.sky_model.specs.ReplayMoves.{replayer, replay_move}
-use Rattle.sky_model.specs.CopyMoves.{copier, with_batch, catches_up, hands_over, if_copied, moves_in, table_move, table_at, copy_move}
+use Rattle.sky_model.specs.CopyMoves.{copier, goes_through_or, catches_up, hands_over, if_copied, moves_in, table_move, table_at, copy_move}
 use Rattle.sky_model.specs.NodesOfWorld.{WorldOutcome}
 use Rattle.sky_model.specs.WorkersOfWorld.{move_facts, moves, source_alike, leaf_table as leafs_table, copy_step, londiste_step}
 use Rattle.sky_model.specs.World.{World, world_of, history_in, hands, batches, on_top}
@@ -252,10 +252,10 @@ copies_batches_lead_on calls in_form name table n leaf t b called_it is there ta
     goes : handing of_batch (goes_through (w.database p) (w.database d) f b) ≡ Ok (record { provider = []; replica = applying (events_in (w.database p) b) f.pick b.cur ∷ []; replies = BatchApplied b.cur (length (picked (node (history_in past d)) f.pick (events_in (w.database p) b))) ∷ []; hand = option_map of_batch (done b) })
     goes = ap (handing of_batch) (through calls in_form d leaf stands x f b (batch_in (hands past d table)) work follows has)
 
-    copied-move : (other : Checked (Move BatchHand)) → if_copied t (w.hands d table) (with_batch (w.database p) (w.database d) t (batch_in (w.hands d table)) other) ≡ handing of_batch (goes_through (w.database p) (w.database d) f b)
+    copied-move : (other : Checked (Move BatchHand)) → if_copied t (w.hands d table) (goes_through_or (w.database p) (w.database d) t (batch_in (w.hands d table)) other) ≡ handing of_batch (goes_through (w.database p) (w.database d) f b)
     copied-move other =
-        ap (λ c. if c then handing of_batch (with_batch (w.database p) (w.database d) t (batch_in (w.hands d table)) other) else only_prints (AwaitsTable t.name) (w.hands d table)) under
-        ∙ ap (λ o. handing of_batch (with_batch (w.database p) (w.database d) t o other)) work.in_hand
+        ap (λ c. if c then handing of_batch (goes_through_or (w.database p) (w.database d) t (batch_in (w.hands d table)) other) else only_prints (AwaitsTable t.name) (w.hands d table)) under
+        ∙ ap (λ o. handing of_batch (goes_through_or (w.database p) (w.database d) t o other)) work.in_hand
 
     by-state : (state : TableState) → takes_batches state ≡ true → moves_in state (w.database p) (w.database d) t (w.hands d table) ≡ handing of_batch (goes_through (w.database p) (w.database d) f b)
     by-state CatchingUp e = copied-move (catches_up (w.database p) (w.database d) t)

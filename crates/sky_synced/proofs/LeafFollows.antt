@@ -1,6 +1,5 @@
 -- Where the consumers of a leaf's workers are, and what is kept of it while its tables change.
-use Rattle.std.proofs.Common.{◌≡◌, ℕ, List, [], ◌∷◌, ◌++◌, filter, find, true, false, not, Option, Some, None, is_some, option_map, bytes_eq, refl, sym, ap, subst, ◌∙◌, if◌then◌else◌}
-use Rattle.std.specs.Option.{option_or}
+use Rattle.std.proofs.Common.{◌≡◌, ℕ, List, true, false, Option, Some, None, is_some, option_map, bytes_eq, refl, sym, ap, subst, ◌∙◌, if◌then◌else◌}
 use Rattle.sky_names.proofs.PlaceLemmas.{bytes_eq_refl, bytes_eq_sym, same_name}
 use Rattle.londiste_state.specs.declared.state.TableState.{TableState}
 use Rattle.londiste_state.specs.declared.state.TableState.TheVariants.{Absent, InCopy, CatchingUp, WannaSync, DoSync, Synced}
@@ -11,53 +10,11 @@ use Rattle.sky_model.specs.StepConsumer.{has_dot}
 use Rattle.sky_model.specs.CopyMoves.{copy_consumer}
 use Rattle.sky_model.specs.ReplayMoves.{is_on_way}
 use Rattle.sky_model.proofs.Cases.{by_test}
+use Rattle.sky_model.proofs.InCopyTables.{found, found-named, found-changed}
 use Rattle.sky_synced.specs.Tables.{has_own_tick}
 use Rattle.sky_synced.proofs.Following.{Following}
 
 -- ---- the tables of a leaf
-
-abbrev pub found : List ℕ → List LeafTable → Option LeafTable
-found name ts = find (λ (t : LeafTable). bytes_eq name t.name) ts
-
-pub found-named : (name : List ℕ) (ts : List LeafTable) (t : LeafTable) → found name ts ≡ Some t → bytes_eq name t.name ≡ true
-found-named name [] t is = absurd (cc is)
-found-named name (x ∷ ts) t is =
-    by_test (λ b. bytes_eq name x.name ≡ b → (if b then Some x else found name ts) ≡ Some t → bytes_eq name t.name ≡ true) (bytes_eq name x.name)
-    (λ _ here one. let same : x ≡ t = cc one in ap (λ (y : LeafTable). bytes_eq name y.name) (sym same) ∙ here) (λ _ _ later. found-named name ts t later) refl is
-
-pub found-push : (name : List ℕ) (ts : List LeafTable) (t : LeafTable) → found name (ts ++ t ∷ []) ≡ option_or (found name ts) (if bytes_eq name t.name then Some t else None)
-found-push name [] t = refl
-found-push name (x ∷ ts) t =
-    by_test (λ b. (if b then Some x else found name (ts ++ t ∷ [])) ≡ option_or (if b then Some x else found name ts) (if bytes_eq name t.name then Some t else None)) (bytes_eq name x.name)
-    (λ _. refl) (λ _. found-push name ts t)
-
-abbrev less : List ℕ → List LeafTable → List LeafTable
-less name ts = filter (λ (t : LeafTable). not (bytes_eq name t.name)) ts
-
-other-name : (name other x : List ℕ) → bytes_eq name other ≡ false → bytes_eq other x ≡ true → bytes_eq name x ≡ false
-other-name name other x differ is = ap (bytes_eq name) (sym (same_name other x is)) ∙ differ
-
-pub found-less : (name other : List ℕ) (ts : List LeafTable) → bytes_eq name other ≡ false → found name (less other ts) ≡ found name ts
-found-less name other [] differ = refl
-found-less name other (x ∷ ts) differ =
-    by_test (λ b. bytes_eq other x.name ≡ b → found name (if not b then x ∷ less other ts else less other ts) ≡ found name (x ∷ ts)) (bytes_eq other x.name)
-    (λ _ its. found-less name other ts differ ∙ sym (ap (λ b. if b then Some x else found name ts) (other-name name other x.name differ its)))
-    (λ _ _. ap (λ o. if bytes_eq name x.name then Some x else o) (found-less name other ts differ)) refl
-
-pub found-gone : (name : List ℕ) (ts : List LeafTable) → found name (less name ts) ≡ None
-found-gone name [] = refl
-found-gone name (x ∷ ts) =
-    by_test (λ b. bytes_eq name x.name ≡ b → found name (if not b then x ∷ less name ts else less name ts) ≡ None) (bytes_eq name x.name) (λ _ _. found-gone name ts)
-    (λ _ its. ap (λ b. if b then Some x else found name (less name ts)) its ∙ found-gone name ts) refl
-
-found-changed : (name other : List ℕ) (g : LeafTable → LeafTable) → ((t : LeafTable) → (g t).name ≡ t.name) → (ts : List LeafTable)
-    → found name (changed_in other g ts) ≡ option_map (λ t. if bytes_eq other t.name then g t else t) (found name ts)
-found-changed name other g names [] = refl
-found-changed name other g names (x ∷ ts) =
-    ap (λ y. if bytes_eq name y then Some (if bytes_eq other x.name then g x else x) else found name (changed_in other g ts))
-    (by_test (λ b. (if b then g x else x).name ≡ x.name) (bytes_eq other x.name) (λ _. names x) (λ _. refl))
-    ∙ by_test (λ b. (if b then Some (if bytes_eq other x.name then g x else x) else found name (changed_in other g ts))
-    ≡ option_map (λ t. if bytes_eq other t.name then g t else t) (if b then Some x else found name ts)) (bytes_eq name x.name) (λ _. refl) (λ _. found-changed name other g names ts)
 
 -- the one that changes, and the others
 pub found-here : (name : List ℕ) (g : LeafTable → LeafTable) → ((t : LeafTable) → (g t).name ≡ t.name) → (ts : List LeafTable) (t : LeafTable) → found name ts ≡ Some t → found name (changed_in name g ts) ≡ Some (g t)
@@ -107,7 +64,7 @@ copy-kept h g q l t hand keep c = record {
 }
 
 -- a table that isn't on its way needs no consumer
-copied-on-way : (state : TableState) → has_own_tick state ≡ true → is_on_way state ≡ true
+pub copied-on-way : (state : TableState) → has_own_tick state ≡ true → is_on_way state ≡ true
 copied-on-way Absent e = absurd (cc e)
 copied-on-way InCopy e = refl
 copied-on-way CatchingUp e = refl

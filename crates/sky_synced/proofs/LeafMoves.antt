@@ -24,10 +24,11 @@ use Rattle.sky_model.specs.ReplayMoves.{replayer, is_on_way, is_absent, is_hande
 use Rattle.sky_model.proofs.Legal.{Legal}
 use Rattle.sky_model.proofs.StatementMarks.{EachMark, each-given, AnyReply, either}
 use Rattle.sky_model.proofs.Cases.{by_test}
+use Rattle.sky_model.proofs.InCopyTables.{found}
 use Rattle.sky_synced.specs.Tables.{has_own_tick}
 use Rattle.sky_synced.proofs.Following.{spares, Following}
 use Rattle.sky_synced.proofs.FollowingCalls.{after_call}
-use Rattle.sky_synced.proofs.LeafFollows.{found, found-here, found-other, copy_name, CopyOf, LeafFollows, KeptAt, replayed, off-way, changed}
+use Rattle.sky_synced.proofs.LeafFollows.{found-here, found-other, copy_name, CopyOf, LeafFollows, KeptAt, replayed, off-way, changed, copied-on-way}
 use Rattle.sky_synced.proofs.LeafNodes.{GoesInto, leaf-moves}
 use Rattle.sky_synced.proofs.WorkersMoves.{after_each, SparesEach, kept-each, TickGoes, Goes, MayGo, goes-through, goes-next}
 
@@ -142,14 +143,6 @@ to-in_copy (WannaSync bound) e = absurd (cc e)
 to-in_copy (DoSync bound) e = absurd (cc e)
 to-in_copy Synced e = absurd (cc e)
 
-pub copied-way : (state : TableState) → has_own_tick state ≡ true → is_on_way state ≡ true
-copied-way Absent e = absurd (cc e)
-copied-way InCopy e = refl
-copied-way CatchingUp e = refl
-copied-way (WannaSync tick) e = refl
-copied-way (DoSync tick) e = refl
-copied-way Synced e = absurd (cc e)
-
 -- no table is on its way
 none-on_way : (ts : List LeafTable) (n : List ℕ) (v : LeafTable) → list_any (λ (t : LeafTable). is_on_way t.state) ts ≡ false → found n ts ≡ Some v → is_on_way v.state ≡ false
 none-on_way [] n v none is = absurd (cc is)
@@ -186,7 +179,7 @@ replay-follows h k q l None hand legal legal_k leaf may f = handed (first_in is_
           others = λ e. absurd (cc e);
           under = λ _. c.under s.0;
         })
-        (λ t is may n v differ there. off-way h q l None hand name t f is (copied-way t.state (to-do_sync t.state l.tick may).0) n v differ there)
+        (λ t is may n v differ there. off-way h q l None hand name t f is (copied-on-way t.state (to-do_sync t.state l.tick may).0) n v differ there)
 
     in_copy : list_any (λ (t : LeafTable). is_on_way t.state) l.tables ≡ false → (name : List ℕ) → Result (moves_to InCopy name)
     in_copy none name =

@@ -1,38 +1,36 @@
 -- What the calls of a leaf's workers leave of the leaf.
 use Rattle.std.proofs.Common.{◌≡◌, ◌⊎◌, inl, inr, ℕ, ◌^◌, nat_le, List, [], ◌∷◌, ◌++◌, map, length, Bool, true, false, ◌||◌, Option, Some, None, Ok, is_some, option_map, unwrap_or, bytes_eq, refl, sym, ap, subst, ◌∙◌, if◌then◌else◌}
-use Rattle.std.proofs.lemmas.List.Elements.{All-head, All-tail}
 use Rattle.sky_val.specs.declared.val.Val.{Val}
 use Rattle.sky_val.specs.declared.event.Event.{Event}
 use Rattle.sky_names.specs.Places.{place_of}
-use Rattle.sky_names.proofs.PlaceLemmas.{same_name}
 use Rattle.sky_txid.specs.Snapshot.{SnapshotView}
 use Rattle.londiste_state.specs.declared.state.TableState.{TableState}
 use Rattle.londiste_state.specs.Moves.{is_allowed}
 use Rattle.londiste_state.specs.Nodes.{of_leaf, Leaf, LeafTable, is_among, with_state, with_copied, without_leaf_table}
-use Rattle.sky_model.specs.declared.reply.Reply.TheVariants.{Done, Null, Number}
+use Rattle.sky_model.specs.declared.reply.Reply.TheVariants.{Null, Number}
 use Rattle.sky_model.specs.declared.reply.Refusal.TheVariants.{TxidsSpent}
-use Rattle.sky_model.specs.History.{Mark, NodeMark, Pick, of_copy, began, ended, tabled, read_only, noded, state_set, leaf_removed, copied, applied, restarted, hold_begun, hold_ended, History}
+use Rattle.sky_model.specs.History.{Mark, NodeMark, Pick, of_copy, ended, tabled, read_only, noded, state_set, leaf_removed, copied, applied, restarted, hold_begun, hold_ended, History}
 use Rattle.sky_model.specs.Copies.{copies, copy_txid}
-use Rattle.sky_model.specs.Rows.{Write, table_names}
+use Rattle.sky_model.specs.Rows.{table_names}
 use Rattle.sky_model.specs.Nodes.{after_node, node, leaf_tables}
-use Rattle.sky_model.specs.State.{RowPart, after_part, part_of, Database, database_of}
-use Rattle.sky_model.specs.Outcome.{Outcome, Checked, ◌>>=◌, ◌>>◌, refused_if, answers, does_marks, marks_of, reply_of}
+use Rattle.sky_model.specs.State.{part_of, Database, database_of}
+use Rattle.sky_model.specs.Outcome.{Outcome, Checked, ◌>>=◌, ◌>>◌, refused_if, answers, marks_of, reply_of}
 use Rattle.sky_model.specs.OwnTransaction.{next_id}
-use Rattle.sky_model.specs.StepCopy.{copy_write, copy_writes, deletions, insertions, rows_now, begins_copy, all_fit, copies_rows, ends_copy, given_up}
+use Rattle.sky_model.specs.StepCopy.{ends_copy, given_up}
 use Rattle.sky_model.specs.StepApply.{picked, may_apply, applies_in, ends_applying, applies_picked, bad_event}
 use Rattle.sky_model.specs.StepNode.{NodeCall, beginning_copy, copying_rows, ending_copy, giving_up_copy, moving, removing, applying, if_there, removes, moves_table, may_move, may_copy, may_serve, call_form, node_does}
 use Rattle.sky_model.specs.Settling.{marked}
 use Rattle.sky_model.specs.Promises.{after_all}
 use Rattle.sky_model.specs.DatabaseCalls.{DatabaseCall, database_part}
-use Rattle.sky_model.specs.LawsOfNodes.{AreTables}
 use Rattle.sky_model.proofs.Legal.{Legal}
 use Rattle.sky_model.proofs.NodeTables.{have-tables}
 use Rattle.sky_model.proofs.ApplyingLaws.{batches_put_their_events, other_batches_leave_rows, no_picked_table_is_copied}
-use Rattle.sky_model.proofs.CopyCalls.{gives-there}
-use Rattle.sky_model.proofs.StatementMarks.{EachMark, each-given, Gives, AnyReply, checked, either}
+use Rattle.sky_model.proofs.StatementMarks.{EachMark, each-given, AnyReply, either}
 use Rattle.sky_model.proofs.Cases.{by_test}
+use Rattle.sky_model.proofs.InCopyTables.{found}
+use Rattle.sky_model.proofs.NodeLaws.{among-are}
 use Rattle.sky_synced.proofs.FollowingCalls.{after_call}
-use Rattle.sky_synced.proofs.LeafFollows.{found}
+use Rattle.sky_synced.proofs.CopyingCalls.{is_copying, is_copying_call, gives-copying}
 
 -- ---- marks that leave a node as it is
 
@@ -51,41 +49,27 @@ node-still h (noded (hold_ended hold) ∷ marks) each = node-still (noded (hold_
 node-still h (noded mark ∷ marks) each = absurd each
 node-still h (mark ∷ marks) each = node-still (mark ∷ h) marks each
 
-abbrev Still : Checked Outcome → Type 0
-Still c = Gives AnyReply is_still c
+copying-still : (mark : Mark) → is_copying mark ≡ true → is_still mark ≡ true
+copying-still (noded (restarted table)) e = refl
+copying-still (noded (hold_begun hold)) e = refl
+copying-still (noded (hold_ended hold)) e = refl
+copying-still (noded mark) e = absurd (cc e)
+copying-still mark e = refl
 
-still-written : (d : RowPart) (table t : ℕ) (ws : List Write) → EachMark is_still (copy_writes d table t ws)
-still-written d table t [] = tt
-still-written d table t (w ∷ ws) = still-written (after_part d (copy_write d table t w)) table t ws
-
-still-begins : (d : Database) (table : ℕ) (o : Option ℕ) → Still (begins_copy d table o)
-still-begins d table (Some t) = (tt, tt)
-still-begins d table None = checked AnyReply is_still (next_id d.part) _ (λ t. (tt, still-written (after_part d.part (began (of_copy table) t)) table t (deletions (rows_now d.part table))))
-
-still-rows : (d : Database) (table t : ℕ) (rows : List (List Val)) → Still (copies_rows d table t rows)
-still-rows d table t rows =
-    either AnyReply is_still (all_fit (d.part.columns table) rows) (does_marks Done (copy_writes d.part table t (insertions (d.part.columns table) rows))) (answers Null)
-    (tt, still-written d.part table t (insertions (d.part.columns table) rows)) (tt, tt)
-
-still-given_up : (table : ℕ) (name : List ℕ) (o : Option ℕ) → EachMark is_still (given_up table name o)
-still-given_up table name None = tt
-still-given_up table name (Some t) = tt
-
-still-called : (h : History) (call : NodeCall) → Still (call_form (database_of h) call) → node (after_call h call) ≡ node h
-still-called h call still =
+still-called : (h : History) (call : NodeCall) → is_copying_call call ≡ true → node (after_call h call) ≡ node h
+still-called h call is =
     node-still h (marks_of (node_does (database_of h) call))
-    (each-given AnyReply is_still (node_does (database_of h) call) (either AnyReply is_still (may_serve call (node h)) (call_form (database_of h) call) (answers Null) still (tt, tt)))
+    (each-given AnyReply is_still (node_does (database_of h) call)
+    (either AnyReply is_still (may_serve call (node h)) (call_form (database_of h) call) (answers Null) (gives-copying is_still copying-still (database_of h) call is) (tt, tt)))
 
 pub leaf-begun : (h : History) (name : List ℕ) → node (after_call h (beginning_copy name)) ≡ node h
-leaf-begun h name = still-called h (beginning_copy name) (gives-there is_still (place_of name (table_names h)) _ (λ table. still-begins (database_of h) table (copy_txid table (copies h))))
+leaf-begun h name = still-called h (beginning_copy name) refl
 
 pub leaf-rows : (h : History) (name : List ℕ) (rows : List (List Val)) → node (after_call h (copying_rows name rows)) ≡ node h
-leaf-rows h name rows =
-    still-called h (copying_rows name rows)
-    (gives-there is_still (place_of name (table_names h)) _ (λ table. gives-there is_still (copy_txid table (copies h)) _ (λ t. still-rows (database_of h) table t rows)))
+leaf-rows h name rows = still-called h (copying_rows name rows) refl
 
 pub leaf-given_up : (h : History) (name : List ℕ) → node (after_call h (giving_up_copy name)) ≡ node h
-leaf-given_up h name = still-called h (giving_up_copy name) (gives-there is_still (place_of name (table_names h)) _ (λ table. (tt, still-given_up table name (copy_txid table (copies h)))))
+leaf-given_up h name = still-called h (giving_up_copy name) refl
 
 -- ---- the end of a copy
 
@@ -113,13 +97,6 @@ leaf-ended h name under tick l leaf = served (may_copy name (node h))
 pub is-among : (name : List ℕ) (ts : List LeafTable) → is_among name (map LeafTable.name ts) ≡ is_some (found name ts)
 is-among name [] = refl
 is-among name (t ∷ ts) = by_test (λ b. (b || is_among name (map LeafTable.name ts)) ≡ is_some (if b then Some t else found name ts)) (bytes_eq name t.name) (λ _. refl) (λ _. is-among name ts)
-
-among-are : (tables names : List (List ℕ)) (name : List ℕ) → AreTables tables names → is_among name names ≡ true → is_some (place_of name tables) ≡ true
-among-are tables [] name are among = absurd (cc among)
-among-are tables (x ∷ xs) name are among =
-    by_test (λ b. bytes_eq name x ≡ b → (b || is_among name xs) ≡ true → is_some (place_of name tables) ≡ true) (bytes_eq name x)
-    (λ _ same _. ap (λ y. is_some (place_of y tables)) (same_name name x same) ∙ All-head (λ y. is_some (place_of y tables) ≡ true) x xs are)
-    (λ _ _ e. among-are tables xs name (All-tail (λ y. is_some (place_of y tables) ≡ true) x xs are) e) refl among
 
 place-there : (h : History) (l : Leaf) (name : List ℕ) → Legal h → node h ≡ Some (of_leaf l) → is_some (found name l.tables) ≡ true → is_some (place_of name (table_names h)) ≡ true
 place-there h l name legal leaf is =

@@ -1,8 +1,7 @@
 -- A table of a leaf that was copied: what sessions have written since, once it has left its leaf.
-use Rattle.std.proofs.Common.{arith, ◌≡◌, ℕ, ◌==◌, List, [], ◌∷◌, ◌++◌, true, false, not, ◌&&◌, ◌||◌, Option, Some, None, is_some, bytes_eq, append-nil, inl, inr, refl, sym, ap, subst, ◌∙◌, if◌then◌else◌}
+use Rattle.std.proofs.Common.{◌≡◌, ℕ, ◌==◌, List, [], ◌∷◌, ◌++◌, true, false, not, ◌&&◌, ◌||◌, Option, Some, None, is_some, bytes_eq, append-nil, inl, inr, refl, sym, ap, subst, ◌∙◌, if◌then◌else◌}
 use Rattle.std.specs.List.{list_any}
-use Rattle.std.proofs.lemmas.Bool.Decides.{nat_tests}
-use Rattle.std.proofs.lemmas.Bool.{false_from_ne_true, or_parts}
+use Rattle.std.proofs.lemmas.Bool.{or_parts}
 use Rattle.sky_names.specs.Places.{place_of}
 use Rattle.sky_names.proofs.PlaceLemmas.{same_name}
 use Rattle.sky_txid.specs.Ids.{contains}
@@ -10,10 +9,9 @@ use Rattle.londiste_state.specs.declared.state.TableState.{TableState}
 use Rattle.londiste_state.specs.declared.state.TableState.TheVariants.{Absent, InCopy, CatchingUp, WannaSync, DoSync, Synced}
 use Rattle.londiste_state.specs.Moves.{is_allowed}
 use Rattle.londiste_state.specs.Nodes.{Node, LeafTable, in_state, with_copy, with_tick}
-use Rattle.sky_model.specs.History.{Mark, NodeMark, copy_of, Whose, of_session, of_worker, of_copy, ended, tabled, wrote, read_only, noded, leaf_removed, state_set, copied, applied, History}
-use Rattle.sky_model.specs.Transactions.{next_txid, running, workers}
-use Rattle.sky_model.specs.Copies.{copies, is_copied_by}
-use Rattle.sky_model.specs.Rows.{Write, table_names, committed, writes as writes_of, rows, in_turn, put_all}
+use Rattle.sky_model.specs.History.{Mark, NodeMark, copy_of, of_worker, of_copy, ended, tabled, wrote, read_only, noded, leaf_removed, state_set, copied, applied, History}
+use Rattle.sky_model.specs.Transactions.{running}
+use Rattle.sky_model.specs.Rows.{table_names, writes as writes_of, rows, in_turn}
 use Rattle.sky_model.specs.Nodes.{after_node, node, is_leaf}
 use Rattle.sky_model.specs.ShownRows.{least_writer}
 use Rattle.sky_model.specs.State.{part_of}
@@ -21,18 +19,13 @@ use Rattle.sky_model.specs.StepApply.{is_synced}
 use Rattle.sky_model.specs.StepNode.{may_move}
 use Rattle.sky_model.specs.World.{history_in}
 use Rattle.sky_model.specs.Calls.{past_of}
-use Rattle.sky_model.proofs.Legal.{NodeFits, Fine, begins_work, ends_work, begins_copy, ends_copy, writes, copies_row, applies_row, guards, without_node, at_leaving, Legal, legal-below_mark, fine_mark}
-use Rattle.sky_model.proofs.Snapshots.{contains-push, contains-filter, copys-of, sound, runs-unended}
+use Rattle.sky_model.proofs.Legal.{NodeFits, Fine, guards, without_node, at_leaving, Legal, legal-below_mark, fine_mark}
+use Rattle.sky_model.proofs.Snapshots.{sound, runs-unended}
 use Rattle.sky_model.proofs.SnapshotLaws.{legal-below}
-use Rattle.sky_model.proofs.Guarded.{copied_by-push, copied_by-without}
-use Rattle.sky_model.proofs.Holders.{alone}
-use Rattle.sky_model.proofs.RowKeys.{begun}
-use Rattle.sky_model.proofs.RowWrites.{in_turn-push, in_turn-same}
-use Rattle.sky_model.proofs.KeyVersions.{same-writes}
 use Rattle.sky_model.proofs.WrittenTables.{some, is-written, unwritten-by}
 use Rattle.sky_model.proofs.NodeReadings.{leaf-stays}
 use Rattle.sky_model.proofs.NodeCalls.{leaf-has}
-use Rattle.sky_model.proofs.InCopyTables.{leaf_table}
+use Rattle.sky_model.proofs.InCopyTables.{leaf_table, may-allowed, is_past_copy}
 use Rattle.sky_model.proofs.NodeTables.{one-place}
 use Rattle.sky_model.proofs.RowSights.{Since, here, later as since_later}
 use Rattle.sky_model.proofs.Histories.{legal_past}
@@ -41,123 +34,20 @@ use Rattle.sky_model.proofs.Cases.{by_test, by_same}
 use Rattle.sky_changes.proofs.Places.{since-below, on-top}
 use Rattle.sky_changes.proofs.ListedTables.{place-kept, fits-of}
 use Rattle.sky_replicas.specs.LawsOfReplicas.{applies_to, copies_again, committed_by_sessions}
-use Rattle.sky_replicas.proofs.Copying.{one-table}
-use Rattle.sky_synced.specs.Tables.{has_own_tick}
+use Rattle.sky_replicas.proofs.SessionsRows.{NoneWritten, sessions-rows}
 use Rattle.sky_synced.specs.LawsOfLeft.{with_sessions_writes, TablesShowSessionsWrites, UncopiedTablesShowSessionsWrites, left_at, LeftTablesKeepTheirRows}
-use Rattle.sky_synced.proofs.ChangedTables.{goes_along, table-named, Was, just-gone, was-or-new}
-use Rattle.sky_synced.proofs.Going.{allowed-by}
+use Rattle.sky_synced.proofs.ChangedTables.{table-named, Was, just-gone, was-or-new}
 use Rattle.sky_synced.proofs.PickedTables.{may_pick, MarkPicked, AllPicked, picked-below, picked-past}
 use Rattle.sky_synced.proofs.SteadyTables.{is_steady, AllSteady, steady-below, steady-past}
-use Rattle.sky_synced.proofs.RestingTables.{Rests, rests-between}
+use Rattle.sky_synced.proofs.RestingTables.{Rests, rests-between, nothing}
 use Rattle.sky_synced.proofs.GoingCalls.{between-past}
-
--- ---- a transaction of a worker has written none of a table's rows but by another copy, unless it applies a batch
-
-abbrev NoneWritten : History → ℕ → Type 0
-NoneWritten h table = (t : ℕ) → contains t (workers h) ≡ true → is_copied_by table t (copies h) ≡ false → writes_of table t h ≡ []
-
-none-step : (h : History) → Legal h → (mark : Mark) → Fine h mark → (table : ℕ) → applies_to table mark ≡ false → NoneWritten h table → NoneWritten (mark ∷ h) table
-none-step h l _ begins_work table none ih t works apart =
-    by_same (λ b. (contains t (workers h) || b) ≡ true → writes_of table t h ≡ []) t (next_txid h)
-    (λ same _. begun h l table t (omega (arith, same))) (λ _ old. ih t (grind (arith, old)) apart) (sym (contains-push t (next_txid h) (workers h)) ∙ works)
-none-step h l _ (begins_copy n may) table none ih t works apart =
-    by_same (λ b. (contains t (workers h) || b) ≡ true → writes_of table t h ≡ []) t (next_txid h)
-    (λ same _. begun h l table t (omega (arith, same)))
-    (λ _ old. ih t (grind (arith, old))
-    (or_parts (is_copied_by table t (copies h)) (n == table && next_txid h == t) (sym (copied_by-push table t (copies h) (record { table = n; txid = next_txid h })) ∙ apart)).0)
-    (sym (contains-push t (next_txid h) (workers h)) ∙ works)
-none-step h l _ (ends_work u c is) table none ih t works apart = ih t (grind (arith, contains-filter t u (workers h), works)) apart
-none-step h l _ (ends_copy n u c is) table none ih t works apart =
-    ih t (grind (arith, contains-filter t u (workers h), works)) (grind (arith, contains-filter t u (workers h), works, copied_by-without table u t (copies h), apart))
-none-step h l _ (writes who u n key old new mine free stands) table none ih t works apart =
-    ap (λ b. if b then writes_of table t h ++ record { key = key; row = new } ∷ [] else writes_of table t h) other ∙ ih t works apart
-  where
-    other : (n == table && u == t) ≡ false
-    other = by_same (λ b. (n == table && b) ≡ false) u t (λ same. absurd (cc (sym works ∙ (sound h l).nobodys who t (mine ∙ ap Some same)))) (λ _. grind (arith))
-none-step h l _ (copies_row n u key old new is) table none ih t works apart =
-    ap (λ b. if b then writes_of table t h ++ record { key = key; row = new } ∷ [] else writes_of table t h) other ∙ ih t works apart
-  where
-    other : (n == table && u == t) ≡ false
-    other = by_same (λ b. (b && u == t) ≡ false) n table
-        (λ one. by_same (λ b. (true && b) ≡ false) u t
-        (λ same. absurd (cc (sym is.runs ∙ (ap (λ k. is_copied_by k u (copies h)) one ∙ ap (λ v. is_copied_by table v (copies h)) same) ∙ apart))) (λ _. refl)) (λ _. refl)
-none-step h l _ (applies_row n u key old new is) table none ih t works apart =
-    ap (λ b. if b then writes_of table t h ++ record { key = key; row = new } ∷ [] else writes_of table t h) (ap (λ b. b && u == t) none) ∙ ih t works apart
-none-step h l _ _ table none ih t works apart = ih t works apart
-
-none-written : (later : List Mark) (p : History) → Legal (later ++ p) → (table : ℕ) → list_any (applies_to table) later ≡ false → NoneWritten p table → NoneWritten (later ++ p) table
-none-written [] p l table none from = from
-none-written (mark ∷ later) p l table none from =
-    let parts = or_parts (applies_to table mark) (list_any (applies_to table) later) none in
-    let below : Legal (later ++ p) = legal-below_mark l in
-    none-step (later ++ p) below mark (fine_mark l) table parts.0 (none-written later p below table parts.1 from)
-
-work-quiet : {t : ℕ} (h : History) (table : ℕ) → NoneWritten h table → Fine h (ended of_worker t true) → writes_of table t h ≡ []
-work-quiet {t = t} h table none (ends_work _ _ is) =
-    none t is.works (false_from_ne_true (is_copied_by table t (copies h)) (λ runs. absurd (cc (sym (copys-of table t (copies h) runs) ∙ is.apart))))
-
-copy-quiet : {t n : ℕ} (h : History) → Legal h → (table : ℕ) → NoneWritten h table → Fine h (ended (of_copy n) t true) → (n == table) ≡ false → writes_of table t h ≡ []
-copy-quiet {t = t} {n = n} h l table none (ends_copy _ _ _ is) apart =
-    none t ((sound h l).copying t (copys-of n t (copies h) is.runs))
-    (false_from_ne_true (is_copied_by table t (copies h)) (λ runs. let one : n ≡ table = one-table h l n table t is.runs runs in absurd (grind (arith, nat_tests, one, apart))))
-
--- ---- the rows above a place
-
-sessions-committed : (later : List Mark) (p : History) (u : ℕ) → contains u (committed_by_sessions later) ≡ true → contains u (committed (later ++ p)) ≡ true
-sessions-committed [] p u is = absurd (cc is)
-sessions-committed (ended (of_session who) t true ∷ later) p u is =
-    contains-push u t (committed (later ++ p))
-    ∙ by_test (λ b. contains u (committed_by_sessions later) ≡ b → (b || u == t) ≡ true → (contains u (committed (later ++ p)) || u == t) ≡ true) (contains u (committed_by_sessions later))
-    (λ _ there _. ap (λ b. b || u == t) (sessions-committed later p u there)) (λ _ _ last. grind (arith, last)) refl (sym (contains-push u t (committed_by_sessions later)) ∙ is)
-sessions-committed (ended of_worker t true ∷ later) p u is = contains-push u t (committed (later ++ p)) ∙ ap (λ b. b || u == t) (sessions-committed later p u is)
-sessions-committed (ended (of_copy n) t true ∷ later) p u is = contains-push u t (committed (later ++ p)) ∙ ap (λ b. b || u == t) (sessions-committed later p u is)
-sessions-committed (_ ∷ later) p u is = sessions-committed later p u is
-
--- the commit of one that has written nothing there
-unwritten-ended : (h : History) (table t : ℕ) (whose : Whose) → writes_of table t h ≡ [] → rows table (ended whose t true ∷ h) ≡ rows table h
-unwritten-ended h table t whose none = in_turn-push (λ u. writes_of table u h) (committed h) t [] ∙ ap (λ ws. put_all ws (rows table h)) none
-
-sessions-rows : (later : List Mark) (p : History) → Legal (later ++ p) → (table : ℕ) → NoneWritten p table → list_any (copies_again table) later ≡ false → list_any (applies_to table) later ≡ false
-    → rows table (later ++ p) ≡ in_turn (λ t. writes_of table t (later ++ p)) (committed_by_sessions later) (rows table p)
-sessions-rows [] p l table from once none = refl
-sessions-rows (tabled (wrote whose u n key old new) ∷ later) p l table from once none =
-    let h : History = later ++ p in
-    let below : Legal h = legal-below_mark l in
-    let same = same-writes h below whose u n key old new (alone h below (fine_mark l)) table in
-    in_turn-same (λ v. writes_of table v (tabled (wrote whose u n key old new) ∷ h)) (λ v. writes_of table v h) (committed h) [] same
-    ∙ sessions-rows later p below table from once (or_parts (applies_to table (tabled (wrote whose u n key old new))) (list_any (applies_to table) later) none).1
-    ∙ sym (in_turn-same (λ v. writes_of table v (tabled (wrote whose u n key old new) ∷ h)) (λ v. writes_of table v h) (committed_by_sessions later) (rows table p) (λ v there. same v (sessions-committed later p v there)))
-sessions-rows (ended (of_session who) u true ∷ later) p l table from once none =
-    let h : History = later ++ p in
-    in_turn-push (λ v. writes_of table v h) (committed h) u []
-    ∙ ap (put_all (writes_of table u h)) (sessions-rows later p (legal-below_mark l) table from once none)
-    ∙ sym (in_turn-push (λ v. writes_of table v h) (committed_by_sessions later) u (rows table p))
-sessions-rows (ended of_worker u true ∷ later) p l table from once none =
-    let below : Legal (later ++ p) = legal-below_mark l in
-    unwritten-ended (later ++ p) table u of_worker (work-quiet (later ++ p) table (none-written later p below table none from) (fine_mark l)) ∙ sessions-rows later p below table from once none
-sessions-rows (ended (of_copy n) u true ∷ later) p l table from once none =
-    let below : Legal (later ++ p) = legal-below_mark l in
-    let parts = or_parts (n == table) (list_any (copies_again table) later) once in
-    unwritten-ended (later ++ p) table u (of_copy n) (copy-quiet (later ++ p) below table (none-written later p below table none from) (fine_mark l) parts.0)
-    ∙ sessions-rows later p below table from parts.1 none
-sessions-rows (_ ∷ later) p l table from once none = sessions-rows later p (legal-below_mark l) table from once none
-
--- ---- after calls
-
-nothing : (ws : List Write) → some ws ≡ false → ws ≡ []
-nothing [] e = refl
-nothing (w ∷ ws) e = absurd (cc e)
+use Rattle.sky_synced.proofs.SyncedLaws.{either-along}
 
 -- where no transaction that runs has written the table, a worker's hasn't
 none-rests : (h : History) → Legal h → (n : ℕ) → Rests h n → NoneWritten h n
 none-rests h l n r t works apart =
     nothing (writes_of n t h)
     (sym (ap (λ b. not b && some (writes_of n t h)) (runs-unended h (sound h l) t ((sound h l).works t works))) ∙ sym (is-written h l n t) ∙ r.unwritten t)
-
-either-along : (state : TableState) → (has_own_tick state || is_synced state) ≡ true → goes_along state ≡ true
-either-along Absent e = absurd (cc e)
-either-along InCopy e = absurd (cc e)
-either-along state e = refl
 
 pub tables_show_sessions_writes : TablesShowSessionsWrites
 tables_show_sessions_writes calls newer in_form d leaf provider name t is found there state x above later whole once none =
@@ -181,10 +71,10 @@ tables_show_sessions_writes calls newer in_form d leaf provider name t is found 
 
 -- a table that was not copied since: it isn't in sync, and has no kept snapshot
 abbrev Uncopied : List ℕ → Option Node → Type 0
-Uncopied name n = (t : LeafTable) → leaf_table name n ≡ Some t → (goes_along t.state ≡ false) × (t.snapshot ≡ None)
+Uncopied name n = (t : LeafTable) → leaf_table name n ≡ Some t → (is_past_copy t.state ≡ false) × (t.snapshot ≡ None)
 
 -- it goes into no other state than that in which it is copied
-still-before : (from to : TableState) → goes_along from ≡ false → is_allowed from to ≡ true → is_steady (noded (state_set [] to)) ≡ true → goes_along to ≡ false
+still-before : (from to : TableState) → is_past_copy from ≡ false → is_allowed from to ≡ true → is_steady (noded (state_set [] to)) ≡ true → is_past_copy to ≡ false
 still-before Absent InCopy before may steady = refl
 still-before Absent Absent before may steady = refl
 still-before Absent CatchingUp before may steady = absurd (cc may)
@@ -218,11 +108,11 @@ EndsNoCopy name mark = Unit {0}
 uncopied-step : (h : History) (mark : NodeMark) → NodeFits h mark → is_steady (noded mark) ≡ true → (name : List ℕ) → EndsNoCopy name mark → Uncopied name (node h) → Uncopied name (after_node mark (node h))
 uncopied-step h mark fits steady name ends before u there = elim (was-or-new h mark fits name u there) [
   | inl w ↦ of mark fits steady ends w
-  | inr new ↦ (ap (λ (t : LeafTable). goes_along t.state) new.is, ap LeafTable.snapshot new.is)
+  | inr new ↦ (ap (λ (t : LeafTable). is_past_copy t.state) new.is, ap LeafTable.snapshot new.is)
 ]
   where
     IsBefore : LeafTable → Type 0
-    IsBefore t = (goes_along t.state ≡ false) × (t.snapshot ≡ None)
+    IsBefore t = (is_past_copy t.state ≡ false) × (t.snapshot ≡ None)
 
     of : (m : NodeMark) → NodeFits h m → is_steady (noded m) ≡ true → EndsNoCopy name m → Was (node h) m name u → IsBefore u
     of (state_set other state) fits steady ends w =
@@ -230,8 +120,8 @@ uncopied-step h mark fits steady name ends before u there = elim (was-or-new h m
         by_test (λ b. bytes_eq other w.t.name ≡ b → u ≡ (if b then in_state state w.t else w.t) → IsBefore u) (bytes_eq other w.t.name)
         (λ _ its same.
         let one : other ≡ name = same_name other w.t.name its ∙ table-named name (node h) w.t w.there in
-        let may : is_allowed w.t.state state ≡ true = allowed-by name state (node h) w.t w.there (ap (λ x. may_move x state (node h)) (sym one) ∙ fits.may) in
-        (ap (λ (t : LeafTable). goes_along t.state) same ∙ still-before w.t.state state was_before.0 may (steady-named [] other state ∙ steady), ap LeafTable.snapshot same ∙ was_before.1))
+        let may : is_allowed w.t.state state ≡ true = may-allowed name state (node h) w.t w.there (ap (λ x. may_move x state (node h)) (sym one) ∙ fits.may) in
+        (ap (λ (t : LeafTable). is_past_copy t.state) same ∙ still-before w.t.state state was_before.0 may (steady-named [] other state ∙ steady), ap LeafTable.snapshot same ∙ was_before.1))
         (λ _ _ same. subst IsBefore (sym same) was_before) refl w.is
     of (copied other under tick) fits steady ends w =
         by_test (λ b. bytes_eq other w.t.name ≡ b → u ≡ (if b then with_copy under tick w.t else w.t) → IsBefore u) (bytes_eq other w.t.name)
@@ -239,7 +129,7 @@ uncopied-step h mark fits steady name ends before u there = elim (was-or-new h m
         (λ _ _ same. subst IsBefore (sym same) (before w.t w.there)) refl w.is
     of (applied (copy_of other) tick) fits steady ends w =
         by_test (λ b. u ≡ (if b then with_tick tick w.t else w.t) → IsBefore u) (bytes_eq other w.t.name)
-        (λ _ same. let was_before : IsBefore w.t = before w.t w.there in (ap (λ (t : LeafTable). goes_along t.state) same ∙ was_before.0, ap LeafTable.snapshot same ∙ was_before.1))
+        (λ _ same. let was_before : IsBefore w.t = before w.t w.there in (ap (λ (t : LeafTable). is_past_copy t.state) same ∙ was_before.0, ap LeafTable.snapshot same ∙ was_before.1))
         (λ _ same. subst IsBefore (sym same) (before w.t w.there)) w.is
     of m fits steady ends w = subst IsBefore (sym w.is) (before w.t w.there)
 
@@ -274,11 +164,11 @@ module _ (name : List ℕ) (table : ℕ) (from : History) (start : Uncopied name
   uncopied-above (mark ∷ later) up l steady none =
       uncopied-above later (since-below up) (legal-below_mark l) steady.1 (or_parts (copies_again table mark) (list_any (copies_again table) later) none).1
 
-unpicked : (o : Option LeafTable) → ((t : LeafTable) → o ≡ Some t → (goes_along t.state ≡ false) × (t.snapshot ≡ None)) → may_pick o ≡ false
+unpicked : (o : Option LeafTable) → ((t : LeafTable) → o ≡ Some t → (is_past_copy t.state ≡ false) × (t.snapshot ≡ None)) → may_pick o ≡ false
 unpicked None before = refl
 unpicked (Some t) before = ap (λ s. is_synced t.state || is_some s) (before t refl).1 ∙ of t.state (before t refl).0
   where
-    of : (state : TableState) → goes_along state ≡ false → (is_synced state || false) ≡ false
+    of : (state : TableState) → is_past_copy state ≡ false → (is_synced state || false) ≡ false
     of Absent e = refl
     of InCopy e = refl
     of CatchingUp e = refl

@@ -5,6 +5,7 @@ mod CommittedRows
 mod ConsumersMarks
 mod CopiersMoves
 mod CopyEnds
+mod CopyingCalls
 mod Covering
 mod EachStatement
 mod FollowEachCall
@@ -47,6 +48,7 @@ mod Sights
 mod SteadyTables
 mod SyncedLaws
 mod TablesReached
+mod UnlessRefused
 mod UnownedEvents
 mod WorkedSights
 mod WorkersFollow

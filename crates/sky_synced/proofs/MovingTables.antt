@@ -18,11 +18,11 @@ use Rattle.sky_model.specs.StepCopy.{ends_copy, given_up}
 use Rattle.sky_model.specs.StepNode.{moving, ending_copy, if_there, moves_table, may_move, may_copy}
 use Rattle.sky_model.specs.World.{history_in, on_top}
 use Rattle.sky_model.proofs.Guarded.{copied-by, copy_txid-some}
-use Rattle.sky_model.proofs.InCopyTables.{leaf_table}
+use Rattle.sky_model.proofs.InCopyTables.{leaf_table, may-allowed, is_past_copy}
 use Rattle.sky_replicas.proofs.CallPasts.{call_marks, called}
-use Rattle.sky_synced.proofs.ChangedTables.{goes_along, table-named}
+use Rattle.sky_synced.proofs.ChangedTables.{table-named}
 use Rattle.sky_synced.proofs.Showing.{is_late}
-use Rattle.sky_synced.proofs.Going.{AllPlaces, places-below, places-under, MayGo, ShowsIn, Goes, KeptGoes, suits-step, allowed-by}
+use Rattle.sky_synced.proofs.Going.{AllPlaces, places-below, places-under, MayGo, ShowsIn, Goes, KeptGoes, suits-step}
 use Rattle.sky_synced.proofs.PlainCalls.{kept-mark}
 use Rattle.sky_synced.proofs.CopyEnds.{AtEnd, copy-left}
 
@@ -63,7 +63,7 @@ module _ (past : Past) (d : ℕ) (name : List ℕ) (under : SnapshotView) (tick 
 -- ---- a table goes into a state
 
 -- a table that goes into one of these states was copied
-allowed-along : (from to : TableState) → is_allowed from to ≡ true → is_late to ≡ true → goes_along from ≡ true
+allowed-along : (from to : TableState) → is_allowed from to ≡ true → is_late to ≡ true → is_past_copy from ≡ true
 allowed-along CatchingUp to may late = refl
 allowed-along (WannaSync tick) to may late = refl
 allowed-along (DoSync tick) to may late = refl
@@ -96,7 +96,7 @@ movable name state h may = of (leaf_table name (node h)) refl
 
     of : (o : Option LeafTable) → leaf_table name (node h) ≡ o → IsMovable name state h
     of None is = absurd (cc (sym may ∙ nowhere (node h) is))
-    of (Some t) is = record { t = t; there = is; allowed = allowed-by name state (node h) t is may }
+    of (Some t) is = record { t = t; there = is; allowed = may-allowed name state (node h) t is may }
 
 module _ (past : Past) (d : ℕ) (name : List ℕ) (state : TableState) (late : is_late state ≡ true) (goes : AllPlaces past → Goes past → MayGo past d name state) (kept : KeptGoes past) where
   abbrev g : History

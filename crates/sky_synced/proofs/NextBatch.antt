@@ -25,7 +25,7 @@ use Rattle.sky_model.proofs.Legal.{Legal}
 use Rattle.sky_model.proofs.SnapshotLaws.{legal_place}
 use Rattle.sky_model.proofs.TickOrder.{is_made, is_made-tick}
 use Rattle.sky_model.proofs.RowSights.{Since}
-use Rattle.sky_model.proofs.InCopyTables.{leaf_table}
+use Rattle.sky_model.proofs.InCopyTables.{leaf_table, is_past_copy}
 use Rattle.sky_model.proofs.Cases.{by_test}
 use Rattle.sky_changes.specs.Listing.{later_of}
 use Rattle.sky_changes.specs.TableEvents.{table_events, unseen_events}
@@ -36,7 +36,7 @@ use Rattle.sky_replicas.proofs.NodeNames.{source_of}
 use Rattle.sky_synced.specs.Tables.{has_own_tick, tick_in}
 use Rattle.sky_synced.proofs.Covering.{EndedBy}
 use Rattle.sky_synced.proofs.PickedEvents.{IsNotOwn, InBatch, in-batch, unseen-all, picked-synced, picked-unsynced, picked-copy, picked-other}
-use Rattle.sky_synced.proofs.ChangedTables.{goes_along, leafs_tick, table-named}
+use Rattle.sky_synced.proofs.ChangedTables.{leafs_tick, table-named}
 use Rattle.sky_synced.proofs.RestingTables.{Rests, leaf-found}
 use Rattle.sky_synced.proofs.Showing.{is_late, Shows, picked-give, AllFit}
 use Rattle.sky_synced.proofs.Going.{come, ShowsIn, Goes, listed-now}
@@ -56,12 +56,12 @@ HasCome n of_synced tick = (is_leaf n ≡ true) × (leafs_tick n ≡ tick)
 HasCome n (copy_of name) tick = (t : LeafTable) × (leaf_table name n ≡ Some t) × (has_own_tick t.state ≡ true) × (t.tick ≡ tick)
 
 -- the state of a table that goes through batches of its own, or of the leaf's
-pub copied-along : (state : TableState) → has_own_tick state ≡ true → goes_along state ≡ true
+pub copied-along : (state : TableState) → has_own_tick state ≡ true → is_past_copy state ≡ true
 copied-along Absent e = absurd (cc e)
 copied-along InCopy e = absurd (cc e)
 copied-along state e = refl
 
-synced-along : (state : TableState) → is_synced state ≡ true → goes_along state ≡ true
+synced-along : (state : TableState) → is_synced state ≡ true → is_past_copy state ≡ true
 synced-along Synced e = refl
 synced-along state e = absurd (cc e)
 
@@ -126,7 +126,7 @@ module _ (past : Past) (d p : ℕ) (b : Batch) (pick : Pick) (g : Goes past) (fr
     pub rests : Rests h shows.table
     pub of_queue : b.queue ≡ shows.queue
 
-  pub shows-here : (name : List ℕ) (t : LeafTable) → leaf_table name (node h) ≡ Some t → goes_along t.state ≡ true → ShowsHere t
+  pub shows-here : (name : List ℕ) (t : LeafTable) → leaf_table name (node h) ≡ Some t → is_past_copy t.state ≡ true → ShowsHere t
   shows-here name t there along = record { shows = both.0; rests = both.1; of_queue = cc (sym next.of_set ∙ (listed-now both.0.below both.0.listed).set) }
     where
       s : ShowsIn past d h t
@@ -155,7 +155,7 @@ module _ (past : Past) (d p : ℕ) (b : Batch) (pick : Pick) (g : Goes past) (fr
 
   -- it has come to the opening tick
   pub record IsPicked (t : LeafTable) : Type 0 where
-    pub along : goes_along t.state ≡ true
+    pub along : is_past_copy t.state ≡ true
     pub at_prev : come (node h) t ≡ b.prev
     pub events_are : (s : ShowsHere t) → picked_of h pick t.name es ≡ unseen_events (snapshot s.shows.held) (table_events t.name es)
 

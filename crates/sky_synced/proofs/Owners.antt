@@ -1,16 +1,16 @@
 -- A subscription for which no event is asked once more owns none.
 use Rattle.std.proofs.Common.{◌≡◌, ℕ, ℤ, ◌==◌, List, [], ◌∷◌, ◌++◌, length, Bool, true, false, not, All, Contains, Option, Some, None, is_none, Ok, Err, refl, sym, ap, subst, ◌∙◌, if◌then◌else◌}
 use Rattle.std.proofs.lemmas.List.Elements.{All-push, All-filter, All-contains}
+use Rattle.std.proofs.lemmas.Bool.{not-true}
 use Rattle.sky_val.specs.declared.event.Event.{Event}
 use Rattle.pgq_retry.specs.declared.retry.Retry.{Retry}
 use Rattle.pgq_retry.specs.Retries.{is_event, is_of}
 use Rattle.sky_model.specs.declared.reply.Reply.TheVariants.{Number}
-use Rattle.sky_model.specs.History.{Mark, of_session, of_worker, began, ended, block_ended, queued, put, asked, returned, unregistered, switched, History}
-use Rattle.sky_model.specs.Sessions.{Block, outside, inside, failed}
-use Rattle.sky_model.specs.Queues.{NamedQueue, queues, events, is_pending}
+use Rattle.sky_model.specs.History.{Mark, of_session, of_worker, began, ended, block_ended, queued, put, asked, returned, unregistered, History}
+use Rattle.sky_model.specs.Queues.{queues, events}
 use Rattle.sky_model.specs.Retries.{retries, brought_by}
 use Rattle.sky_model.specs.OwnTransaction.{next_id, commit_of}
-use Rattle.sky_model.specs.State.{Database, part_of, database_of}
+use Rattle.sky_model.specs.State.{part_of, database_of}
 use Rattle.sky_model.specs.Outcome.{Checked, ◌>>=◌, does_marks, marks_of}
 use Rattle.sky_model.specs.StepRetry.{back, brings}
 use Rattle.sky_model.specs.StepRotation.{switch_of, switches_by}
@@ -21,20 +21,16 @@ use Rattle.sky_model.proofs.Resting.{behind-append}
 use Rattle.sky_model.proofs.RetryCopies.{owned}
 use Rattle.sky_model.proofs.StatementMarks.{EachMark, each-map, each-front, each-rest, when-true}
 use Rattle.sky_model.proofs.PlainStatements.{may_do}
+use Rattle.sky_model.proofs.OwnedPuts.{is_unowned, plain-unowned, unowned-switch, unowned-switches}
 use Rattle.sky_model.proofs.SwitchingCalls.{IsOfCalls}
 use Rattle.sky_model.proofs.Good.{same-session}
 use Rattle.sky_model.proofs.Cases.{by_test}
-use Rattle.sky_synced.proofs.Following.{not-so, legal-marked}
+use Rattle.sky_model.proofs.PendingOwners.{legal-before}
 
 -- whether a mark doesn't ask for a subscription
 abbrev pub unasks : ℕ → Mark → Bool
 unasks sub (queued (asked retry)) = not (retry.sub == sub)
 unasks sub mark = true
-
--- whether it puts no event with an owner
-abbrev pub is_unowned : Mark → Bool
-is_unowned (queued (put q e)) = is_none e.ev_owner
-is_unowned mark = true
 
 abbrev NotFor : ℕ → Retry → Type 0
 NotFor sub r = (r.sub == sub) ≡ false
@@ -59,7 +55,7 @@ put-clean h sub q e apart c = record {
 
 pub clean-mark : (h : History) (mark : Mark) (sub : ℕ) → is_unowned mark ≡ true → unasks sub mark ≡ true → IsClean sub h → IsClean sub (mark ∷ h)
 clean-mark h (queued (put q e)) sub unowned unasked c = put-clean h sub q e (no-owner e.ev_owner sub unowned) c
-clean-mark h (queued (asked r)) sub unowned unasked c = record { waits = All-push (NotFor sub) (retries h) r c.waits (not-so (r.sub == sub) unasked); puts = c.puts }
+clean-mark h (queued (asked r)) sub unowned unasked c = record { waits = All-push (NotFor sub) (retries h) r c.waits (not-true (r.sub == sub) unasked); puts = c.puts }
 clean-mark h (queued (returned r moment)) sub unowned unasked c = record { waits = All-filter (λ w. not (is_event r.sub r.event.ev_id w)) (NotFor sub) (retries h) c.waits; puts = c.puts }
 clean-mark h (queued (unregistered q name s)) sub unowned unasked c = record { waits = All-filter (λ w. not (is_of s w)) (NotFor sub) (retries h) c.waits; puts = c.puts }
 clean-mark h mark sub unowned unasked c = record { waits = c.waits; puts = c.puts }
@@ -86,7 +82,7 @@ clean-back h now t [] sub l c = clean-mark h (ended of_worker t true) sub refl r
 clean-back h now t (r ∷ rs) sub l c =
     let first : History = queued (put r.queue (brought_by t r.event)) ∷ h in
     let second : History = queued (returned r now) ∷ first in
-    let here : Legal second = legal-marked second (back now t rs ++ ended of_worker t true ∷ []) l in
+    let here : Legal second = legal-before second (back now t rs ++ ended of_worker t true ∷ []) l in
     let w : Waited first r = waited-by (fine_mark here) in
     let same : h ≡ w.below = cc w.is in
     let waits : Contains (retries h) r = subst (λ g. Contains (retries g) r) (sym same) w.waited in
@@ -106,21 +102,6 @@ clean-brings h now (r ∷ rs) sub l c = of (next_id (part_of h)) l c
 
 -- ---- all calls
 
-unowned-switch : (q t : ℕ) (now : ℤ) (who : ℕ) (b : Block) → EachMark is_unowned (switch_of q t now b ++ commit_of who t b)
-unowned-switch q t now who outside = tt
-unowned-switch q t now who inside = tt
-unowned-switch q t now who failed = tt
-
-unowned-switches : (d : Database) (now : ℤ) (t : ℕ) (qs : List NamedQueue) (marks : List Mark) → EachMark is_unowned marks → EachMark is_unowned (switches_by d now t qs ++ marks)
-unowned-switches d now t [] marks rest = rest
-unowned-switches d now t (q ∷ qs) marks rest =
-    by_test (λ b. EachMark is_unowned ((if b then queued (switched q.number now) ∷ switches_by d now t qs else switches_by d now t qs) ++ marks)) (is_pending t (d.queue q.number).tables)
-    (λ _. unowned-switches d now t qs marks rest) (λ _. unowned-switches d now t qs marks rest)
-
-plain-unowned : (b : Block) (who : ℕ) (mark : Mark) → may_do b who mark ≡ true → is_unowned mark ≡ true
-plain-unowned b who (queued (put q e)) is = is
-plain-unowned b who mark is = refl
-
 each-front-of : (p : Mark → Bool) (xs ys : List Mark) → EachMark p (xs ++ ys) → EachMark p xs
 each-front-of p [] ys each = tt
 each-front-of p (x ∷ xs) ys each = each-front p x xs (when-true (EachMark p (xs ++ ys)) (p x) each) (each-front-of p xs ys (each-rest p x (xs ++ ys) each))
@@ -138,7 +119,7 @@ stay-clean now = record {
   joined = λ h xs ys first also sub l unasked c.
       let l2 : Legal (marked (marked h xs) ys) = subst Legal (behind-append part_by_history h xs ys) l in
       subst (IsClean sub) (sym (behind-append part_by_history h xs ys))
-      (also sub l2 (each-back-of (unasks sub) xs ys unasked) (first sub (legal-marked (marked h xs) ys l2) (each-front-of (unasks sub) xs ys unasked) c));
+      (also sub l2 (each-back-of (unasks sub) xs ys unasked) (first sub (legal-before (marked h xs) ys l2) (each-front-of (unasks sub) xs ys unasked) c));
   plain = λ b who h marks out each sub l unasked c. clean-marks h marks sub (each-map (may_do b who) is_unowned (plain-unowned b who) marks each) unasked c;
   begins = λ h who sub l unasked c. record { waits = c.waits; puts = c.puts };
   switches = λ h who q t b mine is sound free sub l unasked c. clean-marks h (switch_of q t now b ++ commit_of who t b) sub (unowned-switch q t now who b) unasked c;

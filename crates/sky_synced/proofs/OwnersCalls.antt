@@ -1,5 +1,6 @@
 -- No call asks for an event once more for the subscription of a leaf's consumer.
 use Rattle.std.proofs.Common.{◌≡◌, ℕ, ℤ, ◌==◌, List, [], ◌∷◌, find, Bool, true, false, not, ◌&&◌, Option, Some, None, bytes_eq, refl, sym, ap, ◌∙◌}
+use Rattle.std.proofs.lemmas.Bool.{not-true}
 use Rattle.sky_names.proofs.PlaceLemmas.{bytes_eq_refl}
 use Rattle.sky_val.specs.declared.event.Event.{Event}
 use Rattle.pgq_retry.specs.declared.retry.Retry.{Retry}
@@ -28,7 +29,7 @@ use Rattle.sky_model.proofs.ActiveBatches.{IsActive, active_batches}
 use Rattle.sky_model.proofs.Good.{same-session}
 use Rattle.sky_model.proofs.StatementMarks.{EachMark, each-map, each-append, each-front, Gives, AnyReply, gives-map, after, checked, either, no_more, given-runs}
 use Rattle.sky_model.proofs.Cases.{by_same}
-use Rattle.sky_synced.proofs.Following.{is_of_node, not-so}
+use Rattle.sky_synced.proofs.Following.{is_of_node}
 use Rattle.sky_synced.proofs.ConsumersMarks.{is_apart, apart-form, row-apart, apart-settling, batch-other}
 use Rattle.sky_synced.proofs.Owners.{unasks}
 
@@ -51,7 +52,7 @@ module _ (h : History) (l : Legal h) (distinct : Distinct h) (q : ℕ) (c : List
       (λ same.
       let a : IsActive h id b = active_batches h l id b is in
       let one = distinct b.queue q b.consumer c sub (a.owned ∙ ap Some same) has in
-      absurd (cc (sym (not-so (b.queue == q && bytes_eq c b.consumer) (batch-other h q c set nodes b other)) ∙ (λ i. one.0 i == q && bytes_eq c (one.1 i)) ∙ (λ i. same-session q i && bytes_eq_refl c i)))) (λ _. refl)
+      absurd (cc (sym (not-true (b.queue == q && bytes_eq c b.consumer) (batch-other h q c set nodes b other)) ∙ (λ i. one.0 i == q && bytes_eq c (one.1 i)) ∙ (λ i. same-session q i && bytes_eq_refl c i)))) (λ _. refl)
 
   unasks-asks : (r : Retry) → not (r.sub == sub) ≡ true → Unasks (asks_for (database_of h) r)
   unasks-asks r other = either AnyReply (unasks sub) (is_asked r.sub r.event.ev_id (database_of h).retries) (answers (Number 0)) (does_marks (Number 1) (queued (asked r) ∷ [])) (tt, tt) (tt, each-front (unasks sub) (queued (asked r)) [] other tt)

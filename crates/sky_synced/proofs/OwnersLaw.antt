@@ -1,6 +1,6 @@
 -- No event of a set's queue is owned by the subscription of a leaf's consumer.
-use Rattle.std.proofs.Common.{arith, ◌≡◌, ℕ, pos, ◌==◌, ◌+◌, ◌^◌, ◌<◌, ◌≤◌, nat_le, List, [], ◌∷◌, ◌++◌, length, Bool, true, false, not, ◌&&◌, ◌||◌, Option, Some, None, is_some, option_map, bytes_eq, refl, sym, ap, subst, ◌∙◌, if◌then◌else◌}
-use Rattle.londiste_state.specs.Nodes.{Root, Leaf, Node, of_root, of_leaf, is_among, all_but, with_consumer}
+use Rattle.std.proofs.Common.{arith, ◌≡◌, ℕ, pos, ◌==◌, ◌+◌, ◌^◌, ◌<◌, ◌≤◌, nat_le, List, [], ◌∷◌, ◌++◌, length, Bool, true, false, ◌&&◌, Option, Some, None, is_some, option_map, bytes_eq, refl, sym, ap, subst, ◌∙◌, if◌then◌else◌}
+use Rattle.londiste_state.specs.Nodes.{Root, Leaf, Node, of_root, of_leaf, is_among, with_consumer}
 use Rattle.pgq_retry.specs.declared.retry.Retry.{Retry}
 use Rattle.std.proofs.lemmas.Bool.Decides.{nat_tests}
 use Rattle.sky_model.specs.declared.reply.Limit.TheVariants.{Consumers}
@@ -17,17 +17,20 @@ use Rattle.sky_model.specs.StepNode.{joining, if_there, set_queue, joins, node_d
 use Rattle.sky_model.specs.Settling.{marked}
 use Rattle.sky_model.specs.Reader.{database_by_history}
 use Rattle.sky_model.specs.DatabaseCalls.{DatabaseCall, stepped, entered, failed, worked, served, database_does}
-use Rattle.sky_model.proofs.Legal.{queue_of_set, Fine, asks, registers, unregisters, Legal, start, next, legal-below_mark, fine_mark}
+use Rattle.sky_model.proofs.Legal.{queue_of_set, Fine, asks, registers, Legal, next, legal-below_mark, fine_mark}
 use Rattle.sky_model.proofs.NodeReadings.{set-number}
 use Rattle.sky_model.proofs.Good.{same-session}
 use Rattle.std.proofs.lemmas.List.Folds.{list_any-append}
 use Rattle.sky_model.proofs.NodeTables.{has-queue}
+use Rattle.sky_model.proofs.Subscriptions.{given}
 use Rattle.sky_model.proofs.SwitchingCalls.{of_stepped, of_failed, of_worked, of_entered, of_served}
 use Rattle.sky_model.proofs.StatementMarks.{EachMark, each-front, each-rest, when-true}
 use Rattle.sky_model.proofs.Cases.{by_test}
+use Rattle.sky_model.proofs.PendingOwners.{legal-before}
 use Rattle.sky_replicas.proofs.SessionsMarks.{is_sessions}
+use Rattle.sky_replicas.proofs.ProvidedTables.{among-all}
 use Rattle.sky_synced.specs.LawsOfOwners.{set_consumers}
-use Rattle.sky_synced.proofs.Following.{is_of_node, spares, set-stays, stays-at, legal-marked}
+use Rattle.sky_synced.proofs.Following.{is_of_node, spares, set-stays, stays-at}
 use Rattle.sky_synced.proofs.ConsumersMarks.{SparesNodes}
 use Rattle.sky_synced.proofs.Owners.{unasks, IsClean, clean-mark, StaysClean, stay-clean}
 
@@ -42,15 +45,6 @@ does-clean h (failed who now) = of_failed now StaysClean (stay-clean now) h who
 
 -- ---- a subscription that isn't given yet
 
-given : (h : History) → Legal h → (q : ℕ) (c : List ℕ) (sub : ℕ) → subscription_id q c h ≡ Some sub → sub ≤ last_subscription h
-given [] start q c sub is = absurd (cc is)
-given _ (next {h = h} l (registers p name s tick i none f g low few)) q c sub is =
-    by_test (λ b. (if b then Some s else subscription_id q c h) ≡ Some sub → sub ≤ s) (p == q && bytes_eq c name)
-    (λ _ one. let same : s ≡ sub = cc one in omega (arith, same)) (λ _ was. let below = given h l q c sub was in omega (arith, below, f)) is
-given _ (next {h = h} l (unregisters p name s i has)) q c sub is =
-    by_test (λ b. (if b then None else subscription_id q c h) ≡ Some sub → sub ≤ last_subscription h) (p == q && bytes_eq c name) (λ _ none. absurd (cc none)) (λ _ was. given h l q c sub was) is
-given _ (next {h = h} l _) q c sub is = given h l q c sub is
-
 asked-below : {h : History} {r : Retry} → Legal h → Fine h (queued (asked r)) → r.sub ≤ last_subscription h
 asked-below {h = h} l (asks consumer source r a) = given h l r.queue consumer r.sub a.registered
 
@@ -60,7 +54,7 @@ last-grows h _ (next l _) = omega arith
 
 last-marked : (h : History) (marks : List Mark) → Legal (marked h marks) → last_subscription h ≤ last_subscription (marked h marks)
 last-marked h [] l = omega arith
-last-marked h (mark ∷ marks) l = let one = last-grows h mark (legal-marked (mark ∷ h) marks l) in let rest = last-marked (mark ∷ h) marks l in omega (arith, one, rest)
+last-marked h (mark ∷ marks) l = let one = last-grows h mark (legal-before (mark ∷ h) marks l) in let rest = last-marked (mark ∷ h) marks l in omega (arith, one, rest)
 
 unasked-mark : (h : History) (mark : Mark) (sub : ℕ) → Legal (mark ∷ h) → last_subscription h < sub → unasks sub mark ≡ true
 unasked-mark h (queued (asked r)) sub l less = let below = asked-below (legal-below_mark l) (fine_mark l) in grind (arith, nat_tests, below, less)
@@ -69,7 +63,7 @@ unasked-mark h mark sub l less = refl
 legal-unasks : (h : History) (marks : List Mark) (sub : ℕ) → Legal (marked h marks) → last_subscription (marked h marks) < sub → EachMark (unasks sub) marks
 legal-unasks h [] sub l less = tt
 legal-unasks h (mark ∷ marks) sub l less =
-    let here : Legal (mark ∷ h) = legal-marked (mark ∷ h) marks l in
+    let here : Legal (mark ∷ h) = legal-before (mark ∷ h) marks l in
     let grown = last-grows h mark here in
     let rest = last-marked (mark ∷ h) marks l in
     each-front (unasks sub) mark marks (unasked-mark h mark sub here (omega (arith, grown, rest, less))) (legal-unasks (mark ∷ h) marks sub l less)
@@ -96,7 +90,7 @@ among-before h (mark ∷ marks) c each is =
 
 set-marked : (h : History) (marks : List Mark) → Legal (marked h marks) → (q : ℕ) → queue_of_set (queues h) (node h) ≡ Some q → queue_of_set (queues (marked h marks)) (node (marked h marks)) ≡ Some q
 set-marked h [] l q is = is
-set-marked h (mark ∷ marks) l q is = set-marked (mark ∷ h) marks l q (set-stays h mark (legal-marked (mark ∷ h) marks l) q is)
+set-marked h (mark ∷ marks) l q is = set-marked (mark ∷ h) marks l q (set-stays h mark (legal-before (mark ∷ h) marks l) q is)
 
 sub-marked : (h : History) (marks : List Mark) (q : ℕ) (c : List ℕ) → EachMark (spares q c) marks → subscription_id q c (marked h marks) ≡ subscription_id q c h
 sub-marked h [] q c each = refl
@@ -113,7 +107,7 @@ NodesClean h = (q : ℕ) (c : List ℕ) (sub : ℕ) → queue_of_set (queues h) 
 
 pub sessions-clean : (h : History) (marks : List Mark) → Legal (marked h marks) → EachMark is_sessions marks → SparesNodes h marks → StaysClean h marks
     → ((q : ℕ) (c : List ℕ) (sub : ℕ) → queue_of_set (queues h) (node h) ≡ Some q → is_of_node c (node h) ≡ true → subscription_id q c h ≡ Some sub → EachMark (unasks sub) marks) → NodesClean h → NodesClean (marked h marks)
-sessions-clean h marks l each spared stays unasked clean q c sub set among has = of (queue_of_set (queues h) (node h)) refl (has-queue h (legal-marked h marks l) (among-root (node h) c there))
+sessions-clean h marks l each spared stays unasked clean q c sub set among has = of (queue_of_set (queues h) (node h)) refl (has-queue h (legal-before h marks l) (among-root (node h) c there))
   where
     there : is_among c (set_consumers (node h)) ≡ true
     there = among-before h marks c each among
@@ -141,13 +135,6 @@ unjoined-clean : (h : History) (mark : Mark) (sub : ℕ) → is_unjoined mark �
 unjoined-clean h (queued (put q e)) sub is c = absurd (cc is)
 unjoined-clean h (queued (asked r)) sub is c = absurd (cc is)
 unjoined-clean h mark sub is c = clean-mark h mark sub refl refl c
-
-among-all : (name other : List ℕ) (names : List (List ℕ)) → is_among name (all_but other names) ≡ true → is_among name names ≡ true
-among-all name other [] is = is
-among-all name other (x ∷ xs) is =
-    by_test (λ b. is_among name (if b then x ∷ all_but other xs else all_but other xs) ≡ true → is_among name (x ∷ xs) ≡ true) (not (bytes_eq other x))
-    (λ _ e. by_test (λ b. (b || is_among name (all_but other xs)) ≡ true → (b || is_among name xs) ≡ true) (bytes_eq name x) (λ _ _. refl) (λ _ rest. among-all name other xs rest) e)
-    (λ _ rest. let later = among-all name other xs rest in grind (arith, later)) is
 
 root-back : (c : List ℕ) (f : Root → Root) (n : Option Node) → ((r : Root) → is_among c (f r).consumers ≡ true → is_among c r.consumers ≡ true) → is_among c (set_consumers (option_map (at_root f) n)) ≡ true → is_among c (set_consumers n) ≡ true
 root-back c f None back is = is
@@ -192,7 +179,7 @@ set-back h mark l q c among set = of (queue_of_set (queues h) (node h)) refl (ha
 pub unjoined-nodes : (h : History) (marks : List Mark) → Legal (marked h marks) → EachMark is_unjoined marks → NodesClean h → NodesClean (marked h marks)
 unjoined-nodes h [] l each clean = clean
 unjoined-nodes h (mark ∷ marks) l each clean =
-    let here : Legal (mark ∷ h) = legal-marked (mark ∷ h) marks l in
+    let here : Legal (mark ∷ h) = legal-before (mark ∷ h) marks l in
     let e : is_unjoined mark ≡ true = when-true (EachMark is_unjoined marks) (is_unjoined mark) each in
     unjoined-nodes (mark ∷ h) marks l (each-rest is_unjoined mark marks each) (λ q c sub set among has.
     let was : is_among c (set_consumers (node h)) ≡ true = among-back h mark c e among in

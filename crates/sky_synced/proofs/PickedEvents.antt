@@ -1,12 +1,12 @@
 -- Which events of a batch a leaf picks for one of its tables.
-use Rattle.std.proofs.Common.{◌≡◌, ℕ, ◌==◌, nat_lt, Bool, true, false, not, ◌&&◌, List, [], ◌∷◌, Option, Some, None, All, is_none, option_map, unwrap_or, filter, bytes_eq, refl, sym, ◌∙◌, ap, if◌then◌else◌}
+use Rattle.std.proofs.Common.{◌≡◌, ℕ, ◌==◌, Bool, true, false, not, ◌&&◌, List, [], ◌∷◌, Option, Some, None, All, is_none, option_map, unwrap_or, filter, bytes_eq, refl, sym, ◌∙◌, ap, if◌then◌else◌}
 use Rattle.std.specs.Option.{option_and_then}
 use Rattle.std.proofs.lemmas.Bool.{and_parts, false_from_ne_true}
 use Rattle.std.proofs.lemmas.List.Elements.{All-nil, All-cons, All-head, All-tail}
+use Rattle.std.proofs.Math.Bool.{and-false}
 use Rattle.sky_val.specs.declared.event.Event.{Event}
 use Rattle.sky_names.proofs.PlaceLemmas.{same_name}
 use Rattle.sky_txid.specs.Snapshot.{SnapshotView, sees}
-use Rattle.pgq_tables.specs.ById.{with_event, by_id_onto}
 use Rattle.pgq_tables.specs.Listed.{is_for}
 use Rattle.londiste_state.specs.Nodes.{of_leaf, Leaf, LeafTable, table_of}
 use Rattle.sky_model.specs.History.{Batch, of_synced, copy_of, History}
@@ -20,23 +20,13 @@ use Rattle.sky_model.proofs.Legal.{Legal}
 use Rattle.sky_model.proofs.Snapshots.{sees-snapshot}
 use Rattle.sky_model.proofs.RowSights.{Since, legal-since}
 use Rattle.sky_model.proofs.Cases.{by_test}
+use Rattle.sky_model.proofs.RetriesBack.{all-by_id_onto}
 use Rattle.sky_changes.specs.TableEvents as changes
 use Rattle.sky_changes.specs.TableEvents.{is_name, table_events, unseen_events}
 use Rattle.sky_changes.proofs.Places.{committed-then}
 use Rattle.sky_synced.proofs.Covering.{EndedBy}
 
 -- ---- lists of events
-
--- what holds of events holds of them by id
-with-event : (P : Event → Type 0) (e : Event) (es : List Event) → P e → All P es → All P (with_event e es)
-with-event P e [] is all = All-cons P e [] is (All-nil P)
-with-event P e (x ∷ xs) is all =
-    by_test (λ b. All P (if b then e ∷ x ∷ xs else x ∷ with_event e xs)) (nat_lt e.ev_id x.ev_id) (λ _. All-cons P e (x ∷ xs) is all)
-    (λ _. All-cons P x (with_event e xs) (All-head P x xs all) (with-event P e xs is (All-tail P x xs all)))
-
-onto-id : (P : Event → Type 0) (sorted es : List Event) → All P sorted → All P es → All P (by_id_onto sorted es)
-onto-id P sorted [] all also = all
-onto-id P sorted (e ∷ es) all also = onto-id P (with_event e sorted) es (with-event P e sorted (All-head P e es also) all) (All-tail P e es also)
 
 -- what holds of those that pass a test, and of all
 passed : (P Q : Event → Type 0) (p : Event → Bool) → ((e : Event) → P e → p e ≡ true → Q e) → (es : List Event) → All P es → All Q (filter p es)
@@ -74,7 +64,7 @@ pub record InBatch (k : History) (b : Batch) (e : Event) : Type 0 where
   pub before : has_committed (at_tick b.queue b.prev k) e.ev_txid ≡ false
 
 pub in-batch : (k : History) (b : Batch) → All (IsNotOwn b.sub) (events b.queue k) → All (InBatch k b) (batch_events k b)
-in-batch k b none = onto-id (InBatch k b) [] (filter stands (events b.queue k)) (All-nil (InBatch k b)) (passed (IsNotOwn b.sub) (InBatch k b) stands each (events b.queue k) none)
+in-batch k b none = all-by_id_onto (InBatch k b) [] (filter stands (events b.queue k)) (All-nil (InBatch k b)) (passed (IsNotOwn b.sub) (InBatch k b) stands each (events b.queue k) none)
   where
     a : History
     a = at_tick b.queue b.prev k
@@ -106,7 +96,7 @@ unseen-all k l b s s_k a_c c_k over name es all =
     both-tests own (λ e. not (sees (snapshot s) e.ev_txid)) es ∙ same-filter (InBatch k b) (λ e. own e && not (sees (snapshot s) e.ev_txid)) own (λ e is. alone (own e) (unseen e is)) es all
   where
     own : Event → Bool
-    own e = is_none e.ev_owner && changes.is_of_table name e
+    own e = is_none e.ev_owner && changes.changes_table name e
 
     unseen : (e : Event) → InBatch k b e → sees (snapshot s) e.ev_txid ≡ false
     unseen e is = false_from_ne_true (sees (snapshot s) e.ev_txid) (λ seen.
@@ -118,20 +108,16 @@ unseen-all k l b s s_k a_c c_k over name es all =
 
 -- ---- those that are picked
 
-never : (x : Bool) → (x && false) ≡ false
-never true = refl
-never false = refl
-
 module _ (h k : History) (b : Batch) (l : Leaf) (leaf : node h ≡ Some (of_leaf l)) (name : List ℕ) (es : List Event) (all : All (InBatch k b) es) where
   -- an event without an owner, by its test and the table's name
-  of-table : (e : Event) → is_none e.ev_owner ≡ true → (is_none e.ev_owner && changes.is_of_table name e) ≡ (is_change e && is_name name e.ev_extra1)
-  of-table e none = ap (λ x. x && changes.is_of_table name e) none
+  of-table : (e : Event) → is_none e.ev_owner ≡ true → (is_none e.ev_owner && changes.changes_table name e) ≡ (is_change e && is_name name e.ev_extra1)
+  of-table e none = ap (λ x. x && changes.changes_table name e) none
 
   -- of a table in sync, all
   pub picked-synced : (t : LeafTable) → table_of name l ≡ Some t → is_synced t.state ≡ true → picked_of h of_synced name es ≡ table_events name es
   picked-synced t found synced =
       ap (λ n. filter (is_of_table name) (picked n of_synced es)) leaf ∙ both-tests (picks l of_synced) (is_of_table name) es
-      ∙ same-filter (InBatch k b) (λ e. picks l of_synced e && is_of_table name e) (λ e. is_none e.ev_owner && changes.is_of_table name e)
+      ∙ same-filter (InBatch k b) (λ e. picks l of_synced e && is_of_table name e) (λ e. is_none e.ev_owner && changes.changes_table name e)
       (λ e is. by (is_change e) e.ev_extra1 ∙ sym (of-table e is.unowned)) es all
     where
       has : has_synced l name ≡ true
@@ -142,7 +128,7 @@ module _ (h k : History) (b : Batch) (l : Leaf) (leaf : node h ≡ Some (of_leaf
       by false o = refl
       by true (Some other) =
           by_test (λ x. bytes_eq name other ≡ x → (has_synced l other && x) ≡ x) (bytes_eq name other) (λ _ same. ap (λ n. has_synced l n && true) (sym (same_name name other same)) ∙ ap (λ x. x && true) has)
-          (λ _ _. never (has_synced l other)) refl
+          (λ _ _. and-false (has_synced l other)) refl
 
   -- of one that isn't, none
   pub picked-unsynced : has_synced l name ≡ false → picked_of h of_synced name es ≡ []
@@ -155,15 +141,15 @@ module _ (h k : History) (b : Batch) (l : Leaf) (leaf : node h ≡ Some (of_leaf
       by false o = refl
       by true (Some other) =
           by_test (λ x. bytes_eq name other ≡ x → (has_synced l other && x) ≡ false) (bytes_eq name other) (λ _ same. ap (λ n. has_synced l n && true) (sym (same_name name other same)) ∙ ap (λ x. x && true) isnt)
-          (λ _ _. never (has_synced l other)) refl
+          (λ _ _. and-false (has_synced l other)) refl
 
   -- of the table whose copy it is, those that the snapshot of the copy doesn't see
   pub picked-copy : (t : LeafTable) → table_of name l ≡ Some t → (s : SnapshotView) → t.snapshot ≡ Some s → picked_of h (copy_of name) name es ≡ unseen_events s (table_events name es)
   picked-copy t found s under =
       ap (λ n. filter (is_of_table name) (picked n (copy_of name) es)) leaf ∙ both-tests (picks l (copy_of name)) (is_of_table name) es
-      ∙ same-filter (InBatch k b) (λ e. picks l (copy_of name) e && is_of_table name e) (λ e. (is_none e.ev_owner && changes.is_of_table name e) && not (sees s e.ev_txid))
+      ∙ same-filter (InBatch k b) (λ e. picks l (copy_of name) e && is_of_table name e) (λ e. (is_none e.ev_owner && changes.changes_table name e) && not (sees s e.ev_txid))
       (λ e is. by (is_change e) e.ev_extra1 (λ x. not (sees x e.ev_txid)) ∙ ap (λ x. x && not (sees s e.ev_txid)) (sym (of-table e is.unowned))) es all
-      ∙ sym (both-tests (λ e. is_none e.ev_owner && changes.is_of_table name e) (λ e. not (sees s e.ev_txid)) es)
+      ∙ sym (both-tests (λ e. is_none e.ev_owner && changes.changes_table name e) (λ e. not (sees s e.ev_txid)) es)
     where
       kept : kept_snapshot l name ≡ Some s
       kept = ap (option_and_then LeafTable.snapshot) found ∙ under
@@ -191,4 +177,4 @@ module _ (h k : History) (b : Batch) (l : Leaf) (leaf : node h ≡ Some (of_leaf
       by true None unseen = refl
       by true (Some x) unseen =
           by_test (λ y. bytes_eq name x ≡ y → ((bytes_eq other x && unseen) && y) ≡ false) (bytes_eq name x)
-          (λ _ same. ap (λ n. (bytes_eq other n && unseen) && true) (sym (same_name name x same)) ∙ ap (λ y. (y && unseen) && true) apart) (λ _ _. never (bytes_eq other x && unseen)) refl
+          (λ _ same. ap (λ n. (bytes_eq other n && unseen) && true) (sym (same_name name x same)) ∙ ap (λ y. (y && unseen) && true) apart) (λ _ _. and-false (bytes_eq other x && unseen)) refl

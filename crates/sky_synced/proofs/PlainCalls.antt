@@ -1,17 +1,12 @@
 -- Calls for nodes that leave the tables of leaves as they are.
-use Rattle.std.proofs.Common.{◌≡◌, ℕ, ◌==◌, List, [], ◌∷◌, ◌++◌, map, Bool, true, false, Option, Some, None, Ok, Err, refl}
-use Rattle.std.specs.List.{list_any}
-use Rattle.sky_val.specs.declared.val.Val.{Val}
+use Rattle.std.proofs.Common.{◌≡◌, ℕ, List, [], ◌∷◌, ◌++◌, map, Bool, true, false, refl}
 use Rattle.londiste_state.specs.declared.state.TableState.TheVariants.{Absent, InCopy}
-use Rattle.sky_model.specs.declared.reply.Reply.TheVariants.{Done, Null}
-use Rattle.sky_model.specs.History.{Mark, of_worker, of_copy, began, tabled, wrote, noded, unlisted, leaf_added, state_set, copied, applied, hold_ended, within, Past}
-use Rattle.sky_model.specs.Rows.{Write}
-use Rattle.sky_model.specs.Copies.{copy_txid, Hold}
-use Rattle.sky_model.specs.State.{RowPart, after_part, Database, database_of}
-use Rattle.sky_model.specs.Outcome.{Outcome, Checked, ◌>>=◌, answers, does_marks}
-use Rattle.sky_model.specs.OwnTransaction.{next_id}
-use Rattle.sky_model.specs.StepCopy.{copy_write, copy_writes, deletions, insertions, rows_now, begins_copy, all_fit, copies_rows, given_up}
-use Rattle.sky_model.specs.StepNode.{NodeCall, joining, parting, fetching, finishing, making_leaf, adding, removing, moving, listing, unlisting, beginning_copy, copying_rows, ending_copy, giving_up_copy, applying, holding, letting_go, set_queue, lists, table_number, may_serve, call_form, node_does}
+use Rattle.sky_model.specs.declared.reply.Reply.TheVariants.{Null}
+use Rattle.sky_model.specs.History.{Mark, of_worker, tabled, wrote, noded, unlisted, leaf_added, state_set, copied, applied, within, Past}
+use Rattle.sky_model.specs.Copies.{copy_txid}
+use Rattle.sky_model.specs.State.{Database, database_of}
+use Rattle.sky_model.specs.Outcome.{Outcome, Checked, answers}
+use Rattle.sky_model.specs.StepNode.{NodeCall, joining, parting, fetching, finishing, making_leaf, adding, removing, moving, listing, unlisting, ending_copy, applying, set_queue, lists, table_number, may_serve, call_form, node_does}
 use Rattle.sky_model.specs.World.{history_in, on_top}
 use Rattle.sky_model.proofs.CopyCalls.{gives-there}
 use Rattle.sky_model.proofs.NodeCalls.{is_for_consumers, is_consumers, gives-consumers}
@@ -19,6 +14,7 @@ use Rattle.sky_model.proofs.StatementMarks.{EachMark, each-rest, each-given, whe
 use Rattle.sky_replicas.proofs.SessionsMarks.{is_sessions}
 use Rattle.sky_replicas.proofs.CallPasts.{call_marks, called, after_calls}
 use Rattle.sky_synced.proofs.Going.{MarkSuits, KeptGoes, suits-step}
+use Rattle.sky_synced.proofs.CopyingCalls.{is_copying, gives-copying, given_up-then}
 
 -- whether a mark is such a one: no table leaves a set or joins a leaf by it, goes on from a copy, or is copied or written by a worker
 abbrev pub is_plain : Mark → Bool
@@ -78,31 +74,14 @@ consumers-plain mark e = refl
 plain-consumers : (d : Database) (call : NodeCall) → is_consumers call ≡ true → Plain (call_form d call)
 plain-consumers d call e = gives-map AnyReply AnyReply is_for_consumers is_plain (λ reply any. any) consumers-plain (call_form d call) (gives-consumers d call e)
 
-plain-written : (d : RowPart) (table t : ℕ) (ws : List Write) → EachMark is_plain (copy_writes d table t ws)
-plain-written d table t [] = tt
-plain-written d table t (w ∷ ws) = plain-written (after_part d (copy_write d table t w)) table t ws
-
-plain-begins : (d : Database) (table : ℕ) (o : Option ℕ) → Plain (begins_copy d table o)
-plain-begins d table (Some t) = (tt, tt)
-plain-begins d table None = of (next_id d.part)
-  where
-    of : (c : Checked ℕ) → Plain (c >>= (λ t. does_marks Done (began (of_copy table) t ∷ copy_writes (after_part d.part (began (of_copy table) t)) table t (deletions (rows_now d.part table)))))
-    of (Err refusal) = tt
-    of (Ok t) = (tt, plain-written (after_part d.part (began (of_copy table) t)) table t (deletions (rows_now d.part table)))
-
-plain-rows : (d : Database) (table t : ℕ) (rows : List (List Val)) → Plain (copies_rows d table t rows)
-plain-rows d table t rows =
-    either AnyReply is_plain (all_fit (d.part.columns table) rows) (does_marks Done (copy_writes d.part table t (insertions (d.part.columns table) rows))) (answers Null)
-    (tt, plain-written d.part table t (insertions (d.part.columns table) rows)) (tt, tt)
-
--- once a copy is given up
-plain-then : (table : ℕ) (name : List ℕ) (o : Option ℕ) (marks : List Mark) → EachMark is_plain marks → EachMark is_plain (given_up table name o ++ marks)
-plain-then table name None marks each = each
-plain-then table name (Some t) marks each = each
-
-plain-given_up : (table : ℕ) (name : List ℕ) (o : Option ℕ) → EachMark is_plain (given_up table name o)
-plain-given_up table name None = tt
-plain-given_up table name (Some t) = tt
+copying-plain : (mark : Mark) → is_copying mark ≡ true → is_plain mark ≡ true
+copying-plain (noded (unlisted name)) e = absurd (cc e)
+copying-plain (noded (leaf_added name)) e = absurd (cc e)
+copying-plain (noded (state_set name state)) e = absurd (cc e)
+copying-plain (noded (copied name under tick)) e = absurd (cc e)
+copying-plain (noded (applied pick tick)) e = absurd (cc e)
+copying-plain (tabled (wrote of_worker t table key old new)) e = absurd (cc e)
+copying-plain mark e = refl
 
 -- whether a call leaves them so
 abbrev pub is_plain_call : NodeCall → Bool
@@ -119,23 +98,19 @@ plain-lists d queue table name = search (after)
 
 plain-form : (d : Database) (call : NodeCall) → is_plain_call call ≡ true → Plain (call_form d call)
 plain-form d (adding name) e = absurd (cc e)
-plain-form d (moving name InCopy) e = gives-there is_plain (table_number d name) _ (λ table. (tt, plain-then table name (copy_txid table d.copies) (noded (state_set name InCopy) ∷ []) tt))
+plain-form d (moving name InCopy) e = gives-there is_plain (table_number d name) _ (λ table. (tt, given_up-then is_plain copying-plain table name (copy_txid table d.copies) (noded (state_set name InCopy) ∷ []) tt))
 plain-form d (moving name state) e = absurd (cc e)
 plain-form d (unlisting name) e = absurd (cc e)
 plain-form d (ending_copy name under tick) e = absurd (cc e)
 plain-form d (applying events pick tick) e = absurd (cc e)
 plain-form d (making_leaf name provider tick) e = (tt, tt)
-plain-form d (removing name) e = gives-there is_plain (table_number d name) _ (λ table. (tt, plain-then table name (copy_txid table d.copies) _ tt))
+plain-form d (removing name) e = gives-there is_plain (table_number d name) _ (λ table. (tt, given_up-then is_plain copying-plain table name (copy_txid table d.copies) _ tt))
 plain-form d (listing name) e = gives-there is_plain (set_queue d) _ (λ queue. gives-there is_plain (table_number d name) _ (λ table. plain-lists d queue table name))
 plain-form d (joining consumer) e = plain-consumers d (joining consumer) refl
 plain-form d (parting consumer) e = plain-consumers d (parting consumer) refl
 plain-form d (fetching consumer) e = plain-consumers d (fetching consumer) refl
 plain-form d (finishing batch) e = plain-consumers d (finishing batch) refl
-plain-form d (beginning_copy name) e = gives-there is_plain (table_number d name) _ (λ table. plain-begins d table (copy_txid table d.copies))
-plain-form d (copying_rows name rows) e = gives-there is_plain (table_number d name) _ (λ table. gives-there is_plain (copy_txid table d.copies) _ (λ t. plain-rows d table t rows))
-plain-form d (giving_up_copy name) e = gives-there is_plain (table_number d name) _ (λ table. (tt, plain-given_up table name (copy_txid table d.copies)))
-plain-form d holding e = (tt, tt)
-plain-form d (letting_go hold) e = either AnyReply is_plain (list_any (λ (x : Hold). x.number == hold) d.holds) (does_marks Done (noded (hold_ended hold) ∷ [])) (answers Null) (tt, tt) (tt, tt)
+plain-form d call e = gives-copying is_plain copying-plain d call refl
 
 pub plain-does : (d : Database) (call : NodeCall) → is_plain_call call ≡ true → Plain (node_does d call)
 plain-does d call e = either AnyReply is_plain (may_serve call d.node) (call_form d call) (answers Null) (plain-form d call e) (tt, tt)

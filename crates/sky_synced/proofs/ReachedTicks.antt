@@ -1,12 +1,12 @@
 -- How far a leaf's table has come, as the marks of the leaf's database say.
-use Rattle.std.proofs.Common.{◌≡◌, ℕ, ◌^◌, nat_le, List, [], ◌∷◌, ◌++◌, length, Bool, true, false, Option, Some, None, Ok, option_map, unwrap_or, bytes_eq, refl, sym, ap, ◌∙◌, if◌then◌else◌}
+use Rattle.std.proofs.Common.{◌≡◌, ℕ, ◌^◌, nat_le, List, [], ◌∷◌, ◌++◌, length, Bool, true, false, Some, None, Ok, option_map, unwrap_or, bytes_eq, refl, sym, ap, ◌∙◌, if◌then◌else◌}
 use Rattle.sky_val.specs.declared.event.Event.{Event}
 use Rattle.sky_txid.specs.Snapshot.{SnapshotView}
 use Rattle.sky_names.proofs.PlaceLemmas.{same_name}
 use Rattle.londiste_state.specs.declared.state.TableState.{TableState}
 use Rattle.londiste_state.specs.declared.state.TableState.TheVariants.{Absent, InCopy, CatchingUp, WannaSync, DoSync, Synced}
 use Rattle.londiste_state.specs.Moves.{is_allowed}
-use Rattle.londiste_state.specs.Nodes.{Node, of_root, of_leaf, Leaf, LeafTable, in_state, with_copy}
+use Rattle.londiste_state.specs.Nodes.{of_leaf, Leaf, LeafTable, in_state, with_copy}
 use Rattle.sky_model.specs.declared.reply.Reply.TheVariants.{Null}
 use Rattle.sky_model.specs.declared.reply.Refusal.TheVariants.{TxidsSpent}
 use Rattle.sky_model.specs.History.{Mark, Pick, of_synced, of_worker, began, ended, tabled, wrote, noded, NodeMark, state_set, copied, applied, History}
@@ -17,9 +17,9 @@ use Rattle.sky_model.specs.Outcome.{◌>>=◌, ◌>>◌, refused_if, answers, ma
 use Rattle.sky_model.specs.Reader.{part_by_history}
 use Rattle.sky_model.specs.Settling.{marked}
 use Rattle.sky_model.specs.StepApply.{is_synced, may_apply, picked, applies_in, ends_applying, applies_picked, bad_event}
-use Rattle.sky_model.specs.StepNode.{applying, may_move, call_form}
+use Rattle.sky_model.specs.StepNode.{applying, call_form}
 use Rattle.sky_model.proofs.Legal.{NodeFits, Fine, Legal}
-use Rattle.sky_model.proofs.InCopyTables.{leaf_table}
+use Rattle.sky_model.proofs.InCopyTables.{leaf_table, may-allowed, is_past_copy}
 use Rattle.sky_model.proofs.ApplyCalls.{is_written, each-event}
 use Rattle.sky_model.proofs.ApplyingLaws.{picked-idle}
 use Rattle.sky_model.proofs.Resting.{behind-append}
@@ -29,7 +29,7 @@ use Rattle.sky_changes.proofs.ListedTables.{fits-of}
 use Rattle.sky_replicas.proofs.CallPasts.{call_marks}
 use Rattle.sky_synced.specs.Tables.{tick_in}
 use Rattle.sky_synced.specs.LawsOfChanges.{is_picked, Reached, reached}
-use Rattle.sky_synced.proofs.ChangedTables.{goes_along, leafs_tick, Was, was, table-named}
+use Rattle.sky_synced.proofs.ChangedTables.{leafs_tick, Was, was, table-named}
 
 -- the table of a name has come to the tick that the marks say, under the snapshot that they say
 pub record Reaches (h : History) (name : List ℕ) (t : LeafTable) : Type 0 where
@@ -39,7 +39,7 @@ pub record Reaches (h : History) (name : List ℕ) (t : LeafTable) : Type 0 wher
 
 -- each that was copied has
 abbrev pub AllReach : History → Type 0
-AllReach h = (name : List ℕ) (t : LeafTable) → leaf_table name (node h) ≡ Some t → goes_along t.state ≡ true → Reaches h name t
+AllReach h = (name : List ℕ) (t : LeafTable) → leaf_table name (node h) ≡ Some t → is_past_copy t.state ≡ true → Reaches h name t
 
 -- ---- mark by mark
 
@@ -50,16 +50,11 @@ TickSuits h (noded (state_set name Synced)) = (t : LeafTable) (tick : ℕ) → l
 TickSuits h (noded (applied pick tick)) = ⊥
 TickSuits h mark = Unit {0}
 
-pub allowed-by : (name : List ℕ) (state : TableState) (n : Option Node) (t : LeafTable) → leaf_table name n ≡ Some t → may_move name state n ≡ true → is_allowed t.state state ≡ true
-allowed-by name state None t is may = absurd (cc is)
-allowed-by name state (Some (of_root r)) t is may = absurd (cc is)
-allowed-by name state (Some (of_leaf l)) t is may = ap (λ o. unwrap_or (option_map (λ (x : LeafTable). is_allowed x.state state) o) false) (sym is) ∙ may
-
-module _ (h : History) (all : AllReach h) (name : List ℕ) (u : LeafTable) (along : goes_along u.state ≡ true) where
+module _ (h : History) (all : AllReach h) (name : List ℕ) (u : LeafTable) (along : is_past_copy u.state ≡ true) where
   -- by a mark that leaves it as it is
   plain : (m : NodeMark) (t : LeafTable) → leaf_table name (node h) ≡ Some t → u ≡ t → leafs_tick (after_node m (node h)) ≡ leafs_tick (node h) → reached name (noded m ∷ h) ≡ reached name h → Reaches (noded m ∷ h) name u
   plain m t there same leafs stays =
-      let r : Reaches h name t = all name t there (ap (λ (x : LeafTable). goes_along x.state) (sym same) ∙ along) in
+      let r : Reaches h name t = all name t there (ap (λ (x : LeafTable). is_past_copy x.state) (sym same) ∙ along) in
       record {
         under = r.under;
         taken = ap LeafTable.snapshot same ∙ r.taken;
@@ -71,7 +66,7 @@ module _ (h : History) (all : AllReach h) (name : List ℕ) (u : LeafTable) (alo
       → is_allowed t.state state ≡ true → TickSuits h (noded (state_set other state)) → Reaches (noded (state_set other state) ∷ h) name u
   moves state other t there one same leafs allowed suits = of t.state refl state same allowed suits leafs
     where
-      goes : (new : TableState) → u ≡ in_state new t → goes_along t.state ≡ true → tick_in t.state (leafs_tick (node h)) t.tick ≡ tick_in new (leafs_tick (node h)) t.tick
+      goes : (new : TableState) → u ≡ in_state new t → is_past_copy t.state ≡ true → tick_in t.state (leafs_tick (node h)) t.tick ≡ tick_in new (leafs_tick (node h)) t.tick
           → leafs_tick (after_node (state_set other new) (node h)) ≡ leafs_tick (node h) → Reaches (noded (state_set other new) ∷ h) name u
       goes new same was ticks leafs =
           let r : Reaches h name t = all name t there was in
@@ -83,13 +78,13 @@ module _ (h : History) (all : AllReach h) (name : List ℕ) (u : LeafTable) (alo
 
       of : (old : TableState) → t.state ≡ old → (new : TableState) → u ≡ in_state new t → is_allowed old new ≡ true → TickSuits h (noded (state_set other new))
           → leafs_tick (after_node (state_set other new) (node h)) ≡ leafs_tick (node h) → Reaches (noded (state_set other new) ∷ h) name u
-      of CatchingUp was (WannaSync bound) same ok suits still = goes (WannaSync bound) same (ap goes_along was) (ap (λ s. tick_in s (leafs_tick (node h)) t.tick) was) still
-      of (WannaSync bound) was (DoSync tick) same ok suits still = goes (DoSync tick) same (ap goes_along was) (ap (λ s. tick_in s (leafs_tick (node h)) t.tick) was) still
+      of CatchingUp was (WannaSync bound) same ok suits still = goes (WannaSync bound) same (ap is_past_copy was) (ap (λ s. tick_in s (leafs_tick (node h)) t.tick) was) still
+      of (WannaSync bound) was (DoSync tick) same ok suits still = goes (DoSync tick) same (ap is_past_copy was) (ap (λ s. tick_in s (leafs_tick (node h)) t.tick) was) still
       of (DoSync tick) was Synced same ok suits still =
-          goes Synced same (ap goes_along was) (ap (λ s. tick_in s (leafs_tick (node h)) t.tick) was ∙ suits t tick (ap (λ x. leaf_table x (node h)) one ∙ there) was) still
+          goes Synced same (ap is_past_copy was) (ap (λ s. tick_in s (leafs_tick (node h)) t.tick) was ∙ suits t tick (ap (λ x. leaf_table x (node h)) one ∙ there) was) still
       of old was CatchingUp same ok suits still = absurd suits
-      of old was Absent same ok suits still = absurd (cc (sym along ∙ ap (λ (x : LeafTable). goes_along x.state) same))
-      of old was InCopy same ok suits still = absurd (cc (sym along ∙ ap (λ (x : LeafTable). goes_along x.state) same))
+      of old was Absent same ok suits still = absurd (cc (sym along ∙ ap (λ (x : LeafTable). is_past_copy x.state) same))
+      of old was InCopy same ok suits still = absurd (cc (sym along ∙ ap (λ (x : LeafTable). is_past_copy x.state) same))
       of Absent was (WannaSync bound) same ok suits still = absurd (cc ok)
       of InCopy was (WannaSync bound) same ok suits still = absurd (cc ok)
       of (WannaSync other) was (WannaSync bound) same ok suits still = absurd (cc ok)
@@ -123,7 +118,7 @@ module _ (h : History) (all : AllReach h) (name : List ℕ) (u : LeafTable) (alo
       by_test (λ b. bytes_eq other w.t.name ≡ b → u ≡ (if b then in_state state w.t else w.t) → Reaches (noded (state_set other state) ∷ h) name u) (bytes_eq other w.t.name)
       (λ _ its same.
       let one : other ≡ name = same_name other w.t.name its ∙ table-named name (node h) w.t w.there in
-      moves state other w.t w.there one same w.come (allowed-by other state (node h) w.t (ap (λ x. leaf_table x (node h)) one ∙ w.there) fits.may) suits)
+      moves state other w.t w.there one same w.come (may-allowed other state (node h) w.t (ap (λ x. leaf_table x (node h)) one ∙ w.there) fits.may) suits)
       (λ _ _ same. plain (state_set other state) w.t w.there same w.come refl) refl w.is
   reach-noded (applied pick tick) fits suits w = absurd suits
   reach-noded m fits suits w = plain m w.t w.there w.is w.come refl

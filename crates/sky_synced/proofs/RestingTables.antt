@@ -1,8 +1,8 @@
 -- A table of a leaf that was copied keeps its rows, until a batch writes it.
-use Rattle.std.proofs.Common.{arith, ◌≡◌, ℕ, nat_lt, ◌==◌, List, [], ◌∷◌, ◌++◌, Bool, true, false, not, ◌&&◌, ◌||◌, Option, Some, None, option_map, unwrap_or, find, map, bytes_eq, refl, sym, ap, subst, ◌∙◌, if◌then◌else◌}
+use Rattle.std.proofs.Common.{arith, ◌≡◌, ℕ, nat_lt, ◌==◌, List, [], ◌∷◌, Bool, true, false, not, ◌&&◌, ◌||◌, Option, Some, None, option_map, unwrap_or, find, map, bytes_eq, refl, sym, ap, subst, ◌∙◌, if◌then◌else◌}
 use Rattle.std.proofs.lemmas.Bool.Decides.{nat_tests}
 use Rattle.std.proofs.lemmas.Bool.{false_from_ne_true}
-use Rattle.std.proofs.lemmas.List.Folds.{list_any-append}
+use Rattle.std.proofs.Math.Bool.{and-false}
 use Rattle.sky_val.specs.declared.val.Val.{Val}
 use Rattle.sky_names.specs.Places.{place_of}
 use Rattle.sky_txid.specs.Ids.{contains}
@@ -11,7 +11,7 @@ use Rattle.londiste_state.specs.declared.state.TableState.TheVariants.{Absent, I
 use Rattle.londiste_state.specs.Nodes.{Node, of_root, of_leaf, LeafTable, is_among}
 use Rattle.sky_model.specs.History.{Mark, Whose, of_session, of_worker, of_copy, ended, tabled, wrote, leaf_removed, History}
 use Rattle.sky_model.specs.Transactions.{next_txid, running, has_ended}
-use Rattle.sky_model.specs.Copies.{Copy, copies, is_copied, without_copy}
+use Rattle.sky_model.specs.Copies.{copies, is_copied, without_copy}
 use Rattle.sky_model.specs.Rows.{Write, table_names, is_read_only, wrote_in, committed, writes as writes_of, put_all, rows}
 use Rattle.sky_model.specs.Nodes.{after_node, node, is_leaf, leaf_tables}
 use Rattle.sky_model.specs.ShownRows.{least_writer}
@@ -29,11 +29,12 @@ use Rattle.sky_model.proofs.RowWrites.{in_turn-push}
 use Rattle.sky_model.proofs.CopiesCovered.{rows-wrote}
 use Rattle.sky_model.proofs.NodeTables.{one-place}
 use Rattle.sky_model.proofs.NodeReadings.{leaf-stays}
-use Rattle.sky_model.proofs.InCopyTables.{leaf_table, IsInCopy, copies-in-copy}
+use Rattle.sky_model.proofs.InCopyTables.{leaf_table, IsInCopy, copies-in-copy, is_past_copy}
 use Rattle.sky_model.proofs.Histories.{legal_calls, rests_calls, stands_calls}
 use Rattle.sky_model.proofs.Cases.{by_test, by_same}
 use Rattle.sky_changes.proofs.ListedTables.{among-one}
-use Rattle.sky_synced.proofs.ChangedTables.{goes_along, just-gone}
+use Rattle.sky_replicas.proofs.KeptRows.{uncopied-push}
+use Rattle.sky_synced.proofs.ChangedTables.{just-gone}
 use Rattle.sky_synced.proofs.Showing.{IsBetween}
 
 -- no copy of a table of a leaf runs, and no transaction that runs has written it
@@ -49,7 +50,7 @@ applies_to n (tabled (wrote of_worker t m key old new)) = m == n
 applies_to n mark = false
 
 -- one that was copied isn't being copied
-uncopying : (state : TableState) → goes_along state ≡ true → is_in_copy state ≡ false
+uncopying : (state : TableState) → is_past_copy state ≡ true → is_in_copy state ≡ false
 uncopying Absent e = absurd (cc e)
 uncopying InCopy e = absurd (cc e)
 uncopying state e = refl
@@ -77,13 +78,6 @@ leaf-found name (Some (of_leaf l)) t is = refl
 
 -- ---- mark by mark
 
-never : (b : Bool) → (b && false) ≡ false
-never true = refl
-never false = refl
-
-uncopied-push : (n : ℕ) (cs : List Copy) (c : Copy) → (c.table == n) ≡ false → is_copied n cs ≡ false → is_copied n (cs ++ c ∷ []) ≡ false
-uncopied-push n cs c other none = list_any-append (λ (x : Copy). x.table == n) cs (c ∷ []) ∙ grind (arith, none, other)
-
 -- a write of another table
 rests-wrote : (h : History) (n : ℕ) (whose : Whose) (t m : ℕ) (key : List Val) (old new : Option (List Val)) → (m == n) ≡ false → Rests h n → Rests (tabled (wrote whose t m key old new) ∷ h) n
 rests-wrote h n whose t m key old new other r =
@@ -91,10 +85,10 @@ rests-wrote h n whose t m key old new other r =
 
 -- a transaction ends
 rests-ended : (h : History) (n : ℕ) (whose : Whose) (t : ℕ) (c : Bool) → is_copied n (copies (ended whose t c ∷ h)) ≡ false → Rests h n → Rests (ended whose t c ∷ h) n
-rests-ended h n whose t c none r = record { leaf = r.leaf; guarded = r.guarded; none = none; unwritten = λ u. ap (λ b. not (t == u) && b) (r.unwritten u) ∙ never (not (t == u)) }
+rests-ended h n whose t c none r = record { leaf = r.leaf; guarded = r.guarded; none = none; unwritten = λ u. ap (λ b. not (t == u) && b) (r.unwritten u) ∙ and-false (not (t == u)) }
 
 -- the table of a name, which was copied
-module _ (h : History) (name : List ℕ) (t : LeafTable) (there : leaf_table name (node h) ≡ Some t) (along : goes_along t.state ≡ true) (n : ℕ) (named : place_of name (table_names h) ≡ Some n) where
+module _ (h : History) (name : List ℕ) (t : LeafTable) (there : leaf_table name (node h) ≡ Some t) (along : is_past_copy t.state ≡ true) (n : ℕ) (named : place_of name (table_names h) ≡ Some n) where
   pub rests-step : (mark : Mark) → Fine h mark → applies_to n mark ≡ false → Rests h n → Rests (mark ∷ h) n
   rests-step _ (nodes mark fits) apart r = record { leaf = leaf-stays h mark fits r.leaf; guarded = r.guarded; none = r.none; unwritten = r.unwritten }
   rests-step _ (begins_copy m may) apart r = record {
@@ -138,7 +132,7 @@ module _ (h : History) (name : List ℕ) (t : LeafTable) (there : leaf_table nam
   rests-step _ _ apart r = record { leaf = r.leaf; guarded = r.guarded; none = r.none; unwritten = r.unwritten }
 
 -- it has the rows that it had
-nothing : (ws : List Write) → some ws ≡ false → ws ≡ []
+pub nothing : (ws : List Write) → some ws ≡ false → ws ≡ []
 nothing [] e = refl
 nothing (w ∷ ws) e = absurd (cc e)
 
@@ -159,10 +153,10 @@ unrunning h l n u isnt = of (nat_lt u (next_txid h)) refl
 
     of : (b : Bool) → nat_lt u (next_txid h) ≡ b → wrote_in n u h ≡ false
     of true is = is-written h l n u ∙ ap (λ b. b && some (writes_of n u h)) (sym (ap (λ b. b && not (has_ended h u)) is) ∙ sym (s.runs u) ∙ isnt)
-    of false is = is-written h l n u ∙ ap (λ ws. not (has_ended h u) && some ws) (begun h l n u (grind (arith, nat_tests, is))) ∙ never (not (has_ended h u))
+    of false is = is-written h l n u ∙ ap (λ ws. not (has_ended h u) && some ws) (begun h l n u (grind (arith, nat_tests, is))) ∙ and-false (not (has_ended h u))
 
-pub rests-between : (h : History) → IsBetween h → (name : List ℕ) (t : LeafTable) → leaf_table name (node h) ≡ Some t → goes_along t.state ≡ true → (n : ℕ) → place_of name (table_names h) ≡ Some n → Rests h n
-rests-between h m name t = subst (λ g. leaf_table name (node g) ≡ Some t → goes_along t.state ≡ true → (n : ℕ) → place_of name (table_names g) ≡ Some n → Rests g n) m.make at
+pub rests-between : (h : History) → IsBetween h → (name : List ℕ) (t : LeafTable) → leaf_table name (node h) ≡ Some t → is_past_copy t.state ≡ true → (n : ℕ) → place_of name (table_names h) ≡ Some n → Rests h n
+rests-between h m name t = subst (λ g. leaf_table name (node g) ≡ Some t → is_past_copy t.state ≡ true → (n : ℕ) → place_of name (table_names g) ≡ Some n → Rests g n) m.make at
   where
     g : History
     g = after_all database_part m.calls
@@ -170,7 +164,7 @@ rests-between h m name t = subst (λ g. leaf_table name (node g) ≡ Some t → 
     l : Legal g
     l = legal_calls m.calls
 
-    at : leaf_table name (node g) ≡ Some t → goes_along t.state ≡ true → (n : ℕ) → place_of name (table_names g) ≡ Some n → Rests g n
+    at : leaf_table name (node g) ≡ Some t → is_past_copy t.state ≡ true → (n : ℕ) → place_of name (table_names g) ≡ Some n → Rests g n
     at there along n named = record { leaf = u.guard.leaf; guarded = u.guard.guarded; none = u.uncopied; unwritten = unwritten }
       where
         u : IsUncopied g n

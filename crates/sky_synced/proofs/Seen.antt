@@ -1,5 +1,5 @@
 -- What sessions are shown of replicated tables.
-use Rattle.std.proofs.Common.{◌≡◌, ℕ, List, [], ◌∷◌, ◌++◌, true, false, not, ◌&&◌, Option, Some, None, All, refl, sym, ap, subst, ◌∙◌}
+use Rattle.std.proofs.Common.{◌≡◌, ℕ, List, [], ◌∷◌, ◌++◌, true, not, ◌&&◌, Option, Some, None, All, refl, sym, ap, subst, ◌∙◌}
 use Rattle.std.proofs.lemmas.List.Elements.{All-tail}
 use Rattle.sky_val.specs.declared.val.Val.{Val}
 use Rattle.sky_val.specs.Entries.{Entries}
@@ -7,7 +7,7 @@ use Rattle.sky_names.specs.Places.{place_of}
 use Rattle.londiste_state.specs.Nodes.{is_among}
 use Rattle.sky_model.specs.History.{History, Past}
 use Rattle.sky_model.specs.Sessions.{own_txid}
-use Rattle.sky_model.specs.Rows.{Write, table_names, is_read_only, writes, rows, put_all, own_writes, rows_shown}
+use Rattle.sky_model.specs.Rows.{table_names, is_read_only, writes, rows, put_all, own_writes, rows_shown}
 use Rattle.sky_model.specs.Nodes.{node, leaf_tables}
 use Rattle.sky_model.specs.World.{history_in}
 use Rattle.sky_model.specs.Calls.{Call, past_of}
@@ -25,12 +25,9 @@ use Rattle.sky_changes.proofs.ListedTables.{place-kept, among-one}
 use Rattle.sky_synced.specs.LawsOfSynced.{ShowsProvider}
 use Rattle.sky_synced.specs.LawsOfSeen.{provided_rows, SessionsSeeReplicas}
 use Rattle.sky_synced.proofs.SyncedLaws.{replicas_show_provider}
+use Rattle.sky_synced.proofs.RestingTables.{nothing}
 
 -- ---- own writes
-
-nothing : (ws : List Write) → some ws ≡ false → ws ≡ []
-nothing [] e = refl
-nothing (w ∷ ws) e = absurd (cc e)
 
 -- a session has written no table of a leaf
 own-none : (calls : List Call) → All IsCallInForm calls → (d who : ℕ) (name : List ℕ) (n : ℕ) → (let h : History = history_in (past_of calls) d in

@@ -1,5 +1,5 @@
 -- The ticks of a set's queue: the newest one, and the one that a copy has caught up to.
-use Rattle.std.proofs.Common.{◌≡◌, ℕ, zero, suc, ◌+◌, ◌<◌, ◌≤◌, nat_lt, length, Bool, true, false, not, ◌||◌, ◌==◌, List, [], ◌∷◌, Option, Some, None, is_some, option_map, unwrap_or, refl, sym, ◌∙◌, ap, arith, if◌then◌else◌}
+use Rattle.std.proofs.Common.{◌≡◌, ℕ, zero, suc, ◌+◌, ◌<◌, ◌≤◌, nat_lt, length, Bool, true, false, not, ◌||◌, ◌==◌, List, [], ◌∷◌, Option, Some, None, is_some, option_map, unwrap_or, refl, sym, ◌∙◌, ap, arith, if◌then◌else◌, subst}
 use Rattle.std.specs.Option.{option_and_then}
 use Rattle.std.specs.List.{list_all, range_with_len}
 use Rattle.std.proofs.lemmas.Bool.{and_parts}
@@ -11,7 +11,7 @@ use Rattle.sky_model.specs.Transactions.{snapshot, next_txid}
 use Rattle.sky_model.specs.Queues.{queues, Tick, ticks, tick, newest_tick, id_of, kept_ticks, at_tick}
 use Rattle.sky_model.specs.Nodes.{node}
 use Rattle.sky_model.specs.Selection.{snapshot_at}
-use Rattle.sky_model.specs.State.{database_of}
+use Rattle.sky_model.specs.State.{database_of, queue_of}
 use Rattle.sky_model.specs.StepQueue.{newest_id}
 use Rattle.sky_model.specs.StepNode.{set_queue}
 use Rattle.sky_model.specs.CopyMoves.{newest_of, covers, has_caught_up}
@@ -19,49 +19,50 @@ use Rattle.sky_model.proofs.Legal.{Legal, IsQueue, queue_of_set}
 use Rattle.sky_model.proofs.Snapshots.{sound, sees-snapshot}
 use Rattle.sky_model.proofs.Ticks.{snapshot-at_tick}
 use Rattle.sky_model.proofs.TickOrder.{is_made, is_made-tick}
-use Rattle.sky_model.proofs.KeptTicks.{cuts, above-is, newest-kept, kept-made}
+use Rattle.sky_model.proofs.KeptTicks.{cuts, above-is, newest-kept, kept-made, cut}
 use Rattle.sky_model.proofs.QueueNumbers.{among-number}
 use Rattle.sky_model.proofs.NodeReadings.{set-number}
 use Rattle.sky_model.proofs.RowSights.{Since, here, later, legal-since}
 use Rattle.sky_model.proofs.Cases.{by_test, by_same}
+use Rattle.sky_model.proofs.Listings.{made_since}
+use Rattle.sky_model.proofs.Good.{same-session}
 use Rattle.sky_changes.specs.Listing.{later_of}
 use Rattle.sky_changes.proofs.Places.{length-since}
 use Rattle.sky_changes.proofs.TickPlaces.{tick-since}
-use Rattle.sky_synced.proofs.Covering.{tick-stays, made-stays, EndedBy}
+use Rattle.sky_synced.proofs.Covering.{tick-stays, EndedBy}
 
 -- the queue of a set stands
-pub set-stands : (k : History) (q : ℕ) → set_queue (database_of k) ≡ Some q → IsQueue k q
-set-stands k q is = of (node k) (sym (set-number (database_of k)) ∙ is)
+pub set-stands : (h : History) (q : ℕ) → queue_of_set (queues h) (node h) ≡ Some q → IsQueue h q
+set-stands h q is = of (node h) is
   where
-    of : (n : Option Node) → queue_of_set (queues k) n ≡ Some q → IsQueue k q
+    of : (n : Option Node) → queue_of_set (queues h) n ≡ Some q → IsQueue h q
     of None e = absurd (cc e)
-    of (Some (of_root r)) e = among-number r.queue (queues k) q e
     of (Some (of_leaf l)) e = absurd (cc e)
+    of (Some (of_root r)) e = among-number r.queue (queues h) q e
 
 -- ---- the newest tick
 
-found-newest : (ts : List Tick) (t : Tick) → newest_tick ts ≡ Some t → is_some (tick t.id ts) ≡ true
-found-newest [] t is = absurd (cc is)
-found-newest (u ∷ []) t is = let same : u ≡ t = cc is in let one : (u.id == t.id) ≡ true = grind (arith, nat_tests, ap Tick.id same) in ap (λ b. is_some (if b then Some u else None)) one
-found-newest (u ∷ v ∷ ts) t is = let rest = found-newest (v ∷ ts) t is in by_test (λ b. is_some (if b then Some u else tick t.id (v ∷ ts)) ≡ true) (u.id == t.id) (λ _. refl) (λ _. rest)
-
-newest-some : (o : Option Tick) (ts : List Tick) → newest_tick ts ≡ o → is_some o ≡ true → is_some (tick (id_of o) ts) ≡ true
-newest-some None ts is e = absurd (cc e)
-newest-some (Some t) ts is e = found-newest ts t is
-
 -- it is made
+newest-there : (ts : List Tick) → is_some (newest_tick ts) ≡ true → is_some (tick (id_of (newest_tick ts)) ts) ≡ true
+newest-there [] e = absurd (cc e)
+newest-there (t ∷ []) e = ap (λ b. is_some (if b then Some t else None)) (same-session t.id)
+newest-there (t ∷ u ∷ ts) e =
+    by_test (λ b. is_some (if b then Some t else tick (id_of (newest_tick (u ∷ ts))) (u ∷ ts)) ≡ true) (t.id == id_of (newest_tick (u ∷ ts))) (λ _. refl) (λ _. newest-there (u ∷ ts) e)
+
+pub queues-newest : (h : History) → Legal h → (q : ℕ) → IsQueue h q → is_made q (newest_id (queue_of h q)) h ≡ true
+queues-newest h l q is =
+    ap (λ o. is_made q (id_of o) h) (newest-kept h l q is) ∙ sym (is_made-tick h q (id_of (newest_tick (ticks q h))))
+    ∙ newest-there (ticks q h) (above-is (cut q h) (newest_tick (ticks q h)) (cuts h l q is).fresh)
+
 pub newest-made : (k : History) → Legal k → (q id : ℕ) → set_queue (database_of k) ≡ Some q → newest_of (database_of k) ≡ id → is_made q id k ≡ true
 newest-made k l q id set newest =
-    sym (is_made-tick k q id) ∙ ap (λ n. is_some (tick n (ticks q k))) (sym own) ∙ newest-some (newest_tick (ticks q k)) (ticks q k) refl (above-is _ (newest_tick (ticks q k)) (cuts k l q (set-stands k q set)).fresh)
-  where
-    own : id_of (newest_tick (ticks q k)) ≡ id
-    own = sym (ap id_of (newest-kept k l q (set-stands k q set))) ∙ sym (ap (λ o. unwrap_or (option_map (λ queue. newest_id ((database_of k).queue queue)) o) 0) set) ∙ newest
+    subst (λ n. is_made q n k ≡ true) (sym (ap (λ o. unwrap_or (option_map (λ queue. newest_id ((database_of k).queue queue)) o) 0) set) ∙ newest) (queues-newest k l q (set-stands k q (sym (set-number (database_of k)) ∙ set)))
 
 -- ---- the place of a tick that was made at an earlier place
 
 pub made-above : {s k : History} → Since s k → (q id : ℕ) → is_made q id s ≡ true → is_made q id k ≡ true
 made-above here q id made = made
-made-above (later {h = h} {mark = mark} s) q id made = made-stays mark h q id (made-above s q id made)
+made-above (later {h = h} {mark = mark} s) q id made = made_since q id (mark ∷ []) h (made-above s q id made)
 
 pub tick-above : {s k : History} → Since s k → Legal k → (q id : ℕ) → is_made q id s ≡ true → at_tick q id k ≡ at_tick q id s
 tick-above here l q id made = refl
@@ -109,4 +110,4 @@ caught-up k held l held_k t under q set is =
     of None at e = absurd (cc e)
     of (Some x) at e =
         covered-at (at_tick q t.tick k) held (legal-since (tick-since q t.tick k) l) (legal-since held_k l)
-        (ap (λ s. covers s (snapshot held)) (snapshot-at_tick k l q t.tick ∙ ap snapshot_at (kept-made k l q (set-stands k q set) t.tick x at)) ∙ sym (ap (λ o. unwrap_or (option_map (covers x.snapshot) o) false) under) ∙ e)
+        (ap (λ s. covers s (snapshot held)) (snapshot-at_tick k l q t.tick ∙ ap snapshot_at (kept-made k l q (set-stands k q (sym (set-number (database_of k)) ∙ set)) t.tick x at)) ∙ sym (ap (λ o. unwrap_or (option_map (covers x.snapshot) o) false) under) ∙ e)

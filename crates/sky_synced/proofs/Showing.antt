@@ -29,7 +29,8 @@ use Rattle.sky_model.proofs.ApplyingLaws.{batches_put_their_events, good_batches
 use Rattle.sky_model.proofs.SnapshotLaws.{legal_place}
 use Rattle.sky_model.proofs.TickOrder.{is_made, is_made-tick}
 use Rattle.sky_model.proofs.RowSights.{Since, here, later, ended-since}
-use Rattle.sky_changes.specs.Listing.{later_of, StaysListed, takes_out}
+use Rattle.sky_model.proofs.Listings.{made_since}
+use Rattle.sky_changes.specs.Listing.{later_of, StaysListed, is_unlisting}
 use Rattle.sky_changes.specs.TableEvents.{table_events, unseen_events}
 use Rattle.sky_changes.specs.LawsOfChanges.{Give}
 use Rattle.sky_changes.proofs.Places.{from-below, to-below, since-joined, since-or}
@@ -37,7 +38,7 @@ use Rattle.sky_changes.proofs.TickPlaces.{tick-since, ticks_are_in_order}
 use Rattle.sky_changes.proofs.BatchLaws.{unseen_events_lead_on}
 use Rattle.sky_changes.proofs.ListedTables.{place-kept, columns-kept}
 use Rattle.sky_changes.proofs.StayingListed.{tables_stay_in_sets}
-use Rattle.sky_synced.proofs.Covering.{tick-stays, made-stays, later-above, later-below, EndedBy}
+use Rattle.sky_synced.proofs.Covering.{tick-stays, later-above, later-below, EndedBy}
 
 -- whether a table waits to be handed over, is handed over, or is in sync
 abbrev pub is_late : TableState → Bool
@@ -67,21 +68,21 @@ pub record Shows (h k : History) (come : ℕ) (t : LeafTable) : Type 0 where
 -- ---- the provider's history goes on
 
 -- a table that is in a set at each place up to one is so at one place more
-pub listed-above : {p k : History} (mark : Mark) → IsPlace (mark ∷ k) → (queue : ℕ) (name : List ℕ) → Since p k → takes_out name mark ≡ false → StaysListed p k queue name → StaysListed p (mark ∷ k) queue name
+pub listed-above : {p k : History} (mark : Mark) → IsPlace (mark ∷ k) → (queue : ℕ) (name : List ℕ) → Since p k → is_unlisting name mark ≡ false → StaysListed p k queue name → StaysListed p (mark ∷ k) queue name
 listed-above {p = p} {k = k} mark place queue name p_k stays listed x up down = elim (since-or x mark k (from-below x (mark ∷ k) down)) [
-  | inl same ↦ tables_stay_in_sets (mark ∷ []) k place queue name (listed k (to-below p_k) (to-below here)) (All-cons (λ m. takes_out name m ≡ false) mark [] stays (All-nil (λ m. takes_out name m ≡ false)))
+  | inl same ↦ tables_stay_in_sets (mark ∷ []) k place queue name (listed k (to-below p_k) (to-below here)) (All-cons (λ m. is_unlisting name m ≡ false) mark [] stays (All-nil (λ m. is_unlisting name m ≡ false)))
       x (to-below (subst (Since k) (sym same) (later here))) (to-below (subst (λ y. Since y (mark ∷ k)) (sym same) here))
   | inr lower ↦ listed x up (to-below lower)
 ]
 
-abbrev pub shows-above : {h k : History} {come : ℕ} {t : LeafTable} (mark : Mark) → IsPlace (mark ∷ k) → takes_out t.name mark ≡ false → Shows h k come t → Shows h (mark ∷ k) come t
+abbrev pub shows-above : {h k : History} {come : ℕ} {t : LeafTable} (mark : Mark) → IsPlace (mark ∷ k) → is_unlisting t.name mark ≡ false → Shows h k come t → Shows h (mark ∷ k) come t
 shows-above {h = h} {k = k} {come = come} {t = t} mark place stays x = record {
   queue = x.queue;
   held = x.held;
   below = later x.below;
   under = x.under;
   listed = listed-above mark place x.queue t.name x.below stays x.listed;
-  made = made-stays mark k x.queue come x.made;
+  made = made_since x.queue come (mark ∷ []) k x.made;
   table = x.table;
   named = x.named;
   source = x.source;

@@ -38,7 +38,7 @@ use Rattle.sky_model.specs.Settling.{Turn, turn_of, behind_marks, resumed, ready
 use Rattle.sky_model.specs.Daemon.{daemon_does}
 use Rattle.sky_model.specs.StepNode.{NodeCall, node_does}
 use Rattle.sky_model.specs.Calls.{row_form, form, making, statement, database_turn}
-use Rattle.sky_model.proofs.StatementMarks.{EachMark, each-append, Gives, AnyReply, after, checked, either, gives-tick, gives-tells, gives-first}
+use Rattle.sky_model.proofs.StatementMarks.{EachMark, each-append, Gives, AnyReply, after, checked, either, gives-tick, gives-tells, gives-first, each-switch_of, each-second_steps}
 use Rattle.sky_model.proofs.DaemonTurns.{each-daemon_does}
 use Rattle.sky_model.proofs.NodeCalls.{is_for_nodes, each-node}
 use Rattle.sky_model.proofs.Cases.{by_test, by_block}
@@ -137,24 +137,17 @@ none-quits : (q : ℕ) (consumer : List ℕ) (o : Option Subscription) → NoneG
 none-quits q consumer None = (tt, tt)
 none-quits q consumer (Some sub) = (tt, tt)
 
-none-switch : (q t : ℕ) (now : ℤ) (b : Block) → EachMark takes_none (switch_of q t now b)
-none-switch q t now b = by_block (λ c. EachMark takes_none (switch_of q t now c)) tt tt tt b
-
 none-rotates : (d : Database) (now : ℤ) (who q : ℕ) (why : Option HeldBack) → NoneGives (rotates d now who q why)
 none-rotates d now who q (Some why) = (tt, tt)
 none-rotates d now who q None =
     checked AnyReply takes_none (txid_for d.part who) _
-    (λ t. (tt, none-own who t (d.part.session who) (switch_of q t now (d.part.session who).block) (none-switch q t now (d.part.session who).block)))
-
-none-second_steps : (t : ℕ) (queues : List NamedQueue) → EachMark takes_none (second_steps t queues)
-none-second_steps t [] = tt
-none-second_steps t (q ∷ queues) = none-second_steps t queues
+    (λ t. (tt, none-own who t (d.part.session who) (switch_of q t now (d.part.session who).block) (each-switch_of takes_none (λ mark _. refl) q t now (d.part.session who).block)))
 
 none-ends_switches : (d : Database) (queues : List NamedQueue) → NoneGives (ends_switches d queues)
 none-ends_switches d [] = (tt, tt)
 none-ends_switches d (q ∷ queues) =
     checked AnyReply takes_none (next_id d.part) _
-    (λ t. (tt, each-append takes_none (second_steps t (q ∷ queues)) (ended of_worker t true ∷ []) (none-second_steps t (q ∷ queues)) tt))
+    (λ t. (tt, each-append takes_none (second_steps t (q ∷ queues)) (ended of_worker t true ∷ []) (each-second_steps takes_none (λ mark _. refl) t (q ∷ queues)) tt))
 
 none-back : (now : ℤ) (t : ℕ) (rs : List Retry) → EachMark takes_none (back now t rs)
 none-back now t [] = tt

@@ -12,7 +12,6 @@ use Rattle.sky_model.specs.declared.stmt.NodeStmt.{NodeStmt}
 use Rattle.sky_model.specs.declared.stmt.NodeStmt.TheVariants.{CreateLeaf, AddTable, RemoveTable, TableState as ShowState, CopyStep, Restart, RestartTable, LondisteStep}
 use Rattle.sky_model.specs.declared.reply.Reply.{Reply}
 use Rattle.sky_model.specs.declared.reply.Reply.TheVariants.{Done, Null}
-use Rattle.sky_model.specs.declared.reply.Refusal.{Refusal}
 use Rattle.sky_model.specs.declared.reply.Limit.TheVariants.{Consumers}
 use Rattle.sky_model.specs.declared.reply.Refusal.TheVariants.{AlreadyInSet, IdsSpent, NodeExists, NoNode, NoTable, NotInSet, NotProvider, SchemaDiffers, TableInUse, TooMany}
 use Rattle.sky_model.specs.History.{Mark, noded, leaf_made, state_set, Batch, Pick, History, Fact, within, node_made, in_hand, batch_in_hand, Past}
@@ -20,7 +19,7 @@ use Rattle.sky_model.specs.Hands.{CopyHand, BatchHand, Hand, of_copy, of_batch, 
 use Rattle.sky_model.specs.Copies.{copy_txid}
 use Rattle.sky_model.specs.ShownRows.{snapshot_now}
 use Rattle.sky_model.specs.State.{Database, after_marks}
-use Rattle.sky_model.specs.Outcome.{Outcome, Checked, ◌>>=◌, ◌>>◌, refused_if, refused_by, found_or, answers, marks_of}
+use Rattle.sky_model.specs.Outcome.{Outcome, Checked, answers, marks_of}
 use Rattle.sky_model.specs.OwnTransaction.{next_id}
 use Rattle.sky_model.specs.StepQueue.{newest_id}
 use Rattle.sky_model.specs.StepConsumer.{sub_ids_spent}
@@ -28,7 +27,7 @@ use Rattle.sky_model.specs.StepCopy.{given_up}
 use Rattle.sky_model.specs.StepNode.{NodeCall, joining, parting, fetching, finishing, making_leaf, adding, removing, moving, listing, unlisting, beginning_copy, applying, holding, if_there, set_queue, is_full, joins, lists, adds, unlists, table_number, may_serve, call_form, node_does}
 use Rattle.sky_model.specs.WorkerMoves.{Move, behind_calls, handing}
 use Rattle.sky_model.specs.BatchMoves.{Follower, events_in, has_applied, applies_in_hand, skips_in_hand, finishes_in_hand, taken, takes, takes_next, goes_through}
-use Rattle.sky_model.specs.CopyMoves.{piece_size, rows_from, copies_piece, next_piece, copy_consumer, first_hand, starts_copy, under_way, continues, goes_on, moves_in, table_move, table_at, copier, with_batch, if_copied, has_caught_up, catches_up, hands_over, copy_running, copy_move, lets_go_for}
+use Rattle.sky_model.specs.CopyMoves.{piece_size, rows_from, copies_piece, next_piece, copy_consumer, first_hand, starts_copy, under_way, continues, starts_or_continues, moves_in, table_move, table_at, copier, goes_through_or, if_copied, has_caught_up, catches_up, hands_over, copy_running, copy_move, lets_go_for}
 use Rattle.sky_model.specs.ReplayMoves.{replayer, is_on_way, is_handed_over, is_met, first_in, next_to_copy, for_table, replay_move}
 use Rattle.sky_model.specs.StepApply.{picked, bad_event, applies_batch}
 use Rattle.sky_model.specs.NodesOfWorld.{WorldOutcome, node_called, done_in, leaf_of, create_leaf, provides, are_columns, columns_called, adds_to, first_user, shows_state}
@@ -39,9 +38,10 @@ use Rattle.sky_model.proofs.ApplyCalls.{is_for_applying, gives-applies}
 use Rattle.sky_model.proofs.NodeCalls.{is_for_consumers, is_consumers, gives-consumers}
 use Rattle.sky_model.proofs.CopyCalls.{is_for_copies, is_copies, gives-there, gives-copies}
 use Rattle.sky_model.proofs.StatementMarks.{EachMark, each-rest, each-given, when-true, Gives, gives-map, AnyReply, after, either}
-use Rattle.sky_model.proofs.Cases.{by_test}
+use Rattle.sky_model.proofs.Cases.{by_test, ok-then}
 use Rattle.sky_replicas.proofs.SessionsMarks.{is_sessions}
 use Rattle.sky_replicas.proofs.EachCall.{is_beside, after-calls}
+use Rattle.sky_synced.proofs.UnlessRefused.{if-test, if-refused, if-found}
 
 -- whether a mark isn't one by which a table is said to catch up; and whether a call leaves none
 abbrev pub is_steady : Mark → Bool
@@ -133,14 +133,6 @@ if-either : {H : Type 0} (b : Bool) (x y : Checked (Move H)) → SteadyIfOk x �
 if-either true x y all also = all
 if-either false x y all also = also
 
-if-unrefused : {H : Type 0} (b : Bool) (refusal : Refusal) (c : Checked (Move H)) → SteadyIfOk c → SteadyIfOk (refused_if b refusal >> c)
-if-unrefused true refusal c all = tt
-if-unrefused false refusal c all = all
-
-if-given : {A H : Type 0} (c : Checked A) (next : A → Checked (Move H)) → ((a : A) → SteadyIfOk (next a)) → SteadyIfOk (c >>= next)
-if-given (Ok a) next all = all a
-if-given (Err refusal) next all = tt
-
 if-handing : {H I : Type 0} (kind : H → I) (c : Checked (Move H)) → SteadyIfOk c → SteadyIfOk (handing kind c)
 if-handing kind (Ok move) all = record { provider = all.provider; replica = all.replica }
 if-handing kind (Err refusal) all = tt
@@ -151,7 +143,7 @@ steady-takes f None = record { provider = tt; replica = tt }
 steady-takes f (Some batch) = record { provider = (refl, tt); replica = tt }
 
 steady-takes_next : (p : Database) (f : Follower) → SteadyIfOk (takes_next p f)
-steady-takes_next p f = if-given (node_does p (fetching f.consumer)) _ (λ asked. steady-takes f (taken (after_marks p asked.marks) asked.reply))
+steady-takes_next p f = ok-then _ (node_does p (fetching f.consumer)) _ (λ asked _. steady-takes f (taken (after_marks p asked.marks) asked.reply))
 
 steady-applied : (events : List Event) (pick : Pick) (tick : ℕ) (batch : BatchHand) (many : ℕ) (bad : Option ℕ) → IsSteady (has_applied (applying events pick tick) batch many bad)
 steady-applied events pick tick batch many None = record { provider = tt; replica = (refl, tt) }
@@ -160,12 +152,12 @@ steady-applied events pick tick batch many (Some id) = record { provider = tt; r
 steady-through : (p r : Database) (f : Follower) (batch : BatchHand) → SteadyIfOk (goes_through p r f batch)
 steady-through p r f batch =
     if-either batch.is_done (finishes_in_hand batch) _ (record { provider = (refl, tt); replica = tt })
-    (if-either (nat_lt f.tick batch.cur) (applies_in_hand p r f batch) (skips_in_hand batch) (if-given (next_id r.part) _ (λ t. steady-applied (events_in p batch) f.pick batch.cur batch (length (picked r.node f.pick (events_in p batch))) (bad_event r f.pick (events_in p batch))))
+    (if-either (nat_lt f.tick batch.cur) (applies_in_hand p r f batch) (skips_in_hand batch) (ok-then _ (next_id r.part) _ (λ t _. steady-applied (events_in p batch) f.pick batch.cur batch (length (picked r.node f.pick (events_in p batch))) (bad_event r f.pick (events_in p batch))))
     (record { provider = tt; replica = tt }))
 
-steady-with_batch : (p r : Database) (t : LeafTable) (o : Option BatchHand) (other : Checked (Move BatchHand)) → SteadyIfOk other → SteadyIfOk (with_batch p r t o other)
-steady-with_batch p r t (Some batch) other all = steady-through p r (copier r.node t) batch
-steady-with_batch p r t None other all = all
+steady-goes_through_or : (p r : Database) (t : LeafTable) (o : Option BatchHand) (other : Checked (Move BatchHand)) → SteadyIfOk other → SteadyIfOk (goes_through_or p r t o other)
+steady-goes_through_or p r t (Some batch) other all = steady-through p r (copier r.node t) batch
+steady-goes_through_or p r t None other all = all
 
 steady-for_table : (o : Option (List ℕ)) (move : List ℕ → Checked (Move BatchHand)) (other : Checked (Move BatchHand)) → ((table : List ℕ) → SteadyIfOk (move table)) → SteadyIfOk other → SteadyIfOk (for_table o move other)
 steady-for_table None move other all also = also
@@ -195,11 +187,11 @@ module _ (p r : Database) (table : List ℕ) where
 
   steady-starts : SteadyIfOk (starts_copy p r table)
   steady-starts =
-      if-unrefused (is_full p (copy_consumer r.node)) (TooMany Consumers) _ (if-unrefused (sub_ids_spent p) IdsSpent _ (if-given (next_id r.part) _ (λ t. steady-first)))
+      if-test _ (is_full p (copy_consumer r.node)) (TooMany Consumers) _ (λ _. if-test _ (sub_ids_spent p) IdsSpent _ (λ _. ok-then _ (next_id r.part) _ (λ t _. steady-first)))
 
-  steady-goes_on : (hand : Option CopyHand) (running : Option ℕ) → SteadyIfOk (goes_on p r table hand running)
-  steady-goes_on hand None = steady-starts
-  steady-goes_on hand (Some t) = of (under_way p hand)
+  steady-starts_or_continues : (hand : Option CopyHand) (running : Option ℕ) → SteadyIfOk (starts_or_continues p r table hand running)
+  steady-starts_or_continues hand None = steady-starts
+  steady-starts_or_continues hand (Some t) = of (under_way p hand)
     where
       of : (o : Option (CopyHand × SnapshotView)) → SteadyIfOk (continues p table hand o)
       of None = record { provider = tt; replica = tt }
@@ -209,13 +201,13 @@ steady-copied : (t : LeafTable) (hand : Option Hand) (c : Checked (Move BatchHan
 steady-copied t hand c all = if-either (is_some t.snapshot) (handing of_batch c) _ (if-handing of_batch c all) (record { provider = tt; replica = tt })
 
 steady-in : (p r : Database) (t : LeafTable) (state : TableState) (hand : Option Hand) → SteadyIfOk (moves_in state p r t hand)
-steady-in p r t InCopy hand = if-handing of_copy (goes_on p r t.name (copy_in hand) (copy_running r t.name)) (steady-goes_on p r t.name (copy_in hand) (copy_running r t.name))
+steady-in p r t InCopy hand = if-handing of_copy (starts_or_continues p r t.name (copy_in hand) (copy_running r t.name)) (steady-starts_or_continues p r t.name (copy_in hand) (copy_running r t.name))
 steady-in p r t CatchingUp hand =
-    steady-copied t hand (with_batch p r t (batch_in hand) (catches_up p r t))
-    (steady-with_batch p r t (batch_in hand) (catches_up p r t) (if-either (has_caught_up p t) _ _ (record { provider = tt; replica = (refl, tt) }) (steady-takes_next p (copier r.node t))))
+    steady-copied t hand (goes_through_or p r t (batch_in hand) (catches_up p r t))
+    (steady-goes_through_or p r t (batch_in hand) (catches_up p r t) (if-either (has_caught_up p t) _ _ (record { provider = tt; replica = (refl, tt) }) (steady-takes_next p (copier r.node t))))
 steady-in p r t (DoSync tick) hand =
-    steady-copied t hand (with_batch p r t (batch_in hand) (hands_over p r tick t))
-    (steady-with_batch p r t (batch_in hand) (hands_over p r tick t) (if-either (t.tick == tick) _ _ (record { provider = (refl, tt); replica = (refl, tt) }) (steady-takes_next p (copier r.node t))))
+    steady-copied t hand (goes_through_or p r t (batch_in hand) (hands_over p r tick t))
+    (steady-goes_through_or p r t (batch_in hand) (hands_over p r tick t) (if-either (t.tick == tick) _ _ (record { provider = (refl, tt); replica = (refl, tt) }) (steady-takes_next p (copier r.node t))))
 steady-in p r t Synced hand = record { provider = tt; replica = tt }
 steady-in p r t state hand = record { provider = tt; replica = tt }
 
@@ -268,22 +260,6 @@ facts-move w p d handed move hand s =
 abbrev FactsIfOk : Checked WorldOutcome → Type 0
 FactsIfOk c = IfOk c (λ o. EachFact o.facts)
 
-if-test : (b : Bool) (refusal : Refusal) (c : Checked WorldOutcome) → FactsIfOk c → FactsIfOk (refused_if b refusal >> c)
-if-test true refusal c holds = tt
-if-test false refusal c holds = holds
-
-if-refused : (o : Option Refusal) (c : Checked WorldOutcome) → FactsIfOk c → FactsIfOk (refused_by o >> c)
-if-refused None c holds = holds
-if-refused (Some refusal) c holds = tt
-
-if-found : {A : Type 0} (o : Option A) (refusal : Refusal) (next : A → Checked WorldOutcome) → ((a : A) → o ≡ Some a → FactsIfOk (next a)) → FactsIfOk (found_or o refusal >>= next)
-if-found None refusal next holds = tt
-if-found (Some a) refusal next holds = holds a refl
-
-if-checked : {A : Type 0} (c : Checked A) (next : A → Checked WorldOutcome) → ((a : A) → FactsIfOk (next a)) → FactsIfOk (c >>= next)
-if-checked (Ok a) next holds = holds a
-if-checked (Err refusal) next holds = tt
-
 facts-done : (d : ℕ) (reply : Reply) (c : Checked Outcome) → Steady c → FactsIfOk (done_in d reply c)
 facts-done d reply (Ok o) given = facts-marks d o.marks given.1
 facts-done d reply (Err refusal) given = tt
@@ -299,28 +275,28 @@ module _ (w : World) where
 
   facts-create : (d : ℕ) (name provider : List ℕ) → FactsIfOk (create_leaf w d name provider)
   facts-create d name provider =
-      if-test (is_some (node_called w name) || is_some (w.database d).node) (NodeExists name) _
-      (if-found (node_called w provider) (NoNode provider) _ (λ p _.
-      if-found (set_queue (w.database p.database)) (NotProvider provider) _ (λ queue is.
+      if-test _ (is_some (node_called w name) || is_some (w.database d).node) (NodeExists name) _ (λ _.
+      if-found _ (node_called w provider) (NoNode provider) _ (λ p _.
+      if-found _ (set_queue (w.database p.database)) (NotProvider provider) _ (λ queue is.
       facts-leaf d p.database name provider (newest_id ((w.database p.database).queue queue)) (joins (w.database p.database) queue name)
       (subst (λ o. Steady (if_there o (λ q. joins (w.database p.database) q name))) is (steady-consumer (w.database p.database) (joining name) refl)))))
 
   facts-adds : (d table : ℕ) (name : List ℕ) (n : Node) → FactsIfOk (adds_to w d table name n)
-  facts-adds d table name (of_root r) = if-found (set_queue (w.database d)) (NotProvider r.name) _ (λ queue _. facts-done d Done (lists (w.database d) queue table name) (search (after)))
+  facts-adds d table name (of_root r) = if-found _ (set_queue (w.database d)) (NotProvider r.name) _ (λ queue _. facts-done d Done (lists (w.database d) queue table name) (search (after)))
   facts-adds d table name (of_leaf l) =
-      if-found (provides name (node_called w l.provider)) (NotInSet name) _ (λ p _.
-      if-test (not (are_columns ((w.database d).part.columns table) (columns_called name (w.database p)))) (SchemaDiffers name) _ (facts-done d Done (adds (w.database d) table name) (search (after))))
+      if-found _ (provides name (node_called w l.provider)) (NotInSet name) _ (λ p _.
+      if-test _ (not (are_columns ((w.database d).part.columns table) (columns_called name (w.database p)))) (SchemaDiffers name) _ (λ _. facts-done d Done (adds (w.database d) table name) (search (after))))
 
   facts-removes : (d table : ℕ) (name : List ℕ) (n : Node) → FactsIfOk (removes_from w d table name n)
-  facts-removes d table name (of_root r) = if-refused (option_map TableInUse (first_user w r.name name)) _ (facts-done d Done (unlists table name) (tt, tt))
+  facts-removes d table name (of_root r) = if-refused _ (option_map TableInUse (first_user w r.name name)) _ (λ _. facts-done d Done (unlists table name) (tt, tt))
   facts-removes d table name (of_leaf l) =
-      if-checked (source w l name) _ (λ p.
+      ok-then _ (source w l name) _ (λ p _.
       facts-moves w p d (in_hand d name) (Ok (leaves_leaf l name (w.hands d name))) (λ hand. tt)
       (record { provider = steady-append (lets_go_for (copy_in (w.hands d name))) _ (steady-lets (copy_in (w.hands d name))) (steady-parts (Some (of_leaf l)) (option_map LeafTable.state (table_of name l))); replica = (refl, tt) }))
 
   facts-state : (name table : List ℕ) (n : Node) → FactsIfOk (shows_state name table n)
   facts-state name table (of_root r) = tt
-  facts-state name table (of_leaf l) = if-found (table_of table l) (NotInSet table) _ (λ t _. tt)
+  facts-state name table (of_leaf l) = if-found _ (table_of table l) (NotInSet table) _ (λ t _. tt)
 
   facts-restarts : (d : ℕ) (name : List ℕ) (n : Node) → FactsIfOk (restarts d name n)
   facts-restarts d name (of_root r) = tt
@@ -329,34 +305,34 @@ module _ (w : World) where
   facts-steps : (d : ℕ) (name : List ℕ) (n : Node) → FactsIfOk (leaf_steps w d name n)
   facts-steps d name (of_root r) = tt
   facts-steps d name (of_leaf l) =
-      if-checked (provider_of w l) _ (λ p.
+      ok-then _ (provider_of w l) _ (λ p _.
       facts-moves w p d (batch_in_hand d) (replay_move (w.database p) (w.database d) l (w.batches d)) (λ hand. tt) (steady-replay (w.database p) (w.database d) l (w.batches d)))
 
   facts-form : (d : ℕ) (s : NodeStmt) → FactsIfOk (node_form w d s)
   facts-form d (CreateLeaf name provider) = facts-create d name provider
   facts-form d (AddTable name table_name) =
-      if-found (node_called w name) (NoNode name) _ (λ n _.
-      if-found (place_of table_name (w.database n.database).part.tables) (NoTable table_name) _ (λ table _.
-      if-test (is_among table_name (tables_of n.node)) (AlreadyInSet table_name) _ (facts-adds n.database table table_name n.node)))
+      if-found _ (node_called w name) (NoNode name) _ (λ n _.
+      if-found _ (place_of table_name (w.database n.database).part.tables) (NoTable table_name) _ (λ table _.
+      if-test _ (is_among table_name (tables_of n.node)) (AlreadyInSet table_name) _ (λ _. facts-adds n.database table table_name n.node)))
   facts-form d (RemoveTable name table_name) =
-      if-found (node_called w name) (NoNode name) _ (λ n _.
-      if-test (not (is_among table_name (tables_of n.node))) (NotInSet table_name) _
-      (if-found (place_of table_name (w.database n.database).part.tables) (NoTable table_name) _ (λ table _. facts-removes n.database table table_name n.node)))
-  facts-form d (ShowState name table) = if-found (node_called w name) (NoNode name) _ (λ n _. facts-state name table n.node)
+      if-found _ (node_called w name) (NoNode name) _ (λ n _.
+      if-test _ (not (is_among table_name (tables_of n.node))) (NotInSet table_name) _ (λ _.
+      if-found _ (place_of table_name (w.database n.database).part.tables) (NoTable table_name) _ (λ table _. facts-removes n.database table table_name n.node)))
+  facts-form d (ShowState name table) = if-found _ (node_called w name) (NoNode name) _ (λ n _. facts-state name table n.node)
   facts-form d (CopyStep name table) =
-      if-found (node_called w name) (NoNode name) _ (λ n _.
-      if-checked (leafs_table name table n.node) _ (λ l.
-      if-checked (source_alike w n.database l table) _ (λ p.
+      if-found _ (node_called w name) (NoNode name) _ (λ n _.
+      ok-then _ (leafs_table name table n.node) _ (λ l _.
+      ok-then _ (source_alike w n.database l table) _ (λ p _.
       facts-moves w p n.database (in_hand n.database table) (copy_move (w.database p) (w.database n.database) table (w.hands n.database table)) (λ hand. tt)
       (steady-move (w.database p) (w.database n.database) table (w.hands n.database table)))))
-  facts-form d (Restart name) = if-found (node_called w name) (NoNode name) _ (λ n _. facts-restarts n.database name n.node)
+  facts-form d (Restart name) = if-found _ (node_called w name) (NoNode name) _ (λ n _. facts-restarts n.database name n.node)
   facts-form d (RestartTable name table) =
-      if-found (node_called w name) (NoNode name) _ (λ n _.
-      if-checked (leafs_table name table n.node) _ (λ l.
-      if-checked (source w l table) _ (λ p.
+      if-found _ (node_called w name) (NoNode name) _ (λ n _.
+      ok-then _ (leafs_table name table n.node) _ (λ l _.
+      ok-then _ (source w l table) _ (λ p _.
       facts-moves w p n.database (in_hand n.database table) (Ok (restarting table (w.hands n.database table))) (λ hand. tt)
       (record { provider = steady-lets (copy_in (w.hands n.database table)); replica = (refl, tt) }))))
-  facts-form d (LondisteStep name) = if-found (node_called w name) (NoNode name) _ (λ n _. facts-steps n.database name n.node)
+  facts-form d (LondisteStep name) = if-found _ (node_called w name) (NoNode name) _ (λ n _. facts-steps n.database name n.node)
 
 -- ---- all calls
 

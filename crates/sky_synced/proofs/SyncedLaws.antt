@@ -1,9 +1,9 @@
 -- The laws on replicas to which batches are applied.
-use Rattle.std.proofs.Common.{◌≡◌, ℕ, List, [], ◌∷◌, true, ◌||◌, Option, Some, None, All, refl, sym, ap, subst, ◌∙◌}
+use Rattle.std.proofs.Common.{◌≡◌, ℕ, List, [], ◌∷◌, true, ◌||◌, Option, Some, All, refl, sym, ap, subst, ◌∙◌}
 use Rattle.std.proofs.lemmas.List.Elements.{All-tail}
 use Rattle.londiste_state.specs.declared.state.TableState.{TableState}
 use Rattle.londiste_state.specs.declared.state.TableState.TheVariants.{Absent, InCopy}
-use Rattle.londiste_state.specs.Nodes.{Node, of_root, of_leaf, Leaf, LeafTable, table_of}
+use Rattle.londiste_state.specs.Nodes.{Node, of_leaf, Leaf, LeafTable, table_of}
 use Rattle.sky_model.specs.Hands.{batch_in}
 use Rattle.sky_model.specs.History.{History, Past}
 use Rattle.sky_model.specs.Nodes.{node, is_leaf}
@@ -16,36 +16,29 @@ use Rattle.sky_model.specs.NodesOfWorld.{node_called}
 use Rattle.sky_model.specs.World.{world_of, history_in, hands, batches}
 use Rattle.sky_model.specs.Calls.{Call, past_of}
 use Rattle.sky_model.specs.Steps.{IsCallInForm}
-use Rattle.sky_model.proofs.InCopyTables.{leaf_table}
+use Rattle.sky_model.proofs.InCopyTables.{leaf_table, is_past_copy}
 use Rattle.sky_replicas.proofs.NodeNames.{source_of}
 use Rattle.sky_replicas.proofs.KeptCalls.{HasSource, has-source}
+use Rattle.sky_replicas.proofs.ProvidedCalls.{from-found, found-database}
 use Rattle.sky_synced.specs.Tables.{has_own_tick}
 use Rattle.sky_synced.specs.LawsOfFollowing.{Follows, CopyFollows}
 use Rattle.sky_synced.specs.LawsOfSynced.{ReplicasShowProvider, BatchesCanBeApplied, CopiesBatchesCanBeApplied}
 use Rattle.sky_synced.proofs.UnownedEvents.{leaves_own_none, copies_own_none}
-use Rattle.sky_synced.proofs.ChangedTables.{goes_along, leafs_tick, table-named}
+use Rattle.sky_synced.proofs.ChangedTables.{leafs_tick, table-named}
 use Rattle.sky_synced.proofs.Showing.{Shows}
 use Rattle.sky_synced.proofs.Going.{come, ShowsIn, Goes}
 use Rattle.sky_synced.proofs.FollowingAt.{FollowsIn, AllFollow, in-work, not-bad}
 use Rattle.sky_synced.proofs.WorkersFollow.{leaves_follow, copies_follow}
 use Rattle.sky_synced.proofs.LedTables.{shows-provider}
-use Rattle.sky_synced.proofs.GoingCalls.{from-found, found-database, between-past, places-past, goes-start, goes-next}
+use Rattle.sky_synced.proofs.GoingCalls.{between-past, places-past, goes-start, goes-next}
+use Rattle.sky_synced.proofs.RestingTables.{leaf-found}
+use Rattle.sky_synced.proofs.NextBatch.{IsThisLeaf, this-leaf}
 
 -- ---- after all calls
 
 -- the table of a name that a leaf has
 in-leaf : (name : List ℕ) (n : Option Node) (l : Leaf) (t : LeafTable) → n ≡ Some (of_leaf l) → leaf_table name n ≡ Some t → table_of name l ≡ Some t
 in-leaf name n l t is there = sym (ap (leaf_table name) is) ∙ there
-
--- the leaf of a node that has a table
-record LeafOf (n : Option Node) : Type 0 where
-  l : Leaf
-  is : n ≡ Some (of_leaf l)
-
-leaf-of : (name : List ℕ) (n : Option Node) (t : LeafTable) → leaf_table name n ≡ Some t → LeafOf n
-leaf-of name None t is = absurd (cc is)
-leaf-of name (Some (of_root r)) t is = absurd (cc is)
-leaf-of name (Some (of_leaf l)) t is = record { l = l; is = refl }
 
 -- the workers follow
 module _ (calls : List Call) (in_form : All IsCallInForm calls) where
@@ -73,8 +66,8 @@ module _ (calls : List Call) (in_form : All IsCallInForm calls) where
       subst (λ n. FollowsIn past p (copier (node (history_in past d)) t) (batch_in (hands past d n))) (table-named name (node (history_in past d)) t there)
       (subst (λ q. FollowsIn past q (copier (node (history_in past d)) t) (batch_in (hands past d t.name))) s.is (record { follows = f; unowned = copies_own_none calls in_form d o.l s.provider name t o.is found has copied f }))
     where
-      o : LeafOf (node (history_in past d))
-      o = leaf-of name (node (history_in past d)) t there
+      o : IsThisLeaf (node (history_in past d))
+      o = this-leaf (node (history_in past d)) (leaf-found name (node (history_in past d)) t there)
 
       s : HasSource past d p
       s = has-source past d p from
@@ -104,7 +97,7 @@ goes-past (call ∷ calls) in_form =
 
 -- ---- replicas show their provider
 
-pub either-along : (state : TableState) → (has_own_tick state || is_synced state) ≡ true → goes_along state ≡ true
+pub either-along : (state : TableState) → (has_own_tick state || is_synced state) ≡ true → is_past_copy state ≡ true
 either-along Absent e = absurd (cc e)
 either-along InCopy e = absurd (cc e)
 either-along state e = refl

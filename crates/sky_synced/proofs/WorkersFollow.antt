@@ -20,12 +20,13 @@ use Rattle.sky_model.proofs.Legal.{Legal}
 use Rattle.sky_model.proofs.Histories.{legal_past}
 use Rattle.sky_model.proofs.TickOrder.{is_made-tick}
 use Rattle.sky_model.proofs.KeptTicks.{position-later}
+use Rattle.sky_model.proofs.InCopyTables.{found-named}
 use Rattle.sky_replicas.proofs.NodeNames.{provider_of, database_among, names_in, source_of, called-database}
 use Rattle.sky_synced.specs.Tables.{has_own_tick}
 use Rattle.sky_synced.specs.LawsOfFollowing.{IsActive, Follows, LeavesFollow, CopiesFollow}
 use Rattle.sky_synced.proofs.Following.{is_of_node, InHand, Following}
 use Rattle.sky_synced.proofs.FollowingCalls.{set-is, LeadsOn, leads-on}
-use Rattle.sky_synced.proofs.LeafFollows.{found-named, CopyOf, LeafFollows}
+use Rattle.sky_synced.proofs.LeafFollows.{CopyOf, LeafFollows}
 use Rattle.sky_synced.proofs.FollowPasts.{AtSource}
 use Rattle.sky_synced.proofs.FollowEachCall.{follow-calls}
 

@@ -12,7 +12,8 @@ use Rattle.sky_model.specs.WorkerMoves.{Move}
 use Rattle.sky_model.specs.BatchMoves.{Follower, events_in, has_applied, applies_in_hand, skips_in_hand, finishes_in_hand, taken, takes, takes_next, goes_through}
 use Rattle.sky_model.proofs.Legal.{Legal}
 use Rattle.sky_model.proofs.StatementMarks.{EachMark}
-use Rattle.sky_synced.proofs.Following.{spares, Following, following-marks, legal-marked}
+use Rattle.sky_model.proofs.PendingOwners.{legal-before}
+use Rattle.sky_synced.proofs.Following.{spares, Following, following-marks}
 use Rattle.sky_synced.proofs.FollowingCalls.{after_call, spares-fetching, following-fetched, following-applied, following-skipped, following-finished, spares-finishing}
 use Rattle.sky_synced.proofs.LeafFollows.{KeptAt}
 use Rattle.sky_synced.proofs.LeafNodes.{IsOfCalls, leaf-applied, leaf-unapplied}
@@ -30,7 +31,7 @@ SparesEach h q c (call ∷ calls) = EachMark (spares q c) (marks_of (node_does (
 
 pub legal-each : (h : History) (calls : List NodeCall) → Legal (after_each h calls) → Legal h
 legal-each h [] l = l
-legal-each h (call ∷ calls) l = legal-marked h (marks_of (node_does (database_of h) call)) (legal-each (after_call h call) calls l)
+legal-each h (call ∷ calls) l = legal-before h (marks_of (node_does (database_of h) call)) (legal-each (after_call h call) calls l)
 
 pub kept-each : (h : History) (q : ℕ) (c : List ℕ) (calls : List NodeCall) → Legal (after_each h calls) → SparesEach h q c calls → KeptAt h (after_each h calls) q c
 kept-each h q c [] l each tick hand f = f

@@ -1,6 +1,8 @@
 pub mod RowTexts
 pub mod Ignored
 pub mod Cutting
+pub mod Decoding
+pub mod InOrder
 pub mod Fitting
 pub mod NumberBack
 pub mod PieceBack

@@ -72,7 +72,7 @@ written_some name (Some text) word named = omega (arith, length-append (byte_ser
 
 -- ---- its sides
 
-pub zero-add : (n : ℕ) → 0 + n ≡ n
+zero-add : (n : ℕ) → 0 + n ≡ n
 zero-add n = omega arith
 
 first_from : (n : ℕ) (front behind : List ℕ) → All (λ b. (b == equals_sign) ≡ false) front → position_from (λ b. b == equals_sign) n (front ++ equals_sign ∷ behind) ≡ Some (n + length front)

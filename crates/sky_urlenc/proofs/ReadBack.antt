@@ -1,15 +1,10 @@
 -- A row's text is read as that row.
-use Rattle.std.proofs.Common.{◌≡◌, ◌≢◌, ℕ, ◌+◌, ◌<◌, true, false, List, [], ◌∷◌, ◌++◌, length, get_or, set, map, Option, Some, None, Ok, refl, sym, ◌∙◌, ap, subst, arith, append_assoc, append-nil, length-append}
-use Rattle.std.specs.Prelude.{◌==◌, find, filter, bytes_eq, All, AllPairs}
-use Rattle.std.specs.List.{enumerate_from, slice_split, join_with_byte}
+use Rattle.std.proofs.Common.{◌≡◌, ◌≢◌, ℕ, ◌+◌, ◌<◌, false, List, [], ◌∷◌, ◌++◌, length, map, Option, Some, None, Ok, refl, sym, ◌∙◌, ap, subst, arith, append_assoc, append-nil, length-append}
+use Rattle.std.specs.Prelude.{◌==◌, filter, bytes_eq, All, AllPairs}
+use Rattle.std.specs.List.{slice_split, join_with_byte}
 use Rattle.std.specs.Option.{option_or}
-use Rattle.std.proofs.Math.ListN.{get_or-append}
-use Rattle.std.proofs.Math.Seq.{get_or-append_seam, set-append_seam}
-use Rattle.std.proofs.lemmas.Bool.{cond-true, cond-false}
-use Rattle.std.proofs.lemmas.List.{map-append, length-map}
 use Rattle.std.proofs.lemmas.List.Elements.{All-nil, All-cons, All-head, All-tail, All-weaker}
 use Rattle.std.proofs.lemmas.List.Splits.{slice_split_at, slice_split_none}
-use Rattle.std.proofs.lemmas.Slice.Eq.{bytes_eq-Decides}
 use Rattle.form_urlencoded.specs.Form.{ampersand, is_nonempty}
 use Rattle.sky_val.specs.declared.val.Val.{Val}
 use Rattle.sky_val.specs.declared.column.Column.{Column}
@@ -17,47 +12,18 @@ use Rattle.sky_val.specs.declared.schema.RowFault.{RowFault}
 use Rattle.sky_val.specs.Schemas.{value_fault, values_fault, row_fault, AreNamed}
 use Rattle.sky_urlenc.specs.Held.{HoldsOne, HoldsAll}
 use Rattle.sky_urlenc.specs.RowText.{column_text, column_texts, row_text}
-use Rattle.sky_urlenc.specs.ReadRow.{◌>>=◌, Piece, in_places, pieces_from, name_in, text_in, is_text, column_named, value_for, given_by, all_given, values_from, read_row}
-use Rattle.sky_urlenc.proofs.PieceBack.{text_of, column_text-written, written_no_ampersand, written_some, zero-add, text_of-IsWord, piece_written, name_back, text_back, is_text_back, value_back}
+use Rattle.sky_urlenc.specs.ReadRow.{◌>>=◌, Piece, in_places, pieces_from, value_for, given_by, all_given, values_from, read_row}
+use Rattle.sky_urlenc.proofs.InOrder.{apart_here, filled, next_given, values_given}
+use Rattle.sky_urlenc.proofs.PieceBack.{text_of, column_text-written, written_no_ampersand, written_some, text_of-IsWord, piece_written, name_back, text_back, is_text_back, value_back}
 use Rattle.std.proofs.lemmas.Bool.Decides.{nat_tests}
 
--- the column of a name that no earlier one has
-named_back : (n : ℕ) (front columns : List Column) (column : Column) → All (λ c. bytes_eq c.name column.name ≡ false) front
-    → find (λ c. bytes_eq c.1.name column.name) (enumerate_from n (front ++ column ∷ columns)) ≡ Some (n + length front, column)
-named_back n [] columns column fresh = cond-true _ _ _ ((bytes_eq-Decides column.name column.name).1 refl) ∙ ap (λ k. Some (k, column)) (omega arith)
-named_back n (other ∷ front) columns column fresh =
-    cond-false _ _ _ (All-head (λ c. bytes_eq c.name column.name ≡ false) other front fresh)
-    ∙ named_back (n + 1) front columns column (All-tail (λ c. bytes_eq c.name column.name ≡ false) other front fresh) ∙ ap (λ k. Some (k, column)) (omega arith)
-
--- the steps of a piece that gives a value
-given_is : (columns : List Column) (given : List (Option Val)) (piece : Piece) (place : ℕ) (column : Column) (v : Val) → is_text piece ≡ true → column_named (name_in piece) columns ≡ Some (place, column) → get_or given place None ≡ None
-    → value_for piece.start column (text_in piece) ≡ Ok v → given_by columns given piece ≡ Ok (set given place (Some v))
-given_is columns given piece place column v text named free value = rw (text, named, free, value)
-
--- the values of some columns, with nothing yet for the others
-abbrev filled : List Val → List Column → List (Option Val)
-filled before columns = map (λ v. Some v) before ++ map (λ _. None) columns
-
 piece_back : (front columns : List Column) (before : List Val) (column : Column) (v : Val) (start place : ℕ) → length before ≡ length front → All (λ c. bytes_eq c.name column.name ≡ false) front → HoldsOne column v → value_fault place column v ≡ None
-    → given_by (front ++ column ∷ columns) (filled before (column ∷ columns)) (record { start = start; bytes = column_text column v }) ≡ Ok (map (λ v. Some v) before ++ Some v ∷ map (λ _. None) columns)
+    → given_by (front ++ column ∷ columns) (filled before (column ∷ columns)) (record { start = start; bytes = column_text column v }) ≡ Ok (filled (before ++ v ∷ []) columns)
 piece_back front columns before column v start place alike fresh holds e =
     let text = text_of-IsWord v holds.value in
-    let count : length (map (λ v. Some v) before) ≡ length front = length-map before (λ v. Some v) ∙ alike in
-    let nones : List (Option Val) = map (λ _. None) columns in
-    let named = ap (λ name. column_named name (front ++ column ∷ columns)) (name_back start column.name (text_of v) holds.name) ∙ named_back 0 front columns column fresh ∙ ap (λ n. Some (n, column)) (zero-add (length front)) in
-    let free : get_or (filled before (column ∷ columns)) (length front) None ≡ None = ap (λ n. get_or (filled before (column ∷ columns)) n None) (sym count) ∙ get_or-append_seam (map (λ v. Some v) before) None nones None in
     let value = ap (value_for start column) (text_back start column.name (text_of v) text) ∙ value_back start place column v holds.value e in
     ap (λ bytes. given_by (front ++ column ∷ columns) (filled before (column ∷ columns)) (record { start = start; bytes = bytes })) (column_text-written column v holds.value)
-    ∙ given_is (front ++ column ∷ columns) (filled before (column ∷ columns)) (piece_written start column.name (text_of v)) (length front) column v (is_text_back start column.name (text_of v) holds.name text) named free value
-    ∙ ap (λ n. Ok (set (filled before (column ∷ columns)) n (Some v))) (sym count) ∙ ap (λ given. Ok given) (set-append_seam (map (λ v. Some v) before) None nones (Some v))
-
-apart_here : (front columns : List Column) (column : Column) → AllPairs (λ one other. one.name ≢ other.name) (front ++ column ∷ columns) → All (λ c. bytes_eq c.name column.name ≡ false) front
-apart_here front columns column apart k d within =
-    let earlier = get_or-append front (column ∷ columns) d k within in
-    let here = get_or-append_seam front column columns d in
-    let longer : length front < length (front ++ column ∷ columns) = omega (arith, length-append front (column ∷ columns)) in
-    let other : (get_or front k d).name ≢ column.name = λ same. apart k (length front) d within longer (ap (λ c. c.name) earlier ∙ same ∙ sym (ap (λ c. c.name) here)) in
-    grind (arith, other, (bytes_eq-Decides (get_or front k d).name column.name).0)
+    ∙ next_given front columns before column v (piece_written start column.name (text_of v)) alike fresh (name_back start column.name (text_of v) holds.name) (is_text_back start column.name (text_of v) holds.name text) value
 
 no_fault : (one other : Option RowFault) → option_or one other ≡ None → (one ≡ None) × (other ≡ None)
 no_fault None other e = (refl, e)
@@ -73,20 +39,14 @@ all_back whole front (column ∷ columns) before [] given start place whole_is g
 all_back whole front (column ∷ columns) before (v ∷ row) given start place whole_is given_is alike same apart holds e =
     let faults = no_fault (value_fault place column v) (values_fault (place + 1) columns row) e in
     let fresh = apart_here front columns column (subst (AllPairs (λ one other. one.name ≢ other.name)) whole_is apart) in
-    let more = map (λ v. Some v) before ++ Some v ∷ map (λ _. None) columns in
+    let more = filled (before ++ v ∷ []) columns in
     let piece : Piece = record { start = start; bytes = column_text column v } in
     let step : given_by whole given piece ≡ Ok more = (λ i. given_by (whole_is i) (given_is i) piece) ∙ piece_back front columns before column v start place alike fresh holds.0 faults.0 in
-    let more_is : more ≡ filled (before ++ v ∷ []) columns =
-    sym (append_assoc (map (λ v. Some v) before) (Some v ∷ []) (map (λ _. None) columns)) ∙ ap (λ given. given ++ map (λ _. None) columns) (sym (map-append (λ v. Some v) before (v ∷ []))) in
     let later = start + length (column_text column v) + 1 in
     ap (λ checked. checked >>= (λ more. all_given whole more (in_places later (column_texts columns row)))) step
-    ∙ all_back whole (front ++ column ∷ []) columns (before ++ v ∷ []) row more later (place + 1) (whole_is ∙ sym (append_assoc front (column ∷ []) columns)) more_is
+    ∙ all_back whole (front ++ column ∷ []) columns (before ++ v ∷ []) row more later (place + 1) (whole_is ∙ sym (append_assoc front (column ∷ []) columns)) refl
     (omega (arith, alike, length-append before (v ∷ []), length-append front (column ∷ []))) (omega (arith, same)) apart holds.1 faults.1
     ∙ ap (λ values. Ok (map (λ v. Some v) values)) (append_assoc before (v ∷ []) row)
-
-values_back : (place : ℕ) (row : List Val) → values_from place (map (λ v. Some v) row) ≡ Ok row
-values_back place [] = refl
-values_back place (v ∷ row) = ap (λ checked. checked >>= (λ values. Ok (v ∷ values))) (values_back (place + 1) row)
 
 -- ---- the pieces of a row's text
 
@@ -132,4 +92,4 @@ read_back columns row apart e holds named =
     let fits : values_fault 0 columns row ≡ None = grind (arith, e) in
     ap (λ pieces. all_given columns (map (λ _. None) columns) pieces >>= (λ given. values_from 0 given)) pieces
     ∙ ap (λ checked. checked >>= (λ given. values_from 0 given)) (all_back columns [] columns [] row (map (λ _. None) columns) 0 0 refl refl refl alike apart holds fits)
-    ∙ values_back 0 row
+    ∙ values_given 0 row

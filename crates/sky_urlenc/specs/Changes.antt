@@ -25,8 +25,8 @@ pub record Change : Type 0 where
   pub row : List Val
 
 -- what was done, by how the type of an event begins
-abbrev pub op_of : List ℕ → Option Op
-op_of name =
+abbrev pub op_named : List ℕ → Option Op
+op_named name =
     if starts_with nat_eq name (codes "I:") then Some Insert
     else if starts_with nat_eq name (codes "U:") then Some Update
     else if starts_with nat_eq name (codes "D:") then Some Delete
@@ -36,7 +36,7 @@ op_of name =
 abbrev pub change_of : List Column → Event → Option Change
 change_of columns event = do
   name ← event.ev_type
-  op ← op_of name
+  op ← op_named name
   text ← event.ev_data
   row ← result_ok (read_row columns text)
   Some (record { op = op; row = row })

@@ -3,6 +3,7 @@ pub mod Cuts
 pub mod EventType
 pub mod Held
 pub mod Pieces
+pub mod Plain
 pub mod ReadRow
 pub mod RowEvents
 pub mod RowText

@@ -6,6 +6,7 @@ ghost use Rattle.sky_urlenc.specs.ReadRow.{all_given, column_named, given_by, is
 ghost use Rattle.sky_urlenc.specs.Pieces.{piece_view};
 
 use crate::fault::DecodeFault;
+use crate::in_order::row_in_order;
 use crate::pieces::{Piece, Pieces};
 use crate::sides::side_text;
 use sky_val::{BoxedText, ColKind, Column, NoMemory, Row, Schema, Text, Val, int_of};
@@ -21,6 +22,18 @@ pub fn decode_row(alloc: Global, schema: &Schema, text: &[u8]) -> Result<Row, De
         fault ≢ DecodeFault.NoMemory → read_row schema.now text.now ≡ Err fault) }
 {
     let columns = schema.columns();
+    if let Some(row) = row_in_order(alloc, columns, text)? {
+        return Ok(row);
+    }
+    row_in_any_order(alloc, columns, text)
+}
+
+/// The same for these columns.
+fn row_in_any_order(alloc: Global, columns: &[Column], text: &[u8]) -> Result<Row, DecodeFault>
+    ensures row { IfOk result (λ row. read_row columns.now text.now ≡ Ok row) }
+    ensures refused { IfErr result (λ fault.
+        fault ≢ DecodeFault.NoMemory → read_row columns.now text.now ≡ Err fault) }
+{
     let mut given = nothing_given(alloc, columns)?;
     for piece in Pieces::of(text) {
         give(alloc, columns, &piece, &mut given)?;

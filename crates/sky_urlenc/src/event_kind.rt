@@ -1,20 +1,56 @@
 //! The types of the events that record writes of rows.
 
-ghost use Rattle.std.specs.Prelude.{◌≡◌, [], ◌∷◌, ◌++◌, map, IfOk, OnOk, string_bytes};
+ghost use Rattle.std.specs.Prelude.{◌≡◌, [], ◌∷◌, ◌++◌, map, IfOk, IfSome, OnOk, string_bytes};
 ghost use Rattle.std.specs.List.{join_with_byte};
 ghost use Rattle.sky_val.specs.Schemas.{key_columns};
 ghost use Rattle.sky_urlenc.specs.EventType.{colon, comma, op_letter, event_type};
 
-use crate::kept::kept;
+use crate::kept::{MOST_IN_PLACE, kept};
+use arrayvec::ArrayString;
 use sky_val::{Column, NoMemory, Op, Schema, Text};
 use std::alloc::Global;
 
-/// How many bytes most types have at most.
-const USUAL_BYTES: usize = 24;
+/// How many bytes most long types have at most.
+const USUAL_BYTES: usize = 48;
 
 /// The type of the event that records an operation on a row of the table: `I`, `U` or `D`, a colon, and the names of
 /// the key columns, separated by commas.
 pub fn event_type(alloc: Global, op: Op, schema: &Schema) -> Result<Text, NoMemory>
+    ensures { IfOk result (λ text. text ≡ event_type op schema.now) }
+{
+    match short_type(op, schema) {
+        Some(text) => Text::from_str(alloc, text.as_str()),
+        None => long_type(alloc, op, schema),
+    }
+}
+
+/// The same, if it is short: it takes no memory of its own.
+#[tactic(auto, using(crate::proofs::RowTexts::key_next, crate::proofs::RowTexts::next_as_first, crate::proofs::RowTexts::next_behind_byte))]
+fn short_type(op: Op, schema: &Schema) -> Option<ArrayString<MOST_IN_PLACE>>
+    ensures { IfSome result (λ text. text.bytes ≡ event_type op schema.now) }
+{
+    let mut text = ArrayString::new();
+    if text.try_push_str(op_mark(op)).is_err() {
+        return None;
+    }
+    let mut first = true;
+    for column in schema.columns() {
+        if !column.key {
+            continue;
+        }
+        if !first && text.try_push(',').is_err() {
+            return None;
+        }
+        if text.try_push_str(column.name.as_str()).is_err() {
+            return None;
+        }
+        first = false;
+    }
+    Some(text)
+}
+
+/// The same, however long it is.
+fn long_type(alloc: Global, op: Op, schema: &Schema) -> Result<Text, NoMemory>
     ensures { IfOk result (λ text. text ≡ event_type op schema.now) }
 {
     let mut text = String::with_capacity(alloc, USUAL_BYTES)?;

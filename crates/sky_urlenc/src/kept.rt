@@ -6,7 +6,7 @@ use sky_val::{NoMemory, Text};
 use std::alloc::Global;
 
 /// The most bytes of a text that takes no memory of its own.
-const MOST_IN_PLACE: usize = 22;
+pub(crate) const MOST_IN_PLACE: usize = 22;
 
 /// The text that a string holds. If it is short, the string's memory is given back.
 pub(crate) fn kept(alloc: Global, string: String) -> Result<Text, NoMemory>

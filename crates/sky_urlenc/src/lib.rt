@@ -10,9 +10,11 @@
 
 mod cut;
 mod decode;
+mod decoded;
 mod encode;
 mod event_kind;
 mod fault;
+mod in_order;
 mod kept;
 mod pieces;
 mod row_event;

@@ -24,7 +24,7 @@ use Rattle.sky_model.specs.StepNode.{NodeCall, applying, fetching, joining, part
 use Rattle.sky_model.specs.WorkerMoves.{Move, behind_calls, handing, moves_to}
 use Rattle.sky_model.specs.BatchMoves.{Follower, events_in, has_applied, applies_in_hand, taken, takes, takes_next, goes_through}
 use Rattle.sky_model.specs.ReplayMoves.{replayer, is_handed_over, is_met, first_in, next_to_copy, for_table, replay_move}
-use Rattle.sky_model.specs.CopyMoves.{copy_consumer, copies_piece, next_piece, piece_size, rows_from, first_hand, starts_copy, under_way, continues, goes_on, copier, with_batch, has_caught_up, catches_up, hands_over, if_copied, moves_in, table_at, table_move, copy_move, copy_running}
+use Rattle.sky_model.specs.CopyMoves.{copy_consumer, copies_piece, next_piece, piece_size, rows_from, first_hand, starts_copy, under_way, continues, starts_or_continues, copier, goes_through_or, has_caught_up, catches_up, hands_over, if_copied, moves_in, table_at, table_move, copy_move, copy_running}
 
 abbrev HasNone : {H : Type 0} → Move H → Type 0
 HasNone move = All ReplyHasMoments move.replies
@@ -98,7 +98,7 @@ starts p r table = of (is_full p (copy_consumer r.node)) (sub_ids_spent p) (next
     of false false (Err refusal) = tt
     of false false (Ok t) = piece table (snapshot_now p.part) (first_hand p) (rows_from p table (snapshot_now p.part) None piece_size)
 
-goes : (p r : Database) (table : List ℕ) (hand : Option CopyHand) (running : Option ℕ) → HaveNone (goes_on p r table hand running)
+goes : (p r : Database) (table : List ℕ) (hand : Option CopyHand) (running : Option ℕ) → HaveNone (starts_or_continues p r table hand running)
 goes p r table hand None = starts p r table
 goes p r table hand (Some t) = by (under_way p hand)
   where
@@ -110,7 +110,7 @@ handed : {H I : Type 0} (kind : H → I) (c : Checked (Move H)) → HaveNone c �
 handed kind (Ok move) has = has
 handed kind (Err refusal) has = tt
 
-by-batch : (p r : Database) (t : LeafTable) (batch : Option BatchHand) (other : Checked (Move BatchHand)) → HaveNone other → HaveNone (with_batch p r t batch other)
+by-batch : (p r : Database) (t : LeafTable) (batch : Option BatchHand) (other : Checked (Move BatchHand)) → HaveNone other → HaveNone (goes_through_or p r t batch other)
 by-batch p r t None other has = has
 by-batch p r t (Some batch) other has = goes-through p r (copier r.node t) batch
 
@@ -128,12 +128,12 @@ pub moments-moved : (p r : Database) (table : List ℕ) (hand : Option Hand) →
 moments-moved p r table hand = of (table_at table r.node)
   where
     by : (t : LeafTable) (state : TableState) → HaveNone (moves_in state p r t hand)
-    by t InCopy = handed of_copy (goes_on p r t.name (copy_in hand) (copy_running r t.name)) (goes p r t.name (copy_in hand) (copy_running r t.name))
+    by t InCopy = handed of_copy (starts_or_continues p r t.name (copy_in hand) (copy_running r t.name)) (goes p r t.name (copy_in hand) (copy_running r t.name))
     by t Synced = one-reply Idle tt
     by t Absent = one-reply (AwaitsTable t.name) tt
-    by t CatchingUp = copied t hand (with_batch p r t (batch_in hand) (catches_up p r t)) (by-batch p r t (batch_in hand) (catches_up p r t) (catches-up p r t))
+    by t CatchingUp = copied t hand (goes_through_or p r t (batch_in hand) (catches_up p r t)) (by-batch p r t (batch_in hand) (catches_up p r t) (catches-up p r t))
     by t (WannaSync tick) = one-reply (AwaitsTable t.name) tt
-    by t (DoSync tick) = copied t hand (with_batch p r t (batch_in hand) (hands_over p r tick t)) (by-batch p r t (batch_in hand) (hands_over p r tick t) (hands-over p r tick t))
+    by t (DoSync tick) = copied t hand (goes_through_or p r t (batch_in hand) (hands_over p r tick t)) (by-batch p r t (batch_in hand) (hands_over p r tick t) (hands-over p r tick t))
 
     of : (o : Option LeafTable) → HaveNone (table_move p r table o hand)
     of None = one-reply (AwaitsTable table) tt

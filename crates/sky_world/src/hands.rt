@@ -13,7 +13,6 @@ use sky_val::{NoMemory, Text};
 use std::alloc::Global;
 use std::collections::BTreeMap;
 use std::marker::Model;
-use std::mem;
 
 /// What the worker that copies a table of a database has in hand.
 #[derive(Drop)]
@@ -98,9 +97,7 @@ impl Hands {
         ensures err { OnErr result (self.new ≡ self.old) }
     {
         match self.place(database, table) {
-            Some(at) => {
-                let _before = mem::replace(&mut self.hands[at].hand, hand);
-            }
+            Some(at) => self.hands[at].hand = hand,
             None => {
                 let Some(hand) = hand else {
                     return Ok(());

@@ -5,8 +5,8 @@ use Rattle.pgq_db.specs.Served.{Fetched}
 use Rattle.londiste_batches.proofs.Taking.{taken-moves}
 use Rattle.londiste_batches.proofs.follow.take_next.Goals as goal
 
-pub returns-in_ok-print-in-Ok-Some-clause-moves : goal.returns-in_ok-print-in-Ok-Some-clause-moves
-returns-in_ok-print-in-Ok-Some-clause-moves c r tick pick =
+pub returns-in_ok-add_reply-in-Ok-Some-clause-moves : goal.returns-in_ok-add_reply-in-Ok-Some-clause-moves
+returns-in_ok-add_reply-in-Ok-Some-clause-moves c r tick pick =
     taken-moves (seen_database c.args.provider.now) (seen_database c.fetch.new.self) r (record { consumer = c.args.consumer.now; tick = tick; pick = pick }) c.in-Ok-Some.batch c.in-Ok-Some.ensures.serves
-    (subst (λ batch. Fetched batch (seen_database c.args.provider.now) (seen_database c.fetch.new.self) c.args.consumer.now) c.in-Ok-Some.field-0-is c.in-Ok-Some.ensures.batch) c.print-in-Ok-Some.new.replies.items c.new.result
-    (c.in_ok-print-in-Ok-Some.ensures ∙ ap (λ replies. replies ++ BatchTaken c.in-Ok-Some.batch.id c.in-Ok-Some.batch.prev c.in-Ok-Some.batch.cur ∷ []) c.requires.nothing) c.new.ensures
+    (subst (λ batch. Fetched batch (seen_database c.args.provider.now) (seen_database c.fetch.new.self) c.args.consumer.now) c.in-Ok-Some.field-0-is c.in-Ok-Some.ensures.batch) c.add_reply-in-Ok-Some.new.replies.items c.new.result
+    (c.in_ok-add_reply-in-Ok-Some.ensures ∙ ap (λ replies. replies ++ BatchTaken c.in-Ok-Some.batch.id c.in-Ok-Some.batch.prev c.in-Ok-Some.batch.cur ∷ []) c.requires.nothing) c.new.ensures

@@ -1,11 +1,11 @@
 use Rattle.std.proofs.Common.{◌∙◌, None, sym, ap, subst}
 use Rattle.londiste_state.specs.declared.state.TableState.TheVariants.{WannaSync}
 use Rattle.sky_model.specs.WorkerMoves.{moves_to}
-use Rattle.sky_model.specs.CopyMoves.{catches_up, has_caught_up}
+use Rattle.sky_model.specs.CopyMoves.{has_caught_up}
 use Rattle.pgq_db.specs.Seen.{seen_database}
 use Rattle.londiste_batches.specs.Moved.{MovesBy}
 use Rattle.londiste_copy.specs.CatchingUp.{the_table}
-use Rattle.londiste_copy.proofs.CatchingUp.{name-of, waits-now, with-none}
+use Rattle.londiste_copy.proofs.CatchingUp.{name-of, waits-now}
 use Rattle.londiste_copy.proofs.catching_up.catch_up.Goals as goal
 
 pub returns-then-has_caught_up-clause-moves : goal.returns-then-has_caught_up-clause-moves
@@ -15,8 +15,7 @@ returns-then-has_caught_up-clause-moves c =
     let table = c.args.table.now in
     let t = the_table table r.node in
     let caught = sym (c.has_caught_up.ensures ∙ ap (λ n. has_caught_up p (the_table table n)) c.node.ensures) ∙ c.if-has_caught_up.true in
-    let tick = c.tick_of-reached.ensures ∙ ap (λ n. (the_table table n).tick) c.node-then-has_caught_up.ensures in
     let name = c.in_ok-name.ensures ∙ sym (name-of table r.node) in
     subst (λ checked. MovesBy checked p p r (seen_database c.move_table.new.replica) c.move_table.new.replies.items None)
-    ((λ i. moves_to (WannaSync (tick i)) (name i)) ∙ sym (with-none p r t c.args.hand (catches_up p r t) c.in_default.not-Some ∙ waits-now p r t caught))
+    ((λ i. moves_to (WannaSync (c.requires.reached i)) (name i)) ∙ sym (waits-now p r t caught))
     (c.in_ok-move_table.ensures p)

@@ -1,4 +1,4 @@
-use Rattle.std.proofs.Common.{◌∙◌, sym, ap}
+use Rattle.std.proofs.Common.{rules, tests, ◌∙◌, sym, ap}
 use Rattle.sky_model.specs.CopyMoves.{copy_consumer}
 use Rattle.pgq_db.specs.Seen.{seen_database}
 use Rattle.londiste_copy.proofs.Begins.{begun-as, not-refused}
@@ -7,7 +7,7 @@ use Rattle.londiste_copy.proofs.copying.begin.Goals as goal
 pub unreachable-requires : goal.unreachable-requires
 unreachable-requires c =
     not-refused (seen_database c.args.provider.now) (seen_database c.args.replica.now) c.args.table.now _ c.requires.provider_made c.requires.root (c.in_ok-consumer.ensures ∙ ap copy_consumer c.node.ensures)
-    (sym c.full.ensures ∙ c.if-full.false) (sym c.spent.ensures ∙ c.if-spent.false) (seen_database c.part.new.self) (seen_database c.join.new.self) c.part.ensures.serves c.in-Err.fault c.in_default.not-NoMemory c.in-Err.ensures.fault
+    (sym c.full.ensures ∙ c.if-full.false) (sym c.spent.ensures ∙ c.if-spent.false) (seen_database c.part.new.self) (seen_database c.join.new.self) c.part.ensures.serves c.in-Err.fault (λ is. search (rules, tests, is)) c.in-Err.ensures.fault
 
 pub returns-clause-begun : goal.returns-clause-begun
 returns-clause-begun c =

@@ -4,7 +4,8 @@ use Rattle.sky_val.specs.declared.event.Event.{Event}
 use Rattle.pgq_tables.specs.Tables.{Stored, Tables}
 use Rattle.pgq_tables.specs.Listed.{is_listed, listed_in}
 use Rattle.pgq_batch.specs.Bound.{is_between, looks_for_ends}
-use Rattle.pgq_batch.proofs.Ages.{ages, next_is, length-ages, looks-next, looks-all, found_here, found_later, found_nowhere, find-by_id}
+use Rattle.pgq_batch.specs.Looked.{ages}
+use Rattle.pgq_batch.proofs.Ages.{next_is, length-ages, looks-next, looks-all, found_here, found_later, found_nowhere, find-by_id}
 use Rattle.pgq_batch.proofs.batch.find.Goals as goal
 
 pub returns-in-Some-clause-found : goal.returns-in-Some-clause-found

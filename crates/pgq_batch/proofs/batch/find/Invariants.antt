@@ -1,7 +1,8 @@
 use Rattle.std.proofs.Common.{◌≡◌, ◌==◌, ◌+◌, ◌≤◌, drop}
 use Rattle.std.specs.Prelude.{find}
 use Rattle.pgq_tables.specs.Listed.{is_listed}
-use Rattle.pgq_batch.proofs.Ages.{ages, passing_of, looks}
+use Rattle.pgq_batch.specs.Looked.{ages}
+use Rattle.pgq_batch.proofs.Ages.{passing_of, looks}
 use Rattle.pgq_batch.proofs.batch.find.Given as goal
 
 -- what is found in the tables that are left is found in all, and there are looks for those that are left

@@ -1,100 +1,92 @@
-use Rattle.std.proofs.Common.{◌≡◌, ◌-◌, ◌^◌, ◌<◌, ◌≤◌, ◌++◌, ◌∷◌, ℕ, [], Some, length, filter, map, take, slice_get, slice_index_or, ap, sym, subst, ◌∙◌, arith, append-nil, rules, Vec, Global}
-use Rattle.sky_val.specs.declared.event.Event.{Event}
-use Rattle.std.proofs.lemmas.List.{length_push}
-use Rattle.pgq_tables.specs.Tables.{Stored, Tables}
+use Rattle.std.proofs.Common.{◌≡◌, Bool, ◌+◌, ◌-◌, ◌<◌, ◌≤◌, ◌∷◌, ℕ, [], true, false, nat_lt, Some, length, filter, map, take, slice_get, slice_index_or, refl, ap, sym, subst, ◌∙◌, arith, rules, Bor, Vec, Global, if◌then◌else◌}
+use Rattle.std.proofs.lemmas.Bool.{ltb-true, ltb-false}
+use Rattle.pgq_tables.specs.Tables.{Stored}
 use Rattle.pgq_tables.specs.Order.{by_txid}
 use Rattle.pgq_tables.specs.Listed.{is_listed}
-use Rattle.pgq_tables.specs.Views.{TablesView, one_more}
+use Rattle.pgq_tables.specs.Views.{LookedView, one_lent}
 use Rattle.pgq_batch.specs.Placed.{with_place}
-use Rattle.pgq_batch.proofs.Between.{below, below_len, gathered, passed_over, listed_between, none_before, none_after, count_between}
-use Rattle.pgq_batch.proofs.Looks.{one_more-upper, one_more-lower, one_more-counts}
+use Rattle.pgq_batch.specs.Looked.{placed_events}
+use Rattle.pgq_batch.proofs.Between.{below, below_len, Gathered, gathered, passed_over, listed_between, none_before, none_after}
+use Rattle.pgq_batch.proofs.Lent.{placed-push}
 use Rattle.pgq_batch.proofs.table.collect.Goals as goal
-use Rattle.pgq_batch.proofs.table.collect.Goals.{then-is_listed+in_ok-event+in_ok-push, else-is_listed}
 
-pub loop-index-init : goal.loop-index-init
-loop-index-init c =
-    let list = slice_index_or c.args.tables.now.tables.lists c.args.table [] in
-    let both = c.ends_between-first.ensures in
-    let none = none_before c.args.prev.now c.args.cur.now (is_listed c.args.prev.now c.args.cur.now c.args.sub) list (listed_between c.args.prev.now c.args.cur.now c.args.sub c.ends_between-first.ensures.sound) in (
-      both.same,
-      sym (append-nil c.args.found.now.items) ∙ ap (λ xs. c.args.found.now.items ++ map with_place xs) (sym none) ∙ ap (λ k. c.args.found.now.items ++ map with_place (filter (λ x. is_listed c.args.prev.now c.args.cur.now c.args.sub x.1) (take k (by_txid list)))) (sym both.first),
-      (let up = both.upper in omega arith),
-      (λ _. let down = both.lower in omega arith),
-      both.first,
-      both.end,
-      (omega arith),
+-- one was left, so it was lent
+one-left : (l next : LookedView) → true ≡ nat_lt l.first l.end → next ≡ one_lent l → (l.first < l.end) × (next ≡ record l { first = l.first + 1 })
+one-left l next left lent = (ltb-true l.first l.end (sym left), lent ∙ ap (λ b. if b then record l { first = l.first + 1 } else l) (sym left))
+
+pub loop-place-init : goal.loop-place-init
+loop-place-init c =
+    let list = slice_index_or c.args.tables.now.tables.lists c.args.looked.table [] in
+    let first : c.args.looked.first ≡ below c.args.prev.now.xmin list = ap LookedView.first c.requires.ends in
+    let none = none_before c.args.prev.now c.args.cur.now (is_listed c.args.prev.now c.args.cur.now c.args.sub) list (listed_between c.args.prev.now c.args.cur.now c.args.sub c.requires.sound) in (
+      ap placed_events c.in_ok-found.ensures.items ∙ ap (λ xs. map with_place xs) (sym none) ∙ ap (λ k. map with_place (filter (λ x. is_listed c.args.prev.now c.args.cur.now c.args.sub x.1) (take k (by_txid list)))) (sym first),
+      refl,
+      ap LookedView.end c.requires.ends,
     )
 
-pub by_txid-requires-clause-index : goal.by_txid-requires-clause-index
-by_txid-requires-clause-index c =
-    let inv = c.loop-index.invariant in
-    let list = slice_index_or c.args.tables.now.tables.lists c.args.table [] in
-    subst (λ (ts : Tables). c.loop-index.index < length (slice_index_or ts.lists c.args.table [])) (sym inv.0)
-    (let most = below_len c.args.cur.now.xmax list in let end = inv.5 in let test = c.loop-index-test.true in omega arith)
+pub next_looked-requires-clause-table : goal.next_looked-requires-clause-table
+next_looked-requires-clause-table c = subst (λ n. n < length c.args.tables.now.tables.lists) (sym c.loop-place.invariant.1) c.requires.table
 
-pub loop-index-preserved : goal.loop-index-preserved
-loop-index-preserved c =
-    let list = slice_index_or c.args.tables.now.tables.lists c.args.table [] in
-    let q = is_listed c.args.prev.now c.args.cur.now c.args.sub in
-    let inv = c.loop-index.invariant in
-    let index : ℕ = c.loop-index.index in
-    let place : ℕ = c.by_txid.result.0 in
-    let stored : Stored = c.by_txid.result.1.now in
-    let counted = c.by_txid.follows.holds-at-none in
-    let within : index < length list = let most = below_len c.args.cur.now.xmax list in let end = inv.5 in let test = c.loop-index-test.true in omega arith in
-    let from_first : c.ends_between-first.result.0 ≤ index = c.loop-index.auto.index in
-    let look : slice_get (by_txid list) index ≡ Some (place, stored) = ap (λ (ts : Tables). slice_get (by_txid (slice_index_or ts.lists c.args.table [])) index) (sym inv.0) ∙ c.by_txid.ensures.event in
-    let up = one_more-upper c.loop-index.tables.reads in
-    let before = inv.2 in
-    elim c.if-is_listed.branch [
-      | then-is_listed+in_ok-event+in_ok-push w ↦
-          let reads : c.if-is_listed.tables.reads ≡ one_more c.loop-index.tables.reads = ap TablesView.reads w.tables-is ∙ ap TablesView.reads counted in
-          let next : c.if-is_listed.found.items ≡ c.loop-index.found.items ++ (place, w.in_ok-event.field-0) ∷ [] = search rules in
-          let longer = ap length next ∙ length_push c.loop-index.found.items (place, w.in_ok-event.field-0) in (
-            ap TablesView.tables w.tables-is ∙ ap TablesView.tables counted ∙ inv.0,
-            gathered with_place q list index (place, stored) (place, w.in_ok-event.field-0) _ _ _ within look (sym c.is_listed.ensures ∙ w.if-is_listed.true) (ap (λ e. (place, e)) w.in_ok-event.ensures) next inv.1,
-            (omega arith),
-            (λ less.
-                let less_before : one_more c.loop-index.tables.reads < 2 ^ 64 - 1 = subst (λ n. n < 2 ^ 64 - 1) reads less in
-                let one = one_more-counts c.loop-index.tables.reads less_before in
-                let old = inv.3 (omega arith) in
-                omega arith),
-            inv.4,
-            inv.5,
-            (let test = c.loop-index-test.true in omega arith),
-          )
-      | else-is_listed w ↦
-          let reads : c.if-is_listed.tables.reads ≡ one_more c.loop-index.tables.reads = ap TablesView.reads w.tables-is ∙ ap TablesView.reads counted in
-          let same = ap (λ (v : Vec (ℕ × Event) Global). v.items) w.found-is in (
-            ap TablesView.tables w.tables-is ∙ ap TablesView.tables counted ∙ inv.0,
-            same ∙ passed_over with_place q list index (place, stored) _ _ within look (sym c.is_listed.ensures ∙ w.if-is_listed.false) inv.1,
-            (omega arith),
-            (λ less.
-                let down = one_more-lower c.loop-index.tables.reads in
-                let old = inv.3 (omega arith) in
-                let longer = ap length same in
-                omega arith),
-            inv.4,
-            inv.5,
-            (let test = c.loop-index-test.true in omega arith),
-          )
-    ]
-
-pub returns-clause-found : goal.returns-clause-found
-returns-clause-found c =
-    let list = slice_index_or c.args.tables.now.tables.lists c.args.table [] in
-    let q = is_listed c.args.prev.now c.args.cur.now c.args.sub in
-    let inv = c.loop-index.invariant in
-    let past : below c.args.cur.now.xmax list ≤ c.loop-index.index = let end = inv.5 in let test = c.loop-index-test.false in omega arith in
-    inv.1 ∙ ap (λ xs. c.args.found.now.items ++ map with_place xs) (none_after c.args.prev.now c.args.cur.now q c.loop-index.index list (listed_between c.args.prev.now c.args.cur.now c.args.sub c.ends_between-first.ensures.sound) past)
-
-pub returns-clause-upper : goal.returns-clause-upper
-returns-clause-upper c =
-    let list = slice_index_or c.args.tables.now.tables.lists c.args.table [] in
-    let inv = c.loop-index.invariant in
-    let most = count_between c.args.prev.now c.args.cur.now list in
-    let first = inv.4 in
-    let end = inv.5 in
-    let up = inv.2 in
-    let read = inv.6 in
+pub next_looked-requires-clause-end : goal.next_looked-requires-clause-end
+next_looked-requires-clause-end c =
+    let most = below_len c.args.cur.now.xmax (slice_index_or c.args.tables.now.tables.lists c.args.looked.table []) in
+    let end = c.loop-place.invariant.2 in
+    let same = ap (λ n. length (slice_index_or c.args.tables.now.tables.lists n [])) c.loop-place.invariant.1 in
     omega arith
+
+pub loop-place-smaller : goal.loop-place-smaller
+loop-place-smaller c =
+    let one = one-left c.loop-place.looked c.next_looked.new.looked c.in-Some.ensures.left c.next_looked.ensures.lent in
+    let less = one.0 in
+    let first = ap LookedView.first one.1 in
+    let end = ap LookedView.end one.1 in
+    omega arith
+
+pub loop-place-smaller-in-Continue-branch-2 : goal.loop-place-smaller-in-Continue-branch-2
+loop-place-smaller-in-Continue-branch-2 c =
+    let one = one-left c.loop-place.looked c.next_looked.new.looked c.in-Some.ensures.left c.next_looked.ensures.lent in
+    let less = one.0 in
+    let first = ap LookedView.first one.1 in
+    let end = ap LookedView.end one.1 in
+    omega arith
+
+pub loop-place-preserved : goal.loop-place-preserved
+loop-place-preserved c =
+    let list = slice_index_or c.args.tables.now.tables.lists c.args.looked.table [] in
+    let q = is_listed c.args.prev.now c.args.cur.now c.args.sub in
+    let inv = c.loop-place.invariant in
+    let index : ℕ = c.loop-place.looked.first in
+    let stored : Stored = c.in-Some.stored.now in
+    let one = one-left c.loop-place.looked c.next_looked.new.looked c.in-Some.ensures.left c.next_looked.ensures.lent in
+    let within : index < length list = let most = below_len c.args.cur.now.xmax list in let end = inv.2 in let less = one.0 in omega arith in
+    let look : slice_get (by_txid list) index ≡ Some (c.in-Some.place, stored) = subst (λ n. slice_get (by_txid (slice_index_or c.args.tables.now.tables.lists n [])) index ≡ Some (c.in-Some.place, stored)) inv.1 c.in-Some.ensures.event in
+    subst (λ (l : LookedView). Gathered with_place q list l.first [] (placed_events c.loop-place.found.items) × (l.table ≡ c.args.looked.table) × (l.end ≡ below c.args.cur.now.xmax list)) (sym one.1) (
+      passed_over with_place q list index (c.in-Some.place, stored) [] _ within look (sym c.if-is_listed.ensures) inv.0,
+      inv.1,
+      inv.2,
+    )
+
+pub loop-place-preserved-in-Continue-branch-2 : goal.loop-place-preserved-in-Continue-branch-2
+loop-place-preserved-in-Continue-branch-2 c =
+    let list = slice_index_or c.args.tables.now.tables.lists c.args.looked.table [] in
+    let q = is_listed c.args.prev.now c.args.cur.now c.args.sub in
+    let inv = c.loop-place.invariant in
+    let index : ℕ = c.loop-place.looked.first in
+    let stored : Stored = c.in-Some.stored.now in
+    let one = one-left c.loop-place.looked c.next_looked.new.looked c.in-Some.ensures.left c.next_looked.ensures.lent in
+    let within : index < length list = let most = below_len c.args.cur.now.xmax list in let end = inv.2 in let less = one.0 in omega arith in
+    let look : slice_get (by_txid list) index ≡ Some (c.in-Some.place, stored) = subst (λ n. slice_get (by_txid (slice_index_or c.args.tables.now.tables.lists n [])) index ≡ Some (c.in-Some.place, stored)) inv.1 c.in-Some.ensures.event in
+    subst (λ (l : LookedView). Gathered with_place q list l.first [] (placed_events c.push.new.self.items) × (l.table ≡ c.args.looked.table) × (l.end ≡ below c.args.cur.now.xmax list)) (sym one.1) (
+      gathered with_place q list index (c.in-Some.place, stored) (c.in-Some.place, stored.event) [] _ _ within look (sym c.if-is_listed.ensures) refl
+          (ap placed_events c.in_ok-push.ensures.items ∙ placed-push c.loop-place.found.items (c.in-Some.place, c.in-Some.stored)) inv.0,
+      inv.1,
+      inv.2,
+    )
+
+pub returns : goal.returns
+returns c =
+    let list = slice_index_or c.args.tables.now.tables.lists c.args.looked.table [] in
+    let q = is_listed c.args.prev.now c.args.cur.now c.args.sub in
+    let inv = c.loop-place.invariant in
+    let past : below c.args.cur.now.xmax list ≤ c.loop-place.looked.first = let end = inv.2 in let none = ltb-false c.loop-place.looked.first c.loop-place.looked.end (sym c.in_default.ensures.left) in omega arith in
+    inv.0 ∙ ap (λ xs. map with_place xs) (none_after c.args.prev.now c.args.cur.now q c.loop-place.looked.first list (listed_between c.args.prev.now c.args.cur.now c.args.sub c.requires.sound) past)

@@ -1,7 +1,8 @@
-use Rattle.std.proofs.Common.{◌+◌, ◌<◌, length, drop, filter, refl, sym, ◌∙◌, subst, arith}
+use Rattle.std.proofs.Common.{◌+◌, ◌<◌, length, drop, filter, refl, sym, ap, ◌∙◌, subst, Some, arith}
+use Rattle.sky_val.specs.declared.event.Event.{Event}
 use Rattle.sky_model.specs.StepApply.{picks}
 use Rattle.sky_state.specs.Seen.{seen}
-use Rattle.pgq_db.specs.Applying.{pick_of}
+use Rattle.pgq_db.specs.Applying.{pick_of, Works}
 use Rattle.pgq_db.proofs.Agreeing.{agree-same}
 use Rattle.pgq_db.proofs.ApplySteps.{IsBetween, between-first, IsAfter, between-next, between-bad, between-done, head-may, made-as, agree-unmade, picked-here, picked-later, picked-few, none-left}
 use Rattle.pgq_db.proofs.apply.apply_all.Goals as goal
@@ -60,10 +61,11 @@ returns-then-not-is_made-clause-work c =
     let p = picks c.args.leaf.now (pick_of c.args.pick.now) in
     let events = c.args.events.now in
     let within : c.loop-event.event-index < length events = omega arith in
-    between-bad (seen c.args.rows.now) (seen c.loop-event.rows) c.args.txid (filter p events) c.event-item.result (filter p (drop (c.loop-event.event-index + 1) events)) c.loop-event.many
+    subst (λ id. Works (record { many = c.loop-event.many; bad = Some id }) (seen c.args.rows.now) (seen c.apply_event.new.rows) c.args.txid (filter p events)) (sym (ap Event.ev_id c.event.view_is))
+    (between-bad (seen c.args.rows.now) (seen c.loop-event.rows) c.args.txid (filter p events) c.event-item.result (filter p (drop (c.loop-event.event-index + 1) events)) c.loop-event.many
     (subst (λ rest. IsBetween (seen c.args.rows.now) (seen c.loop-event.rows) c.args.txid (filter p events) rest c.loop-event.many)
     (picked-here p events c.loop-event.event-index c.event-item.result within c.event-item.is (sym c.picks.ensures ∙ c.if-not-picks.false)) c.loop-event.invariant.between)
-    (seen c.apply_event.new.rows) (made-as _ _ (seen c.loop-event.rows) (seen c.apply_event.new.rows) _ c.if-not-is_made.true c.in_ok-is_made.ensures.made)
+    (seen c.apply_event.new.rows) (made-as _ _ (seen c.loop-event.rows) (seen c.apply_event.new.rows) _ c.if-not-is_made.true c.in_ok-is_made.ensures.made))
 
 pub returns-then-not-is_made-clause-agree : goal.returns-then-not-is_made-clause-agree
 returns-then-not-is_made-clause-agree c = λ q are.

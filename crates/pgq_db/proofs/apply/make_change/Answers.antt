@@ -1,13 +1,17 @@
-use Rattle.std.proofs.Common.{sym, ◌∙◌}
+use Rattle.std.proofs.Common.{◌∙◌, None, sym}
+use Rattle.std.proofs.lemmas.Result.{IfOk-weaker}
+use Rattle.sky_model.specs.StepCopy.{row_for}
 use Rattle.sky_state.specs.Seen.{seen}
-use Rattle.pgq_db.proofs.ApplySteps.{makes-none, makes-one}
+use Rattle.pgq_db.proofs.ApplySteps.{makes-as-met}
+use Rattle.pgq_db.proofs.CopySteps.{own-newest}
 use Rattle.pgq_db.proofs.apply.make_change.Goals as goal
 
-pub returns-then-not-may_meet-clause-made : goal.returns-then-not-may_meet-clause-made
-returns-then-not-may_meet-clause-made c =
-    makes-none (seen c.args.rows.now) c.args.table c.args.txid c.args.change c.args.key c.requires.key c.args.snapshot.now c.requires.present _ c.worker_row.ensures (sym c.may_meet.ensures ∙ c.if-not-may_meet.true)
+pub worker_write_if-requires-clause-last : goal.worker_write_if-requires-clause-last
+worker_write_if-requires-clause-last c = own-newest c.args.txid _ None (c.requires.may.last c.args.key)
 
 pub returns-clause-made : goal.returns-clause-made
 returns-clause-made c =
-    makes-one (seen c.args.rows.now) c.args.table c.args.txid c.args.change c.args.key c.requires.key c.args.snapshot.now c.requires.present _ c.worker_row.ensures (sym c.may_meet.ensures ∙ c.if-not-may_meet.false)
-    c.row_left.result c.row_left.ensures (seen c.write.new.rows) c.in_ok-write.ensures.mark
+    makes-as-met (seen c.args.rows.now) c.args.table c.args.txid c.args.change c.args.key c.requires.key c.args.snapshot.now c.requires.present
+    c.worker_write_if.result (seen c.worker_write_if.new.self) c.row_left.result c.row_left.ensures
+    (IfOk-weaker c.worker_write_if.result _ _ (λ made is. is ∙ sym (c.needs_row-needs_row.ensures _)) c.worker_write_if.ensures.made)
+    (c.worker_write_if.ensures.mark (row_for (seen c.args.rows.now) c.args.table c.args.txid c.args.key)) c.worker_write_if.ensures.unmade

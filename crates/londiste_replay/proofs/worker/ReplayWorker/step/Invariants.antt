@@ -1,4 +1,4 @@
 use Rattle.londiste_replay.proofs.worker.ReplayWorker.step.Given as goal
 
-abbrev pub ghost-go_on : goal.ghost-go_on
-ghost-go_on g a = g.leaf
+abbrev pub ghost-step_empty_handed : goal.ghost-step_empty_handed
+ghost-step_empty_handed g a = g.leaf

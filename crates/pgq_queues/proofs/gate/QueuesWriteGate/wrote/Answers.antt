@@ -14,7 +14,7 @@ pub new-traced-requires : goal.new-traced-requires
 new-traced-requires c =
     subst (λ (ts : List TableTrigger). All (λ place. place < length ts) c.in-Some.table.now.places) (sym c.as_slice.ensures.value)
     (placed-within c.self.inside.triggers.items c.args.table c.in-Some.table.now.places
-    (placed-at c.self.inside.triggers.items c.self.inside.traced.entries c.args.table (Some c.in-Some.table.now) c.in-Some.ensures.value c.self.invariant.1.1.1.places))
+    (placed-at c.self.inside.triggers.items c.self.inside.traced_tables.entries c.args.table (Some c.in-Some.table.now) c.in-Some.ensures.value c.self.invariant.1.1.1.places))
 
 pub tell-requires-clause-within : goal.tell-requires-clause-within
 tell-requires-clause-within c =
@@ -31,7 +31,7 @@ tell-requires-clause-room c =
 
 pub invariant_of-self : goal.invariant_of-self
 invariant_of-self c =
-    ((c.self.invariant.0.0, retried-told c.tell.result (to_z w64 (of_z w64 c.self.inside.time)) c.args.txid (table_events c.new-traced.result (option_copied c.args.old) (option_copied c.args.new)) c.self.inside.slots c.tell.new.queues c.self.inside.retries c.tell.ensures.stand c.tell.ensures.ok c.tell.ensures.err c.self.invariant.0.1), within-still c.self.inside.names c.self.inside.slots c.tell.new.queues c.self.inside.batches.entries c.self.inside.triggers.items c.self.inside.traced.entries c.tell.ensures.stand c.self.invariant.1)
+    ((c.self.invariant.0.0, retried-told c.tell.result (to_z w64 (of_z w64 c.self.inside.time)) c.args.txid (table_events c.new-traced.result (option_copied c.args.old) (option_copied c.args.new)) c.self.inside.slots c.tell.new.queues c.self.inside.retries c.tell.ensures.stand c.tell.ensures.ok c.tell.ensures.err c.self.invariant.0.1), within-still c.self.inside.names c.self.inside.slots c.tell.new.queues c.self.inside.batches.entries c.self.inside.triggers.items c.self.inside.traced_tables.entries c.tell.ensures.stand c.self.invariant.1)
 
 pub returns-clause-ok : goal.returns-clause-ok
 returns-clause-ok c =

@@ -31,7 +31,7 @@ invariant_of-self-in_err-put t c =
             (retried-stays c.self.inside.slots r.queue old new c.self.inside.retries waits.owner.stands c.get_mut.ensures.within c.get_mut.ensures.value stays
             (same-events _ _ (ap QueueView.tables c.in_err-put.ensures.err)) c.self.invariant.0.1),
       ),
-      within-still c.self.inside.names c.self.inside.slots (slice_set c.self.inside.slots r.queue new) c.self.inside.batches.entries c.self.inside.triggers.items c.self.inside.traced.entries
+      within-still c.self.inside.names c.self.inside.slots (slice_set c.self.inside.slots r.queue new) c.self.inside.batches.entries c.self.inside.triggers.items c.self.inside.traced_tables.entries
           (stand-set c.self.inside.slots r.queue old new waits.owner.stands c.get_mut.ensures.within c.get_mut.ensures.value stays) c.self.invariant.1,
     )
 
@@ -51,7 +51,7 @@ invariant_of-self-2 t c =
             (retried-stays c.self.inside.slots r.queue old new c.self.inside.retries waits.owner.stands c.get_mut.ensures.within c.get_mut.ensures.value stays
             (one-event _ _ (brought_by c.args.txid r.event) (ap (λ (q : QueueView). q.tables.tables) c.in_ok-put.ensures.ok) most) c.self.invariant.0.1),
       ),
-      within-still c.self.inside.names c.self.inside.slots (slice_set c.self.inside.slots r.queue new) c.self.inside.batches.entries c.self.inside.triggers.items c.self.inside.traced.entries
+      within-still c.self.inside.names c.self.inside.slots (slice_set c.self.inside.slots r.queue new) c.self.inside.batches.entries c.self.inside.triggers.items c.self.inside.traced_tables.entries
           (stand-set c.self.inside.slots r.queue old new waits.owner.stands c.get_mut.ensures.within c.get_mut.ensures.value stays) c.self.invariant.1,
     )
 

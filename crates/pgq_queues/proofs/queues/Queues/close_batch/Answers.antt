@@ -19,7 +19,7 @@ invariant_of-self-2 c =
             c.close_batch.ensures.but (becomes p.consumer (option_map finished) c.get_mut.result.now c.close_batch.new.self _ c.close_batch.ensures.subs) finish-keeps c.self.invariant.0.1,
       ),
       within-less c.self.inside.names c.self.inside.slots p.queue p.consumer (option_map finished) (Some c.args.id) c.get_mut.result.now c.close_batch.new.self c.self.inside.batches.entries c.remove.new.self.entries
-          c.self.inside.triggers.items c.self.inside.traced.entries c.get_mut.ensures.within c.get_mut.ensures.value (were.stand c.args.id p (sym c.in-Some.ensures.value)) (ap QueueView.ticks c.close_batch.ensures.but)
+          c.self.inside.triggers.items c.self.inside.traced_tables.entries c.get_mut.ensures.within c.get_mut.ensures.value (were.stand c.args.id p (sym c.in-Some.ensures.value)) (ap QueueView.ticks c.close_batch.ensures.but)
           (becomes p.consumer (option_map finished) c.get_mut.result.now c.close_batch.new.self _ c.close_batch.ensures.subs)
           (sym (were.indexed.there c.args.id p (sym c.in-Some.ensures.value)) ∙ ap open_id (sub-here c.self.inside.slots p.queue c.get_mut.result.now p.consumer c.get_mut.ensures.within c.get_mut.ensures.value))
           (finished-none (value_of p.consumer c.get_mut.result.now.subs)) (kept-updated c.self.inside.batches.entries c.remove.new.self.entries c.args.id None c.remove.ensures.updates.0) c.self.invariant.1,

@@ -16,7 +16,7 @@ invariant_of-self c =
     let new = c.commit_switch.new.self in
     let stays = stays-switched old new _ c.commit_switch.ensures in (
       (c.self.invariant.0.0, retried-stays c.self.inside.slots c.args.queue old new c.self.inside.retries stands c.get_mut.ensures.within c.get_mut.ensures.value stays (switch-events old new _ c.commit_switch.ensures) c.self.invariant.0.1),
-      within-still c.self.inside.names c.self.inside.slots (slice_set c.self.inside.slots c.args.queue new) c.self.inside.batches.entries c.self.inside.triggers.items c.self.inside.traced.entries
+      within-still c.self.inside.names c.self.inside.slots (slice_set c.self.inside.slots c.args.queue new) c.self.inside.batches.entries c.self.inside.triggers.items c.self.inside.traced_tables.entries
           (stand-set c.self.inside.slots c.args.queue old new stands c.get_mut.ensures.within c.get_mut.ensures.value stays) c.self.invariant.1,
     )
 

@@ -27,7 +27,7 @@ invariant_of-self c =
         c.self.invariant.0.0,
         retried-dropped _ _ c.args.number c.self.inside.retries c.remove-2.ensures (there c.self.inside.slots c.args.number (stands-there c.self.inside.names c.self.inside.slots c.in-Some.place c.args.number c.self.invariant.1.0 at)) none c.self.invariant.0.1,
       ),
-      within-dropped c.self.inside.names c.args.number c.in-Some.place c.self.inside.slots c.remove-2.new.self c.remove.new.self c.self.inside.batches.entries c.self.inside.triggers.items c.self.inside.traced.entries
+      within-dropped c.self.inside.names c.args.number c.in-Some.place c.self.inside.slots c.remove-2.new.self c.remove.new.self c.self.inside.batches.entries c.self.inside.triggers.items c.self.inside.traced_tables.entries
           c.remove.ensures c.remove-2.ensures c.in-Some.ensures.within at none untold c.self.invariant.1,
     )
 

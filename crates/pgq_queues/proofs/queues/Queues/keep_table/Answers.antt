@@ -13,7 +13,7 @@ invariant_of-self-2 c = (
     c.self.invariant.1.0,
     (
       c.self.invariant.1.1.0,
-      traced-new c.self.inside.slots c.self.inside.triggers.items c.self.inside.traced.entries c.insert.new.self.entries c.args.number c.new-table.result c.in_ok-insert.ensures.updates.0
+      traced-new c.self.inside.slots c.self.inside.triggers.items c.self.inside.traced_tables.entries c.insert.new.self.entries c.args.number c.new-table.result c.in_ok-insert.ensures.updates.0
           (sym c.contains_key.ensures ∙ c.if-contains_key.false) (ap TracedTableView.places c.new-table.ensures) c.self.invariant.1.1.1,
     ),
   ),

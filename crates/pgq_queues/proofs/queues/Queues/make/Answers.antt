@@ -16,7 +16,7 @@ use Rattle.pgq_queues.proofs.Waiting.{retried-same, retried-made}
 use Rattle.pgq_queues.proofs.queues.Queues.make.Goals as goal
 
 pub invariant_of-self : goal.invariant_of-self
-invariant_of-self c = ((c.self.invariant.0.0, retried-same _ _ c.self.inside.retries c.in_err-add.ensures.err c.self.invariant.0.1), within-still c.self.inside.names c.self.inside.slots c.add.new.self c.self.inside.batches.entries c.self.inside.triggers.items c.self.inside.traced.entries (goes-same _ _ c.in_err-add.ensures.err) c.self.invariant.1)
+invariant_of-self c = ((c.self.invariant.0.0, retried-same _ _ c.self.inside.retries c.in_err-add.ensures.err c.self.invariant.0.1), within-still c.self.inside.names c.self.inside.slots c.add.new.self c.self.inside.batches.entries c.self.inside.triggers.items c.self.inside.traced_tables.entries (goes-same _ _ c.in_err-add.ensures.err) c.self.invariant.1)
 
 pub add-requires-2-clause-new : goal.add-requires-2-clause-new
 add-requires-2-clause-new c = number-new _ _ _ c.self.view_is c.self.invariant.1.0.each c.requires.new
@@ -27,13 +27,13 @@ add-requires-2-clause-room c = let same = length-shown _ _ c.self.view_is c.self
 pub invariant_of-self-in-Ok : goal.invariant_of-self-in-Ok
 invariant_of-self-in-Ok c = (
   (c.self.invariant.0.0, retried-made _ _ c.in_ok-queue.queue c.self.inside.retries c.in_ok-add.ensures.ok (subst (λ (q : QueueView). AllStored (RetriedAtMost c.self.inside.rounds) q.tables.tables) (sym c.in_ok-queue.ensures) (stored-new (RetriedAtMost c.self.inside.rounds) c.args.txid c.args.now)) (ap QueueView.subs c.in_ok-queue.ensures) c.self.invariant.0.1),
-  within-made c.self.inside.names _ c.len-number.result c.self.inside.slots c.in_ok-queue.queue c.add-2.new.self c.add.new.self c.self.inside.batches.entries c.self.inside.triggers.items c.self.inside.traced.entries
+  within-made c.self.inside.names _ c.len-number.result c.self.inside.slots c.in_ok-queue.queue c.add-2.new.self c.add.new.self c.self.inside.batches.entries c.self.inside.triggers.items c.self.inside.traced_tables.entries
       c.in-Ok.ensures.added c.len-number.ensures c.in_ok-add.ensures.ok (let one = ap (λ (q : QueueView). length q.ticks) c.in_ok-queue.ensures in omega (arith, one)) (ap QueueView.subs c.in_ok-queue.ensures) c.self.invariant.1,
 )
 
 pub invariant_of-self-in-Err : goal.invariant_of-self-in-Err
 invariant_of-self-in-Err c =
-    let within = within-still c.self.inside.names c.self.inside.slots c.take_back.new.self c.self.inside.batches.entries c.self.inside.triggers.items c.self.inside.traced.entries (goes-same _ _ (c.take_back.ensures c.self.inside.slots c.in_ok-queue.queue c.in_ok-add.ensures.ok)) c.self.invariant.1 in
+    let within = within-still c.self.inside.names c.self.inside.slots c.take_back.new.self c.self.inside.batches.entries c.self.inside.triggers.items c.self.inside.traced_tables.entries (goes-same _ _ (c.take_back.ensures c.self.inside.slots c.in_ok-queue.queue c.in_ok-add.ensures.ok)) c.self.invariant.1 in
     ((c.self.invariant.0.0, retried-same _ _ c.self.inside.retries (c.take_back.ensures c.self.inside.slots c.in_ok-queue.queue c.in_ok-add.ensures.ok) c.self.invariant.0.1), (subst (λ (n : NamedView ℕ). AreNumbers n c.take_back.new.self) (sym c.in-Err.ensures.err) within.0, within.1))
 
 pub returns-in-Ok-clause-mark : goal.returns-in-Ok-clause-mark

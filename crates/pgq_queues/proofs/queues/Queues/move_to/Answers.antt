@@ -19,7 +19,7 @@ invariant_of-self c =
             c.move_to-given_up.ensures.but (becomes c.args.consumer.now (option_map (at_tick c.args.tick)) c.get_mut.result.now c.move_to-given_up.new.self _ c.move_to-given_up.ensures.subs) (tick-keeps c.args.tick) c.self.invariant.0.1,
       ),
       within-less c.self.inside.names c.self.inside.slots c.args.queue name (option_map (at_tick c.args.tick)) (option_map OpenBatch.id c.move_to-given_up.result) old new c.self.inside.batches.entries c.forget.new.places.entries
-          c.self.inside.triggers.items c.self.inside.traced.entries c.get_mut.ensures.within c.get_mut.ensures.value (stands-kept _ _ c.args.queue c.self.view_is c.requires) (ap QueueView.ticks c.move_to-given_up.ensures.but)
+          c.self.inside.triggers.items c.self.inside.traced_tables.entries c.get_mut.ensures.within c.get_mut.ensures.value (stands-kept _ _ c.args.queue c.self.view_is c.requires) (ap QueueView.ticks c.move_to-given_up.ensures.but)
           (becomes name (option_map (at_tick c.args.tick)) old new _ c.move_to-given_up.ensures.subs) (ap (option_map OpenBatch.id) c.move_to-given_up.ensures.given_up) (tick-none c.args.tick (value_of name old.subs))
           c.forget.ensures c.self.invariant.1,
     )

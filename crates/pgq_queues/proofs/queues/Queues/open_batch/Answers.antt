@@ -19,7 +19,7 @@ invariant_of-self-2 c =
         retried-becomes c.self.inside.slots c.args.queue c.get_mut.result.now c.open_batch.new.self c.args.consumer.now (option_map (with_open (record { id = id; cur = c.args.cur }))) c.self.inside.retries (stands-kept _ _ c.args.queue c.self.view_is c.requires.queue) c.get_mut.ensures.within c.get_mut.ensures.value
             c.open_batch.ensures.but (becomes c.args.consumer.now (option_map (with_open (record { id = id; cur = c.args.cur }))) c.get_mut.result.now c.open_batch.new.self _ c.open_batch.ensures.subs) (open-keeps (record { id = id; cur = c.args.cur })) c.self.invariant.0.1,
       ),
-      within-more c.self.inside.names c.self.inside.slots c.args.cur id p c.get_mut.result.now c.open_batch.new.self old c.insert.new.self.entries c.self.inside.triggers.items c.self.inside.traced.entries
+      within-more c.self.inside.names c.self.inside.slots c.args.cur id p c.get_mut.result.now c.open_batch.new.self old c.insert.new.self.entries c.self.inside.triggers.items c.self.inside.traced_tables.entries
           c.get_mut.ensures.within c.get_mut.ensures.value (stands-kept _ _ c.args.queue c.self.view_is c.requires.queue) c.open_batch.ensures.but c.open_batch.ensures.subs refl
           (is-free _ _ c.args.queue c.args.consumer.now c.self.view_is c.requires.free)
           (λ n. kept-updated old c.insert.new.self.entries id (Some (record { queue = c.args.queue; consumer = c.in_ok-copy.field-0 })) c.in_ok-insert.ensures.updates.0 n

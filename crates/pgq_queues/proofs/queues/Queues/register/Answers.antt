@@ -15,7 +15,7 @@ invariant_of-self-2 c = let x : SubView = record { id = c.self.inside.last_sub_i
         c.get_mut.ensures.within c.get_mut.ensures.value c.in_ok-register.ensures.but (becomes c.args.consumer.now (λ _. Some x) c.get_mut.result.now c.register.new.self _ c.in_ok-register.ensures.subs)
         (not-kept _ _ c.args.queue c.args.consumer.now c.self.view_is c.requires.new) c.self.invariant.0.1,
   ),
-  within-come c.self.inside.names c.self.inside.slots c.args.queue _ c.args.tick c.args.consumer.now c.get_mut.result.now c.register.new.self c.self.inside.batches.entries c.self.inside.triggers.items c.self.inside.traced.entries
+  within-come c.self.inside.names c.self.inside.slots c.args.queue _ c.args.tick c.args.consumer.now c.get_mut.result.now c.register.new.self c.self.inside.batches.entries c.self.inside.triggers.items c.self.inside.traced_tables.entries
       c.get_mut.ensures.within c.get_mut.ensures.value (stands-kept _ _ c.args.queue c.self.view_is c.requires.queue) c.in_ok-register.ensures.but c.in_ok-register.ensures.subs
       (not-kept _ _ c.args.queue c.args.consumer.now c.self.view_is c.requires.new) c.self.invariant.1,
 )

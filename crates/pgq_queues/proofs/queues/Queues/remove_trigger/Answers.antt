@@ -13,7 +13,7 @@ invariant_of-self c =
         c.self.invariant.1.0,
         (
           c.self.invariant.1.1.0,
-          traced-removed c.self.inside.slots c.self.inside.triggers.items c.remove.new.self.items c.args.place c.self.inside.traced.entries c.retain.new.self.entries c.remove.ensures.items low moves
+          traced-removed c.self.inside.slots c.self.inside.triggers.items c.remove.new.self.items c.args.place c.self.inside.traced_tables.entries c.retain.new.self.entries c.remove.ensures.items low moves
               c.self.invariant.1.1.1,
         ),
       ),

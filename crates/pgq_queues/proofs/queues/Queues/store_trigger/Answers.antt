@@ -5,7 +5,7 @@ use Rattle.pgq_queues.proofs.queues.Queues.store_trigger.Goals as goal
 
 pub invariant_of-self-in_err-add-in-Some : goal.invariant_of-self-in_err-add-in-Some
 invariant_of-self-in_err-add-in-Some c =
-    let old = c.self.inside.traced.entries in
+    let old = c.self.inside.traced_tables.entries in
     let new = (c.get_mut.follows.lender c.add.new.self).entries in
     let updates : Updated old new c.trigger.inside.table (Some c.add.new.self) = ((c.get_mut.follows.holds c.add.new.self).3 (sym (ap is_some c.in-Some.ensures.value))).0 in (
       c.self.invariant.0,
@@ -21,7 +21,7 @@ invariant_of-self-in_err-add-in-Some c =
 
 pub invariant_of-self-2 : goal.invariant_of-self-2
 invariant_of-self-2 c =
-    let old = c.self.inside.traced.entries in
+    let old = c.self.inside.traced_tables.entries in
     let new = (c.get_mut.follows.lender c.add.new.self).entries in
     let updates : Updated old new c.trigger.inside.table (Some c.add.new.self) = ((c.get_mut.follows.holds c.add.new.self).3 (sym (ap is_some c.in-Some.ensures.value))).0 in
     let low = stands-kept _ _ c.args.trigger.trigger.queue c.self.view_is c.requires.queue in (

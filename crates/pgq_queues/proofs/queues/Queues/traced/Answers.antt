@@ -8,7 +8,7 @@ pub new-requires : goal.new-requires
 new-requires c =
     subst (λ (ts : List TableTrigger). All (λ place. place < length ts) c.in_ok-traced.traced.now.places) (sym c.as_slice.ensures.value)
     (placed-within c.self.inside.triggers.items c.args.table c.in_ok-traced.traced.now.places
-    (placed-at c.self.inside.triggers.items c.self.inside.traced.entries c.args.table (Some c.in_ok-traced.traced.now) c.in_ok-traced.ensures.value c.self.invariant.1.1.1.places))
+    (placed-at c.self.inside.triggers.items c.self.inside.traced_tables.entries c.args.table (Some c.in_ok-traced.traced.now) c.in_ok-traced.ensures.value c.self.invariant.1.1.1.places))
 
 pub returns-clause-traced : goal.returns-clause-traced
 returns-clause-traced c = traced-found _ _ c.args.table _ c.in_ok-traced.traced.now _ c.self.view_is c.as_slice.ensures.value c.in_ok-traced.ensures.value c.new.ensures c.self.invariant.1.1.1.places
