@@ -1,5 +1,5 @@
-//! The keys that one transaction wrote, in the order of its writes. One more takes no search, but to look for one takes a
-//! walk through all, so no key is looked for: they serve to forget them all.
+//! The keys that one transaction wrote, in the order of its writes. They are read only to roll it back: adding a key
+//! takes no search, and none is looked up here.
 
 ghost use Rattle.std.specs.Prelude.{◌≡◌, ◌&&◌, ◌||◌, ◌==◌, not, ℕ, true, false, None, Some, List, OnOk, IfNone, IfSome};
 ghost use Rattle.std.specs.List.{list_any};

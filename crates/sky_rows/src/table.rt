@@ -36,8 +36,8 @@ pub struct Table {
     older: Older,
 
     // By it a transaction that has no version at a key need not look through all versions there, and `forget` visits no
-    // key but its own. Of a transaction that was pruned it knows nothing: its version is looked for at the key, and
-    // `forget` visits all keys.
+    // key but its own. Of a transaction that was pruned or is unlisted it knows nothing: its version is looked for at the
+    // key, and `forget` visits the keys in the log if it has that transaction's, else all.
     written: Written,
 
     // The keys of the one transaction that `written` doesn't list.
@@ -259,8 +259,8 @@ impl Table {
     }
 
     /// The same as `write`, but only if the key has a row before, as `read` gives it to the transaction, or, if `needs_row`
-    /// is false, only if it has none. Answers whether it was written. The key is found once, and isn't looked for among
-    /// those that the transaction wrote.
+    /// is false, only if it has none. Answers whether it was written. The key is found once, and if the transaction's keys
+    /// are logged, it isn't looked for among them.
     pub fn write_if(
         &mut self,
         txid: u64,
