@@ -8,7 +8,7 @@ use Rattle.londiste_state.specs.declared.state.TableState.{TableState}
 use Rattle.londiste_state.specs.declared.state.TableState.TheVariants.{Absent, InCopy, CatchingUp, WannaSync, DoSync, Synced}
 use Rattle.londiste_state.specs.Moves.{is_allowed}
 use Rattle.londiste_state.specs.Nodes.{LeafTable, Leaf, of_leaf, is_among, all_but, tables_of}
-use Rattle.sky_model.specs.History.{NodeMark, root_made, listed, unlisted, leaf_made, leaf_added, leaf_removed, History}
+use Rattle.sky_model.specs.History.{NodeMark, root_made, set_added, set_removed, leaf_made, leaf_added, leaf_removed, History}
 use Rattle.sky_model.specs.Nodes.{after_node, node, is_leaf, leaf_tables}
 use Rattle.sky_model.specs.State.{Database}
 use Rattle.sky_model.specs.StepNode.{moving, may_move, may_serve}
@@ -50,8 +50,8 @@ distinct-less name (x ∷ names) are =
 distinct-noded : (h : History) (mark : NodeMark) → NodeFits h mark → Distinct (leaf_tables (node h)) → Distinct (leaf_tables (after_node mark (node h)))
 distinct-noded h (root_made name queue) fits are = tt
 distinct-noded h (leaf_made name provider tick) fits are = tt
-distinct-noded h (listed table) fits are = subst Distinct (sym (leaf-other _ (node h))) are
-distinct-noded h (unlisted table) fits are = subst Distinct (sym (leaf-other _ (node h))) are
+distinct-noded h (set_added table) fits are = subst Distinct (sym (leaf-other _ (node h))) are
+distinct-noded h (set_removed table) fits are = subst Distinct (sym (leaf-other _ (node h))) are
 distinct-noded h (leaf_added table) fits are =
     let parts = and_parts (is_leaf (node h)) (not (is_among table (leaf_tables (node h)))) fits.may in
     subst Distinct (sym (leaf-added (node h) table parts.0)) (distinct-push (leaf_tables (node h)) table (grind (arith, parts.1)) are)

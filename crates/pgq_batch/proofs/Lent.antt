@@ -7,7 +7,7 @@ use Rattle.sky_val.specs.declared.event.Event.{Event}
 use Rattle.sky_txid.specs.Snapshot.{SnapshotView}
 use Rattle.pgq_tables.specs.Tables.{Stored, Tables}
 use Rattle.pgq_tables.specs.Views.{LookedView}
-use Rattle.pgq_batch.specs.Looked.{ages, count_below, IsLookedAt, AreLookedAtUpTo, AreLookedAt, events_of, placed_events}
+use Rattle.pgq_batch.specs.Looked.{ages, count_below, IsLookedAt, AreLookedAtUpTo, AreLookedAt, lent_events, placed_events}
 use Rattle.pgq_batch.proofs.Keyed.{passing-cons, one_if}
 use Rattle.pgq_batch.proofs.Between.{Between, below}
 use Rattle.pgq_batch.proofs.Ages.{passing_of, passing_of-more, length-ages}
@@ -105,7 +105,7 @@ some-left looks lent left rest l whole next =
     omega arith
 
 -- one more is lent
-pub events-push : (found : List (Bor Stored)) (s : Bor Stored) → events_of (found ++ s ∷ []) ≡ events_of found ++ s.now.event ∷ []
+pub events-push : (found : List (Bor Stored)) (s : Bor Stored) → lent_events (found ++ s ∷ []) ≡ lent_events found ++ s.now.event ∷ []
 events-push found s = map-append (λ (b : Bor Stored). b.now.event) found (s ∷ [])
 
 pub placed-push : (found : List (ℕ × Bor Stored)) (x : ℕ × Bor Stored) → placed_events (found ++ x ∷ []) ≡ placed_events found ++ (x.0, x.1.now.event) ∷ []

@@ -7,7 +7,7 @@ use Rattle.sky_val.specs.declared.event.Event.{Event}
 use Rattle.pgq_tables.specs.ById.{with_event, by_id_onto, by_id, with_id, InOrder}
 use Rattle.pgq_tables.specs.Tables.{Stored}
 use Rattle.pgq_batch.specs.Placed.{put_by_place, by_place_onto, by_place}
-use Rattle.pgq_batch.specs.Looked.{events_of, placed_events}
+use Rattle.pgq_batch.specs.Looked.{lent_events, placed_events}
 use Rattle.pgq_batch.proofs.Keyed.{put_by, put_all_by, in_order_by, Rises, with_key, is_in_order_by, in_order_by-rising, All-in_order_by, Rises-in_order_by, with_key-in_order_by}
 use Rattle.pgq_batch.proofs.ByTxid.{place_of}
 
@@ -105,11 +105,11 @@ by_id-is es = by_id_onto-is [] es
 abbrev pub id_of : Bor Stored → ℕ
 id_of s = s.now.event.ev_id
 
-pub by_id-rising : (xs : List (Bor Stored)) → Climbs id_of xs → events_of xs ≡ by_id (events_of xs)
-by_id-rising xs up = ap events_of (rising id_of xs up) ∙ map-in_order_by (λ (s : Bor Stored). s.now.event) Event.ev_id xs ∙ sym (by_id-is (events_of xs))
+pub by_id-rising : (xs : List (Bor Stored)) → Climbs id_of xs → lent_events xs ≡ by_id (lent_events xs)
+by_id-rising xs up = ap lent_events (rising id_of xs up) ∙ map-in_order_by (λ (s : Bor Stored). s.now.event) Event.ev_id xs ∙ sym (by_id-is (lent_events xs))
 
-pub by_id-sorted : (xs ys : List (Bor Stored)) → IsNonDecreasingBy id_of ys → IsStableByKey id_of nat_cmp xs ys → events_of ys ≡ by_id (events_of xs)
-by_id-sorted xs ys up stable = ap events_of (sorted id_of xs ys up stable) ∙ map-in_order_by (λ (s : Bor Stored). s.now.event) Event.ev_id xs ∙ sym (by_id-is (events_of xs))
+pub by_id-sorted : (xs ys : List (Bor Stored)) → IsNonDecreasingBy id_of ys → IsStableByKey id_of nat_cmp xs ys → lent_events ys ≡ by_id (lent_events xs)
+by_id-sorted xs ys up stable = ap lent_events (sorted id_of xs ys up stable) ∙ map-in_order_by (λ (s : Bor Stored). s.now.event) Event.ev_id xs ∙ sym (by_id-is (lent_events xs))
 
 -- what holds of each event holds of each by id
 pub All-by_id : (P : Event → Type 0) (es : List Event) → All P es → All P (by_id es)

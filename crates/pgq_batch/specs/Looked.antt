@@ -18,14 +18,14 @@ looked_in from to table list = record { table = table; first = count_below from.
 abbrev pub ages : Tables → List (List Stored)
 ages ts = drop (ts.current + 1) ts.lists ++ take (ts.current + 1) ts.lists
 
--- they are those of the table of an age
+-- a look is at the events of the table of this age, those between the two bounds
 pub record IsLookedAt (from to : SnapshotView) (ts : Tables) (turn : ℕ) (l : LookedView) : Type 0 where
   pub within : l.table < length ts.lists
   pub table : slice_index_or (ages ts) turn [] ≡ slice_index_or ts.lists l.table []
   pub ends : l ≡ looked_in from to l.table (slice_index_or ts.lists l.table [])
   pub sound : is_snapshot to ≡ true
 
--- each of these are those of the table of its age, from the oldest on, up to so many
+-- there are so many looks, one at each table, from the oldest on
 pub record AreLookedAtUpTo (from to : SnapshotView) (ts : Tables) (many : ℕ) (looks : List LookedView) : Type 0 where
   pub count : length looks ≡ many
   pub each : (turn : ℕ) (l : LookedView) → slice_get looks turn ≡ Some l → IsLookedAt from to ts turn l
@@ -35,8 +35,8 @@ abbrev pub AreLookedAt : (from to : SnapshotView) → Tables → List LookedView
 AreLookedAt from to ts looks = AreLookedAtUpTo from to ts (length ts.lists) looks
 
 -- the events that are lent
-abbrev pub events_of : List (Bor Stored) → List Event
-events_of found = map (λ s. s.now.event) found
+abbrev pub lent_events : List (Bor Stored) → List Event
+lent_events found = map (λ s. s.now.event) found
 
 -- with their places
 abbrev pub placed_events : List (ℕ × Bor Stored) → List (ℕ × Event)

@@ -2,7 +2,7 @@ ghost use Rattle.std.specs.Prelude.{◌≡◌, ℕ, ◌==◌, ◌+◌, ◌-◌, 
 ghost use Rattle.pgq_tables.specs.Listed.{listed};
 ghost use Rattle.pgq_tables.specs.Tables.{recorded_part};
 ghost use Rattle.pgq_batch.specs.Bound.{most_looks};
-ghost use Rattle.pgq_batch.specs.Looked.{events_of, AreLookedAt};
+ghost use Rattle.pgq_batch.specs.Looked.{lent_events, AreLookedAt};
 
 use crate::ends::ends_between;
 use crate::placed::{move_to, sort_by_id, sort_by_place};
@@ -36,7 +36,8 @@ pub fn look(
     Ok(looks)
 }
 
-/// Those that it lists: they are between two snapshots, for a subscription and not dead, and are in order of their ids.
+/// Of the events that were looked at those that a batch lists: they are between two snapshots, for a subscription and not
+/// dead, and are in order of their ids.
 pub fn lend<'a>(
     alloc: Global,
     tables: &'a EventTables,
@@ -46,7 +47,7 @@ pub fn lend<'a>(
     sub: u64,
 ) -> Result<Vec<&'a Stored>, NoMemory>
     requires { AreLookedAt prev.now cur.now tables.now.tables looks.items }
-    ensures { IfOk result (λ found. events_of found.items ≡ listed prev.now cur.now sub tables.now.tables) }
+    ensures { IfOk result (λ found. lent_events found.items ≡ listed prev.now cur.now sub tables.now.tables) }
 {
     let mut events = Vec::new(alloc);
     for looked in looks {
@@ -80,7 +81,7 @@ pub fn select(
 
 /// Equal events.
 fn copies(alloc: Global, found: &[&Stored]) -> Result<Vec<Event>, NoMemory>
-    ensures { IfOk result (λ events. events.items ≡ events_of found.now) }
+    ensures { IfOk result (λ events. events.items ≡ lent_events found.now) }
 {
     let mut events = Vec::with_capacity(alloc, found.len())?;
     for stored in found {
@@ -89,9 +90,9 @@ fn copies(alloc: Global, found: &[&Stored]) -> Result<Vec<Event>, NoMemory>
     Ok(events)
 }
 
-/// What of events records changes of rows.
+/// The parts of events that record changes of rows.
 pub fn recorded<'a>(alloc: Global, found: &[&'a Stored]) -> Result<Vec<Recorded<'a>>, NoMemory>
-    ensures { IfOk result (λ events. events.items ≡ map recorded_part (events_of found.now)) }
+    ensures { IfOk result (λ events. events.items ≡ map recorded_part (lent_events found.now)) }
 {
     let mut events = Vec::with_capacity(alloc, found.len())?;
     for stored in found {

@@ -1,7 +1,7 @@
 ghost use Rattle.std.specs.Prelude.{◌≡◌, ◌++◌, map, OnOk};
 ghost use Rattle.pgq_tables.specs.ById.{by_id};
 ghost use Rattle.pgq_batch.specs.Placed.{by_place};
-ghost use Rattle.pgq_batch.specs.Looked.{events_of, placed_events};
+ghost use Rattle.pgq_batch.specs.Looked.{lent_events, placed_events};
 
 use pgq_tables::Stored;
 use sky_val::NoMemory;
@@ -22,7 +22,7 @@ pub(crate) fn move_to<'a>(
     events: &mut Vec<&'a Stored>,
     placed: Vec<(usize, &'a Stored)>,
 ) -> Result<(), NoMemory>
-    ensures { OnOk result (events_of events.new.items ≡ events_of events.old.items ++ map (λ x. x.1) (placed_events placed.entry.items)) }
+    ensures { OnOk result (lent_events events.new.items ≡ lent_events events.old.items ++ map (λ x. x.1) (placed_events placed.entry.items)) }
 {
     events.reserve(placed.len())?;
     for (_, event) in placed {
@@ -33,7 +33,7 @@ pub(crate) fn move_to<'a>(
 
 /// Puts events in order of their ids, those with equal ids in the order that they had.
 pub(crate) fn sort_by_id(events: &mut Vec<&Stored>) -> Result<(), NoMemory>
-    ensures { OnOk result (events_of events.new.items ≡ by_id (events_of events.old.items)) }
+    ensures { OnOk result (lent_events events.new.items ≡ by_id (lent_events events.old.items)) }
 {
     // Most events are stored by id, but for those that came back to be retried, which keep an older one.
     if !events.is_sorted_by_key(|event| event.id()) {

@@ -13,7 +13,7 @@ use sky_txid::Snapshot;
 use sky_val::{Event, NoMemory};
 use std::alloc::Global;
 
-/// Those of the events of a table that were looked at that a batch lists, each with its place there, in order of their
+/// Of a table's events that were looked at those that a batch lists, each with its place there, in order of their
 /// transactions.
 pub(crate) fn collect<'a>(
     alloc: Global,

@@ -15,7 +15,7 @@ use Rattle.sky_model.specs.declared.reply.Refusal.{Refusal}
 use Rattle.sky_model.specs.declared.reply.Refusal.TheVariants.{BadColumn, HasConsumers, HasTriggers, NoTable, QueueBusy, ReservedType, SetQueue, TableBusy, TooMany, TriggerExists, EventIdsSpent, IdsSpent}
 use Rattle.sky_model.specs.declared.stmt.Stmt.{Stmt}
 use Rattle.sky_model.specs.declared.stmt.Where.{Where}
-use Rattle.sky_model.specs.History.{Mark, looked, block_failed, queued, QueueMark, made, raised, put, dropped, traced}
+use Rattle.sky_model.specs.History.{Mark, sight_taken, block_failed, queued, QueueMark, made, raised, put, dropped, traced}
 use Rattle.sky_model.specs.Sessions.{Block, outside, inside}
 use Rattle.sky_model.specs.Queues.{queue_number}
 use Rattle.sky_model.specs.Nodes.{is_set_queue}
@@ -255,8 +255,8 @@ answers-entered d s1 s2 time now who stmt place before after at is enters but gi
         (subst (λ t. Answers s1 s2 before after who (or_refused who (s1.part.session who) (form s1 (shown_by s1) t who stmt))) at gives)
 
     of : (b : Bool) → s1 ≡ record d { part = after_part_marks d.part (look_of who b) }
-        → Answers d s2 before after who (if b then looking who (runs m who (after_mark d (looked who))) else runs m who d)
-    of true e = (let g = there (after_mark d (looked who)) e in (record { replied = g.0.replied; changed = g.0.changed }, g.1))
+        → Answers d s2 before after who (if b then looking who (runs m who (after_mark d (sight_taken who))) else runs m who d)
+    of true e = (let g = there (after_mark d (sight_taken who)) e in (record { replied = g.0.replied; changed = g.0.changed }, g.1))
     of false e = there d e
 
 -- and one that was refused at the door
@@ -284,7 +284,7 @@ reply-entered d s1 now who stmt place is enters but =
     entered = subst (λ p. Enters d.part s1.part who p None) is enters
 
     of : (b : Bool) → s1 ≡ record d { part = after_part_marks d.part (look_of who b) }
-        → (if b then looking who (runs m who (after_mark d (looked who))) else runs m who d).reply ≡ (or_refused who (s1.part.session who) (form s1 (shown_by s1) now who stmt)).reply
+        → (if b then looking who (runs m who (after_mark d (sight_taken who))) else runs m who d).reply ≡ (or_refused who (s1.part.session who) (form s1 (shown_by s1) now who stmt)).reply
     of true e = ap (λ (x : Database). (or_refused who (x.part.session who) (form x (shown_by x) now who stmt)).reply) (sym e)
     of false e = ap (λ (x : Database). (or_refused who (x.part.session who) (form x (shown_by x) now who stmt)).reply) (sym e)
 

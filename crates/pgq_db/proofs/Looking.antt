@@ -27,7 +27,7 @@ use Rattle.pgq_db.specs.Looks.{most_for, LooksFor, LooksWithin, RanWithin, Looks
 
 -- ---- the queues as the gate
 
-reads-set : (queues : List QueueView) (i n : ℕ) (x : QueueView) → x.tables.reads ≡ (get_or queues i no_queue).tables.reads → reads_at (slice_set queues i x) n ≡ reads_at queues n
+reads-set : (queues : List QueueView) (i n : ℕ) (x : QueueView) → x.event_tables.reads ≡ (get_or queues i no_queue).event_tables.reads → reads_at (slice_set queues i x) n ≡ reads_at queues n
 reads-set [] i n x is = refl
 reads-set (q ∷ qs) zero zero x is = is
 reads-set (q ∷ qs) zero (suc n) x is = refl
@@ -42,7 +42,7 @@ reads-told (e ∷ es) queues now t n =
 
 reads-mark : (q : QueuesView) (mark : Mark) → ReadsNone q (passed event_rule q mark)
 reads-mark q (tabled (wrote (of_session who) t table key old new)) = λ n. reads-told (events_at (traced_at q table) (record { table = table; old = old; new = new })) q.queues q.time t n
-reads-mark q (ended whose t false) = λ n. ap (λ (x : QueueView). x.tables.reads) (undone-get t q.queues n)
+reads-mark q (ended whose t false) = λ n. ap (λ (x : QueueView). x.event_tables.reads) (undone-get t q.queues n)
 reads-mark q mark = λ n. refl
 
 reads-all : (q : QueuesView) (marks : List Mark) → ReadsNone q (passed_all event_rule q marks)

@@ -8,7 +8,7 @@ use Rattle.londiste_state.specs.Nodes.{Node, Leaf, of_root, of_leaf, is_among, a
 use Rattle.sky_model.specs.declared.reply.Reply.TheVariants.{Done, Number, Null}
 use Rattle.sky_model.specs.declared.reply.Limit.TheVariants.{Consumers, Triggers}
 use Rattle.sky_model.specs.declared.reply.Refusal.TheVariants.{ConsumerExists, IdsSpent, TableBusy, TooMany}
-use Rattle.sky_model.specs.History.{Mark, tabled, read_only, queued, registered, traced, untraced, noded, NodeMark, listed, unlisted, joined, parted, leaf_made, leaf_added, leaf_removed, state_set}
+use Rattle.sky_model.specs.History.{Mark, tabled, read_only, queued, registered, traced, untraced, noded, NodeMark, set_added, set_removed, joined, parted, leaf_made, leaf_added, leaf_removed, state_set}
 use Rattle.sky_model.specs.Nodes.{after_node}
 use Rattle.sky_model.specs.Triggers.{triggers_of}
 use Rattle.sky_model.specs.Copies.{copy_txid}
@@ -100,7 +100,7 @@ joined-back (Some (of_root r)) consumer new = ap (λ (names : List (List ℕ)). 
 joined-back (Some (of_leaf l)) consumer new = refl
 joined-back None consumer new = refl
 
-pub listed-back : (node : Option Node) (table : List ℕ) → may_serve (listing table) node ≡ true → after_node (unlisted table) (after_node (listed table) node) ≡ node
+pub listed-back : (node : Option Node) (table : List ℕ) → may_serve (listing table) node ≡ true → after_node (set_removed table) (after_node (set_added table) node) ≡ node
 listed-back (Some (of_root r)) table may = ap (λ (names : List (List ℕ)). Some (of_root (record r { tables = names }))) (added-back table r.tables (new (is_among table r.tables) may))
   where
     new : (b : Bool) → not b ≡ true → b ≡ false
@@ -193,10 +193,10 @@ moving-there d name state table may there = is-served d (moving name state) may 
 
 module _ (d : Database) (q : ℕ) (name : List ℕ) (table : ℕ) (may : may_serve (listing name) d.node ≡ true) (set : set_queue d ≡ Some q) (there : place_of name d.part.tables ≡ Some table) where
   listing-there : (b : Bool) (o : Option ℕ) → nat_le 8 (length (triggers_of table d.triggers)) ≡ b → least_writer d.part table ≡ o
-      → node_does d (listing name) ≡ (refused_if b (TooMany Triggers) >> (refused_by (option_map TableBusy o) >> does_marks Done (noded (listed name) ∷ queued (traced table None (set_trigger q)) ∷ [])))
+      → node_does d (listing name) ≡ (refused_if b (TooMany Triggers) >> (refused_by (option_map TableBusy o) >> does_marks Done (noded (set_added name) ∷ queued (traced table None (set_trigger q)) ∷ [])))
   listing-there b o full busy =
       is-served d (listing name) may ∙ ap (λ x. if_there x (λ queue. if_there (table_number d name) (λ t. lists d queue t name))) set ∙ ap (λ x. if_there x (λ t. lists d q t name)) there
-      ∙ (λ i. refused_if (full i) (TooMany Triggers) >> (refused_by (option_map TableBusy (busy i)) >> does_marks Done (noded (listed name) ∷ queued (traced table None (set_trigger q)) ∷ [])))
+      ∙ (λ i. refused_if (full i) (TooMany Triggers) >> (refused_by (option_map TableBusy (busy i)) >> does_marks Done (noded (set_added name) ∷ queued (traced table None (set_trigger q)) ∷ [])))
 
   pub list-full : (n : ℕ) → n ≡ length (triggers_of table d.triggers) → 8 ≤ n → node_does d (listing name) ≡ Err (TooMany Triggers)
   list-full n is many = let full : nat_le 8 (length (triggers_of table d.triggers)) ≡ true = grind (arith, nat_tests) in listing-there true _ full refl
@@ -205,30 +205,30 @@ module _ (d : Database) (q : ℕ) (name : List ℕ) (table : ℕ) (may : may_ser
   list-busy n txid is few busy = let room : nat_le 8 (length (triggers_of table d.triggers)) ≡ false = grind (arith, nat_tests) in listing-there false (Some txid) room (sym busy)
 
   pub list-does : (n : ℕ) → n ≡ length (triggers_of table d.triggers) → n < 8 → None ≡ least_writer d.part table
-      → node_does d (listing name) ≡ does_marks Done (noded (listed name) ∷ queued (traced table None (set_trigger q)) ∷ [])
+      → node_does d (listing name) ≡ does_marks Done (noded (set_added name) ∷ queued (traced table None (set_trigger q)) ∷ [])
   list-does n is few free = let room : nat_le 8 (length (triggers_of table d.triggers)) ≡ false = grind (arith, nat_tests) in listing-there false None room (sym free)
 
 pub unlisting-there : (d : Database) (name : List ℕ) (table : ℕ) → may_serve (unlisting name) d.node ≡ true → place_of name d.part.tables ≡ Some table
-    → node_does d (unlisting name) ≡ does_marks Done (noded (unlisted name) ∷ queued (untraced table) ∷ [])
+    → node_does d (unlisting name) ≡ does_marks Done (noded (set_removed name) ∷ queued (untraced table) ∷ [])
 unlisting-there d name table may there = is-served d (unlisting name) may ∙ ap (λ x. if_there x (λ t. unlists t name)) there
 
 pub listed-as : (v now : DbView) (queues : QueuesView) (node : Option Node) (q table : ℕ) (name : List ℕ) → v ≡ now
     → ((beside : Beside) → seen_with beside queues ≡ after_mark (seen_with beside v.queues) (queued (traced table None (set_trigger q))))
-    → node ≡ after_node (listed name) v.node.own
-    → seen_database (record v { queues = queues; node = record v.node { own = node } }) ≡ after_marks (seen_database now) (noded (listed name) ∷ queued (traced table None (set_trigger q)) ∷ [])
+    → node ≡ after_node (set_added name) v.node.own
+    → seen_database (record v { queues = queues; node = record v.node { own = node } }) ≡ after_marks (seen_database now) (noded (set_added name) ∷ queued (traced table None (set_trigger q)) ∷ [])
 listed-as v now queues node q table name same mark noding =
     mark (with_node (record v.node { own = node }) (seen v.rows))
     ∙ (λ i. after_mark (seen_with (with_node (record v.node { own = noding i }) (seen v.rows)) v.queues) (queued (traced table None (set_trigger q))))
-    ∙ ap (λ (w : DbView). after_marks (seen_database w) (noded (listed name) ∷ queued (traced table None (set_trigger q)) ∷ [])) same
+    ∙ ap (λ (w : DbView). after_marks (seen_database w) (noded (set_added name) ∷ queued (traced table None (set_trigger q)) ∷ [])) same
 
 pub unlisted-as : (v now : DbView) (queues : QueuesView) (node : Option Node) (table : ℕ) (name : List ℕ) → v ≡ now
     → ((beside : Beside) → seen_with beside queues ≡ after_mark (seen_with beside v.queues) (queued (untraced table)))
-    → node ≡ after_node (unlisted name) v.node.own
-    → seen_database (record v { queues = queues; node = record v.node { own = node } }) ≡ after_marks (seen_database now) (noded (unlisted name) ∷ queued (untraced table) ∷ [])
+    → node ≡ after_node (set_removed name) v.node.own
+    → seen_database (record v { queues = queues; node = record v.node { own = node } }) ≡ after_marks (seen_database now) (noded (set_removed name) ∷ queued (untraced table) ∷ [])
 unlisted-as v now queues node table name same mark noding =
     mark (with_node (record v.node { own = node }) (seen v.rows))
     ∙ (λ i. after_mark (seen_with (with_node (record v.node { own = noding i }) (seen v.rows)) v.queues) (queued (untraced table)))
-    ∙ ap (λ (w : DbView). after_marks (seen_database w) (noded (unlisted name) ∷ queued (untraced table) ∷ [])) same
+    ∙ ap (λ (w : DbView). after_marks (seen_database w) (noded (set_removed name) ∷ queued (untraced table) ∷ [])) same
 
 -- sessions may not write a table of a leaf, or may again
 pub guarded-as : (v now : DbView) (rows : RowStateView) (node : Option Node) (table : ℕ) (on : Bool) (mark : Mark) → v ≡ now → seen rows ≡ after_part (seen v.rows) (tabled (read_only table on))

@@ -28,18 +28,18 @@ absent None none = refl
 absent (Some x) none = absurd (cc)
 
 -- if nothing does, none is pending
-pub none-pending : (now : ℤ) (q : Queue) → None ≡ held_back now q → q.tables.pending ≡ None
-none-pending now q none = of q.tables.pending _ none
+pub none-pending : (now : ℤ) (q : Queue) → None ≡ held_back now q → q.event_tables.pending ≡ None
+none-pending now q none = of q.event_tables.pending _ none
   where
     of : (o : Option ℕ) (rest : Option HeldBack) → None ≡ option_or (option_map Pending o) rest → o ≡ None
     of None rest none = refl
     of (Some t) rest none = absurd (cc)
 
 -- one that is begun is
-pub now-pending : (d e : Database) (q t : ℕ) → e ≡ after_mark d (queued (switching q t)) → is_some (e.queue q).tables.pending ≡ true
-now-pending d e q t is = ap (λ (x : Database). is_some (x.queue q).tables.pending) is ∙ here (q == q) (eq-eqb q q refl)
+pub now-pending : (d e : Database) (q t : ℕ) → e ≡ after_mark d (queued (switching q t)) → is_some (e.queue q).event_tables.pending ≡ true
+now-pending d e q t is = ap (λ (x : Database). is_some (x.queue q).event_tables.pending) is ∙ here (q == q) (eq-eqb q q refl)
   where
-    here : (b : Bool) → b ≡ true → is_some (Queue.tables (if b then with_tables (with_pending t) (d.queue q) else d.queue q)).pending ≡ true
+    here : (b : Bool) → b ≡ true → is_some (Queue.event_tables (if b then with_tables (with_pending t) (d.queue q) else d.queue q)).pending ≡ true
     here true is_true = refl
     here false is_true = absurd (cc)
 

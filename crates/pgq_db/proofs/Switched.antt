@@ -30,7 +30,7 @@ part-by : (d e : Database) (now : ℤ) (t : ℕ) (queues : List NamedQueue) → 
 part-by d e now t [] = refl
 part-by d e now t (q ∷ queues) =
     by_test (λ b. (after_marks e (if b then queued (switched q.number now) ∷ switches_by d now t queues else switches_by d now t queues)).part ≡ e.part)
-    (is_pending t (d.queue q.number).tables) (λ _. part-by d (after_mark e (queued (switched q.number now))) now t queues) (λ _. part-by d e now t queues)
+    (is_pending t (d.queue q.number).event_tables) (λ _. part-by d (after_mark e (queued (switched q.number now))) now t queues) (λ _. part-by d e now t queues)
 
 part-of : (d : Database) (now : ℤ) (txid : Option ℕ) → (after_marks d (switches_of d now txid)).part ≡ d.part
 part-of d now None = refl

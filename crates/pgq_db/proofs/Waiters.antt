@@ -7,7 +7,7 @@ use Rattle.std.proofs.lemmas.List.Elements.{All-cons, All-append, All-filter}
 use Rattle.sky_keys.specs.Waits.{Waiting, is_waiting}
 use Rattle.sky_model.specs.declared.stmt.Stmt.{Stmt}
 use Rattle.sky_model.specs.declared.reply.Reply.{Reply}
-use Rattle.sky_model.specs.History.{Mark, ended, looked, tabled, waits, waited, queued, made, noded, NodeMark, hold_begun, hold_ended}
+use Rattle.sky_model.specs.History.{Mark, ended, sight_taken, tabled, waits, waited, queued, made, noded, NodeMark, hold_begun, hold_ended}
 use Rattle.sky_model.specs.Sessions.{Block}
 use Rattle.sky_model.specs.State.{Database, after_mark, after_marks, RowPart}
 use Rattle.sky_model.specs.Allowed.{where_of, allowed}
@@ -48,7 +48,7 @@ own-statement : (d : Database) (now : ℤ) (who : ℕ) (stmt : Stmt) → OwnWait
 own-statement d now who stmt =
     (given-runs AnyReply (is_own who) (λ _. tt) (own-plain who) (making database_by_itself now who stmt) (where_of stmt) who d
     (allowed (is_waiting who d.part.waiting) (d.part.session who).is_open (d.part.session who).block (where_of stmt))
-    (own-form d now who stmt) (own-form (after_mark d (looked who)) now who stmt)).1
+    (own-form d now who stmt) (own-form (after_mark d (sight_taken who)) now who stmt)).1
 
 own-failure : (who : ℕ) (o : Option ℕ) (b : Block) → OwnWaits who (failure who o b)
 own-failure who o b = each-failure AnyReply (is_own who) (λ _. tt) (own-plain who) who o b

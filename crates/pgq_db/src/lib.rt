@@ -8,8 +8,9 @@
 //! pending. A statement that is run elsewhere comes in by `enter`, and if it is refused there, `fail` aborts the block
 //! that its session is in.
 //! What a node needs of its own database, or of another, is a call each, in `node` and `provider`; a copy's are in
-//! `copies` and `holds`, and the one by which a leaf applies a batch is in `apply`.
-//! Nothing here knows a session's name, another database, or a byte of a script.
+//! `copies` and `holds`, and those by which a leaf applies a batch, `apply` and `apply_batch`, are in `apply`.
+//! Nothing here knows a session's name or a byte of a script, or finds another database: `apply_batch` is given one, and
+//! reads a batch there.
 #![tactic(auto)]
 
 mod apply;

@@ -3,7 +3,7 @@
 
 ghost use Rattle.std.specs.Prelude.{◌≡◌, ◌++◌, [], ◌∷◌, true, None, Some, Ok, IfOk, IfErr, IfSome, OnOk, OnErr, is_some, option_copied, option_map};
 ghost use Rattle.londiste_state.specs.declared.node.Node.TheVariants as node;
-ghost use Rattle.sky_model.specs.History.{noded, NodeMark, root_made, listed, unlisted, joined, parted, leaf_made, leaf_added, leaf_removed, state_set};
+ghost use Rattle.sky_model.specs.History.{noded, NodeMark, root_made, set_added, set_removed, joined, parted, leaf_made, leaf_added, leaf_removed, state_set};
 ghost use Rattle.sky_model.specs.Moment.{IsTime};
 ghost use Rattle.sky_model.specs.Nodes.{after_node, is_set_queue, is_leafs};
 ghost use Rattle.sky_model.specs.NodesOfWorld.{columns_called};
@@ -331,7 +331,7 @@ pub(crate) fn remove_consumer(node: &mut Option<Node>, consumer: &Text)
 
 /// Adds a table to the set, if the node is a root.
 fn add_root_table(node: &mut Option<Node>, table: Text) -> Result<(), NoMemory>
-    ensures ok { OnOk result (node.new ≡ after_node (listed table) node.old) }
+    ensures ok { OnOk result (node.new ≡ after_node (set_added table) node.old) }
     ensures err { OnErr result (node.new ≡ node.old) }
 {
     if let Some(Node::Root(root)) = node {
@@ -341,7 +341,7 @@ fn add_root_table(node: &mut Option<Node>, table: Text) -> Result<(), NoMemory>
 }
 
 fn remove_root_table(node: &mut Option<Node>, table: &Text)
-    ensures { node.new ≡ after_node (unlisted table.now) node.old }
+    ensures { node.new ≡ after_node (set_removed table.now) node.old }
 {
     if let Some(Node::Root(root)) = node {
         root.remove_table(table);

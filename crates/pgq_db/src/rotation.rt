@@ -102,7 +102,7 @@ impl Db {
 fn switch(queues: &mut Queues, queue: usize, txid: u64, is_alone: bool, now: i64)
     requires stands { Stands queues.old.queues queue }
     requires time { IsTime now }
-    requires none { (queue_at queues.old queue).tables.pending ≡ None }
+    requires none { (queue_at queues.old queue).event_tables.pending ≡ None }
     ensures marks { (beside : Beside) → seen_with beside queues.new
         ≡ after_marks (seen_with beside queues.old) (switch_of queue txid now (if is_alone then outside else inside)) }
     ensures stand { StillStand queues.old.queues queues.new.queues }

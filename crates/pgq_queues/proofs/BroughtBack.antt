@@ -99,7 +99,7 @@ within-later {rounds} queues rs within = record {
       record { owner = waits.owner; moment = waits.moment; most = omega (arith, most) };
   stored = λ n.
       All-weaker (All (λ (s : Stored). RetriedAtMost rounds s.event)) (All (λ (s : Stored). RetriedAtMost (rounds + 1) s.event))
-      (λ list all k d lt. let most = all k d lt in omega (arith, most)) (get_or queues n no_queue).tables.tables.lists (within.stored n);
+      (λ list all k d lt. let most = all k d lt in omega (arith, most)) (get_or queues n no_queue).event_tables.tables.lists (within.stored n);
 }
 
 pub all-most : {rounds : ℕ} → (queues : List QueueView) (rs : List Retry) → RetriedWithin rounds queues rs → All (λ (r : Retry). RetriedAtMost (rounds + 1) r.event) rs

@@ -40,15 +40,15 @@ kept-updated old new n o updates m = updates m ∙ ap (λ b. cond b o (kept old 
 
 -- a queue that is made has its first tick alone
 pub queues-made : (queues : List QueueView) (t : Tick) (ts : Tables) (count : ℕ) → count ≡ length queues
-    → (λ n. seen_queue (get_or (queues ++ record { config = default_config; seq = 0; tables = record { tables = ts; reads = 0 }; ticks = t ∷ []; subs = no_subs } ∷ []) n no_queue))
-    ≡ changed_at count (λ q. record q { tables = ts; tick_list = q.tick_list ++ t ∷ [] }) (λ n. seen_queue (get_or queues n no_queue))
+    → (λ n. seen_queue (get_or (queues ++ record { config = default_config; seq = 0; event_tables = record { tables = ts; reads = 0 }; ticks = t ∷ []; subs = no_subs } ∷ []) n no_queue))
+    ≡ changed_at count (λ q. record q { event_tables = ts; tick_list = q.tick_list ++ t ∷ [] }) (λ n. seen_queue (get_or queues n no_queue))
 queues-made queues t ts count is = λ i n. pointwise n (count == n) refl i
   where
     new : QueueView
-    new = record { config = default_config; seq = 0; tables = record { tables = ts; reads = 0 }; ticks = t ∷ []; subs = no_subs }
+    new = record { config = default_config; seq = 0; event_tables = record { tables = ts; reads = 0 }; ticks = t ∷ []; subs = no_subs }
 
     ticked : Queue → Queue
-    ticked q = record q { tables = ts; tick_list = q.tick_list ++ t ∷ [] }
+    ticked q = record q { event_tables = ts; tick_list = q.tick_list ++ t ∷ [] }
 
     apart : (qs : List QueueView) (n : ℕ) → (length qs ≡ n → ⊥) → get_or (qs ++ new ∷ []) n no_queue ≡ get_or qs n no_queue
     apart [] zero other = absurd (other refl)
@@ -163,7 +163,7 @@ sub_at-gone queues i lt none n consumer = ap (λ (q : QueueView). value_of consu
 -- a queue that is made has its tables and its first tick, with the snapshot as it was
 pub made-as : (v now : QueuesView) (names : NamedView ℕ) (queues : List QueueView) (q : QueueView) (name : List ℕ) (number txid : ℕ) (t : Tick) → v ≡ now
     → names ≡ record { names = v.names.names ++ name ∷ []; values = v.names.values ++ number ∷ [] } → number ≡ length v.queues → queues ≡ v.queues ++ q ∷ []
-    → q ≡ record { config = default_config; seq = 0; tables = record { tables = new_tables txid t.time; reads = 0 }; ticks = t ∷ []; subs = no_subs } → length v.names.values ≡ length v.names.names
+    → q ≡ record { config = default_config; seq = 0; event_tables = record { tables = new_tables txid t.time; reads = 0 }; ticks = t ∷ []; subs = no_subs } → length v.names.values ≡ length v.names.names
     → t.id ≡ 1 → t.seq ≡ 0 → (beside : Beside) → t.snapshot ≡ snapshot_now beside.part
     → seen_with beside (record v { names = names; queues = queues }) ≡ after_mark (seen_with beside now) (queued (made name txid t.time))
 made-as v now names queues q name number txid t same more next one new count id seq beside snap =
@@ -180,12 +180,12 @@ made-as v now names queues q name number txid t same more next one new count id 
     ∙ ap (λ (w : QueuesView). record (seen_with beside w) {
       queues_made = length w.queues + 1;
       queues = numbered w.names.names w.names.values ++ record { number = length w.queues; name = name } ∷ [];
-      queue = changed_at (length w.queues) (λ x. record x { tables = new_tables txid t.time; tick_list = x.tick_list ++ t ∷ [] }) (queue_at w);
+      queue = changed_at (length w.queues) (λ x. record x { event_tables = new_tables txid t.time; tick_list = x.tick_list ++ t ∷ [] }) (queue_at w);
     }) same
     ∙ ap (λ (x : Tick). record (seen_with beside now) {
       queues_made = length now.queues + 1;
       queues = numbered now.names.names now.names.values ++ record { number = length now.queues; name = name } ∷ [];
-      queue = changed_at (length now.queues) (λ y. record y { tables = new_tables txid t.time; tick_list = y.tick_list ++ x ∷ [] }) (queue_at now);
+      queue = changed_at (length now.queues) (λ y. record y { event_tables = new_tables txid t.time; tick_list = y.tick_list ++ x ∷ [] }) (queue_at now);
     }) is
   where
     is : t ≡ record { id = 1; time = t.time; snapshot = snapshot_now beside.part; seq = 0 }
@@ -196,7 +196,7 @@ no-members : (subs : NamedView SubView) → (seen_subs subs).members ≡ [] → 
 no-members subs none = λ i. record { members = sym none i; kept = λ name. sym (no-subs subs name none) i }
 
 emptied-as : (q : QueueView) → (seen_queue q).members ≡ [] → seen_queue no_queue ≡ emptied (seen_queue q)
-emptied-as q none = ap (λ (s : SubsSeen). record { config = default_config; seq = 0; tables = no_tables; tick_list = []; members = s.members; sub = shown s.kept }) (no-members q.subs none)
+emptied-as q none = ap (λ (s : SubsSeen). record { config = default_config; seq = 0; event_tables = no_tables; tick_list = []; members = s.members; sub = shown s.kept }) (no-members q.subs none)
 
 pub dropped-as : (v now : QueuesView) (names : NamedView ℕ) (queues : List QueueView) (n place : ℕ) → v ≡ now → names ≡ record { names = remove v.names.names place; values = remove v.names.values place }
     → queues ≡ slice_set v.queues n no_queue → length v.names.values ≡ length v.names.names → Rise 0 v.names.values → slice_get v.names.values place ≡ Some n → n < length v.queues

@@ -41,7 +41,7 @@ undone-stand queues new t is = subst (StillStand queues) (sym is) (record {
 pub undone-retried : {rounds : ℕ} → (queues new : List QueueView) (t : ℕ) (rs : List Retry) → new ≡ map (undone_in t) queues → RetriedWithin rounds queues rs → RetriedWithin rounds new rs
 undone-retried {rounds} queues new t rs is within =
     retried-still queues new rs (undone-stand queues new t is)
-    (λ all n. subst (λ (q : QueueView). AllStored (RetriedAtMost rounds) q.tables.tables) (sym (ap (λ qs. get_or qs n no_queue) is ∙ undone-get t queues n)) (stored-without (RetriedAtMost rounds) t (get_or queues n no_queue).tables.tables (all n))) within
+    (λ all n. subst (λ (q : QueueView). AllStored (RetriedAtMost rounds) q.event_tables.tables) (sym (ap (λ qs. get_or qs n no_queue) is ∙ undone-get t queues n)) (stored-without (RetriedAtMost rounds) t (get_or queues n no_queue).event_tables.tables (all n))) within
 
 pub undone-as : (v now : QueuesView) (queues : List QueueView) (t : ℕ) → v ≡ now → queues ≡ map (undone_in t) v.queues
     → (beside : Beside) → seen_with beside (record v { queues = queues }) ≡ record (seen_with beside now) { queue = λ n. with_tables (without_transaction t) (queue_at now n) }
@@ -58,17 +58,17 @@ undone-whole v now queues t same is = (λ i. record v { queues = is i }) ∙ ap 
 
 -- ---- each of some queues is changed
 
-each-bound : {rounds : ℕ} → (f : QueueView → QueueView) → ((q : QueueView) → AllStored (RetriedAtMost rounds) q.tables.tables → AllStored (RetriedAtMost rounds) (f q).tables.tables) → (ns : List ℕ) (queues : List QueueView)
-    → ((n : ℕ) → AllStored (RetriedAtMost rounds) (get_or queues n no_queue).tables.tables) → (n : ℕ) → AllStored (RetriedAtMost rounds) (get_or (each_changed f ns queues) n no_queue).tables.tables
+each-bound : {rounds : ℕ} → (f : QueueView → QueueView) → ((q : QueueView) → AllStored (RetriedAtMost rounds) q.event_tables.tables → AllStored (RetriedAtMost rounds) (f q).event_tables.tables) → (ns : List ℕ) (queues : List QueueView)
+    → ((n : ℕ) → AllStored (RetriedAtMost rounds) (get_or queues n no_queue).event_tables.tables) → (n : ℕ) → AllStored (RetriedAtMost rounds) (get_or (each_changed f ns queues) n no_queue).event_tables.tables
 each-bound f goes [] queues all n = all n
 each-bound {rounds} f goes (m ∷ ms) queues all n =
     each-bound f goes ms (slice_set queues m (f (get_or queues m no_queue)))
-    (λ k. set-either (λ q. AllStored (RetriedAtMost rounds) q.tables.tables) queues m k (f (get_or queues m no_queue)) (goes (get_or queues m no_queue) (all m)) (all k)) n
+    (λ k. set-either (λ q. AllStored (RetriedAtMost rounds) q.event_tables.tables) queues m k (f (get_or queues m no_queue)) (goes (get_or queues m no_queue) (all m)) (all k)) n
 
-each-retried : {rounds : ℕ} → (f : QueueView → QueueView) → ((q : QueueView) → AllStored (RetriedAtMost rounds) q.tables.tables → AllStored (RetriedAtMost rounds) (f q).tables.tables) → (ns : List ℕ) (queues new : List QueueView) (rs : List Retry)
+each-retried : {rounds : ℕ} → (f : QueueView → QueueView) → ((q : QueueView) → AllStored (RetriedAtMost rounds) q.event_tables.tables → AllStored (RetriedAtMost rounds) (f q).event_tables.tables) → (ns : List ℕ) (queues new : List QueueView) (rs : List Retry)
     → StillStand queues new → new ≡ each_changed f ns queues → RetriedWithin rounds queues rs → RetriedWithin rounds new rs
 each-retried {rounds} f goes ns queues new rs still is within =
-    retried-still queues new rs still (λ all. subst (λ qs. (n : ℕ) → AllStored (RetriedAtMost rounds) (get_or qs n no_queue).tables.tables) (sym is) (each-bound f goes ns queues all)) within
+    retried-still queues new rs still (λ all. subst (λ qs. (n : ℕ) → AllStored (RetriedAtMost rounds) (get_or qs n no_queue).event_tables.tables) (sym is) (each-bound f goes ns queues all)) within
 
 -- one more that stays, and then the others
 pub each-still : (queues new : List QueueView) (n : ℕ) (old q : QueueView) → Stands queues n → n < length queues → old ≡ get_or queues n old → Stays old q → StillStand (slice_set queues n q) new → StillStand queues new
@@ -192,11 +192,11 @@ each-as f p g mark is v now queues same are changed beside =
 
 -- ---- the switches that a commit makes
 
-settles : (t : ℕ) (now : ℤ) → IsMarked (settled_in t now) (λ q. is_pending t q.tables) (after_switch now) (λ n. switched n now)
+settles : (t : ℕ) (now : ℤ) → IsMarked (settled_in t now) (λ q. is_pending t q.event_tables) (after_switch now) (λ n. switched n now)
 settles t now = record {
   yes = λ q e. ap (λ b. seen_queue (if b then switched_in now q else q)) e;
   no = λ q e. ap (λ b. if b then switched_in now q else q) e;
-  subs = λ q. subs q (is_pending t q.tables.tables);
+  subs = λ q. subs q (is_pending t q.event_tables.tables);
   marks = λ d n. refl;
 }
   where
@@ -204,37 +204,37 @@ settles t now = record {
     subs q true = refl
     subs q false = refl
 
-settled-marks : (d : Database) (now : ℤ) (t : ℕ) (qs : List NamedQueue) → marks_for (λ q. is_pending t q.tables) (λ n. switched n now) d.queue qs ≡ switches_by d now t qs
+settled-marks : (d : Database) (now : ℤ) (t : ℕ) (qs : List NamedQueue) → marks_for (λ q. is_pending t q.event_tables) (λ n. switched n now) d.queue qs ≡ switches_by d now t qs
 settled-marks d now t [] = refl
-settled-marks d now t (q ∷ qs) = ap (λ ms. if is_pending t (d.queue q.number).tables then queued (switched q.number now) ∷ ms else ms) (settled-marks d now t qs)
+settled-marks d now t (q ∷ qs) = ap (λ ms. if is_pending t (d.queue q.number).event_tables then queued (switched q.number now) ∷ ms else ms) (settled-marks d now t qs)
 
 pub settled-stays : (t : ℕ) (now : ℤ) (old new : QueueView) → new ≡ settled_in t now old → Stays old new
-settled-stays t now old new is = subst (Stays old) (sym is) (by (is_pending t old.tables.tables))
+settled-stays t now old new is = subst (Stays old) (sym is) (by (is_pending t old.event_tables.tables))
   where
     by : (b : Bool) → Stays old (if b then switched_in now old else old)
     by true = record { ticks = λ lt. some-above _ old.ticks lt; subs = refl }
     by false = record { ticks = λ lt. lt; subs = refl }
 
 pub settled-retried : {rounds : ℕ} → (t : ℕ) (now : ℤ) (ns : List ℕ) (queues new : List QueueView) (rs : List Retry) → StillStand queues new → new ≡ each_changed (settled_in t now) ns queues → RetriedWithin rounds queues rs → RetriedWithin rounds new rs
-settled-retried {rounds} t now ns queues new rs still is within = each-retried (settled_in t now) (λ q all. by q (is_pending t q.tables.tables) all) ns queues new rs still is within
+settled-retried {rounds} t now ns queues new rs still is within = each-retried (settled_in t now) (λ q all. by q (is_pending t q.event_tables.tables) all) ns queues new rs still is within
   where
-    by : (q : QueueView) (b : Bool) → AllStored (RetriedAtMost rounds) q.tables.tables → AllStored (RetriedAtMost rounds) (QueueView.tables (if b then switched_in now q else q)).tables
-    by q true all = stored-switched (RetriedAtMost rounds) now q.tables.tables all
+    by : (q : QueueView) (b : Bool) → AllStored (RetriedAtMost rounds) q.event_tables.tables → AllStored (RetriedAtMost rounds) (QueueView.event_tables (if b then switched_in now q else q)).tables
+    by q true all = stored-switched (RetriedAtMost rounds) now q.event_tables.tables all
     by q false all = all
 
 pub settled-as : (v now : QueuesView) (queues : List QueueView) (t : ℕ) (time : ℤ) → v ≡ now → AreNumbers v.names v.queues → queues ≡ each_changed (settled_in t time) v.names.values v.queues
     → (beside : Beside) → seen_with beside (record v { queues = queues }) ≡ after_marks (seen_with beside now) (switches_by (seen_with beside now) time t (queues_of now))
 settled-as v now queues t time same are is beside =
-    each-as (settled_in t time) (λ q. is_pending t q.tables) (after_switch time) (λ n. switched n time) (settles t time) v now queues same are is beside
+    each-as (settled_in t time) (λ q. is_pending t q.event_tables) (after_switch time) (λ n. switched n time) (settles t time) v now queues same are is beside
     ∙ ap (after_marks (seen_with beside now)) (settled-marks (seen_with beside now) time t (queues_of now))
 
 -- ---- second steps
 
-ends : (t : ℕ) → IsMarked (ended_in t) (λ q. is_none q.tables.second_step) (with_tables (with_second_step t)) (λ n. second_step n t)
+ends : (t : ℕ) → IsMarked (ended_in t) (λ q. is_none q.event_tables.second_step) (with_tables (with_second_step t)) (λ n. second_step n t)
 ends t = record {
   yes = λ q e. ap (λ b. seen_queue (if b then retabled (with_second_step t) q else q)) e;
   no = λ q e. ap (λ b. if b then retabled (with_second_step t) q else q) e;
-  subs = λ q. subs q (is_none q.tables.tables.second_step);
+  subs = λ q. subs q (is_none q.event_tables.tables.second_step);
   marks = λ d n. refl;
 }
   where
@@ -242,41 +242,41 @@ ends t = record {
     subs q true = refl
     subs q false = refl
 
-ended-marks : (at : ℕ → Queue) (t : ℕ) (qs : List NamedQueue) → marks_for (λ q. is_none q.tables.second_step) (λ n. second_step n t) at qs ≡ second_steps t (filter (λ q. is_none (at q.number).tables.second_step) qs)
+ended-marks : (at : ℕ → Queue) (t : ℕ) (qs : List NamedQueue) → marks_for (λ q. is_none q.event_tables.second_step) (λ n. second_step n t) at qs ≡ second_steps t (filter (λ q. is_none (at q.number).event_tables.second_step) qs)
 ended-marks at t [] = refl
-ended-marks at t (q ∷ qs) = by (is_none (at q.number).tables.second_step) (ended-marks at t qs)
+ended-marks at t (q ∷ qs) = by (is_none (at q.number).event_tables.second_step) (ended-marks at t qs)
   where
-    by : (b : Bool) → marks_for (λ x. is_none x.tables.second_step) (λ n. second_step n t) at qs ≡ second_steps t (filter (λ x. is_none (at x.number).tables.second_step) qs)
-        → (if b then queued (second_step q.number t) ∷ marks_for (λ x. is_none x.tables.second_step) (λ n. second_step n t) at qs else marks_for (λ x. is_none x.tables.second_step) (λ n. second_step n t) at qs)
-        ≡ second_steps t (if b then q ∷ filter (λ x. is_none (at x.number).tables.second_step) qs else filter (λ x. is_none (at x.number).tables.second_step) qs)
+    by : (b : Bool) → marks_for (λ x. is_none x.event_tables.second_step) (λ n. second_step n t) at qs ≡ second_steps t (filter (λ x. is_none (at x.number).event_tables.second_step) qs)
+        → (if b then queued (second_step q.number t) ∷ marks_for (λ x. is_none x.event_tables.second_step) (λ n. second_step n t) at qs else marks_for (λ x. is_none x.event_tables.second_step) (λ n. second_step n t) at qs)
+        ≡ second_steps t (if b then q ∷ filter (λ x. is_none (at x.number).event_tables.second_step) qs else filter (λ x. is_none (at x.number).event_tables.second_step) qs)
     by true rest = ap (λ ms. queued (second_step q.number t) ∷ ms) rest
     by false rest = rest
 
 pub ended-stays : (t : ℕ) (old new : QueueView) → new ≡ ended_in t old → Stays old new
-ended-stays t old new is = subst (Stays old) (sym is) (by (is_none old.tables.tables.second_step))
+ended-stays t old new is = subst (Stays old) (sym is) (by (is_none old.event_tables.tables.second_step))
   where
     by : (b : Bool) → Stays old (if b then retabled (with_second_step t) old else old)
     by true = record { ticks = λ lt. lt; subs = refl }
     by false = record { ticks = λ lt. lt; subs = refl }
 
 pub ended-retried : {rounds : ℕ} → (t : ℕ) (ns : List ℕ) (queues new : List QueueView) (rs : List Retry) → StillStand queues new → new ≡ each_changed (ended_in t) ns queues → RetriedWithin rounds queues rs → RetriedWithin rounds new rs
-ended-retried {rounds} t ns queues new rs still is within = each-retried (ended_in t) (λ q all. by q (is_none q.tables.tables.second_step) all) ns queues new rs still is within
+ended-retried {rounds} t ns queues new rs still is within = each-retried (ended_in t) (λ q all. by q (is_none q.event_tables.tables.second_step) all) ns queues new rs still is within
   where
-    by : (q : QueueView) (b : Bool) → AllStored (RetriedAtMost rounds) q.tables.tables
-        → AllStored (RetriedAtMost rounds) (QueueView.tables (if b then retabled (with_second_step t) q else q)).tables
+    by : (q : QueueView) (b : Bool) → AllStored (RetriedAtMost rounds) q.event_tables.tables
+        → AllStored (RetriedAtMost rounds) (QueueView.event_tables (if b then retabled (with_second_step t) q else q)).tables
     by q true all = all
     by q false all = all
 
 pub ended-as : (v now : QueuesView) (queues : List QueueView) (t : ℕ) → v ≡ now → AreNumbers v.names v.queues → queues ≡ each_changed (ended_in t) v.names.values v.queues
     → (beside : Beside) → seen_with beside (record v { queues = queues }) ≡ after_marks (seen_with beside now) (second_steps t (lack_second_step (seen_with beside now)))
 ended-as v now queues t same are is beside =
-    each-as (ended_in t) (λ q. is_none q.tables.second_step) (with_tables (with_second_step t)) (λ n. second_step n t) (ends t) v now queues same are is beside
+    each-as (ended_in t) (λ q. is_none q.event_tables.second_step) (with_tables (with_second_step t)) (λ n. second_step n t) (ends t) v now queues same are is beside
     ∙ ap (after_marks (seen_with beside now)) (ended-marks (queue_at now) t (queues_of now))
 
 -- ---- how many lack the second step
 
 abbrev pub lacks : QueuesView → NamedQueue → Bool
-lacks v q = is_none (queue_at v q.number).tables.second_step
+lacks v q = is_none (queue_at v q.number).event_tables.second_step
 
 -- one more queue is counted, or not
 counted : (v : QueuesView) (place : ℕ) (b : Bool) → place < length (queues_of v) → lacks v (get_or (queues_of v) place unnamed) ≡ b
@@ -294,11 +294,11 @@ counted v place b lt e =
     by false = omega arith
 
 pub counted-as : (v : QueuesView) (place number count : ℕ) (q : QueueView) (b result : Bool) → place < length (queues_of v) → number ≡ (get_or (queues_of v) place unnamed).number → seen_queue q ≡ queue_at v number
-    → result ≡ is_none q.tables.tables.second_step → result ≡ b → count ≡ length (filter (lacks v) (take place (queues_of v)))
+    → result ≡ is_none q.event_tables.tables.second_step → result ≡ b → count ≡ length (filter (lacks v) (take place (queues_of v)))
     → (if b then count + 1 else count) ≡ length (filter (lacks v) (take (place + 1) (queues_of v)))
 counted-as v place number count q b result lt at shown is case so_far =
     ap (λ n. if b then n + 1 else n) so_far
-    ∙ sym (counted v place b lt (ap (λ n. is_none (queue_at v n).tables.second_step) (sym at) ∙ sym (ap (λ (x : Queue). is_none x.tables.second_step) shown) ∙ sym is ∙ case))
+    ∙ sym (counted v place b lt (ap (λ n. is_none (queue_at v n).event_tables.second_step) (sym at) ∙ sym (ap (λ (x : Queue). is_none x.event_tables.second_step) shown) ∙ sym is ∙ case))
 
 pub counted-all : (v : QueuesView) (place count : ℕ) → length (queues_of v) ≤ place → count ≡ length (filter (lacks v) (take place (queues_of v))) → count ≡ length (filter (lacks v) (queues_of v))
 counted-all v place count past is = is ∙ ap (λ qs. length (filter (lacks v) qs)) (all (queues_of v) place past)

@@ -298,7 +298,7 @@ some-above txid ts some =
 
 pub stays-switched : (old new : QueueView) (now : ℤ) → new ≡ switched_in now old → Stays old new
 stays-switched old new now is = record {
-  ticks = λ lt. subst (λ (q : QueueView). 0 < length q.ticks) (sym is) (some-above (second_step_of old.tables.tables) old.ticks lt);
+  ticks = λ lt. subst (λ (q : QueueView). 0 < length q.ticks) (sym is) (some-above (second_step_of old.event_tables.tables) old.ticks lt);
   subs = ap QueueView.subs is;
 }
 

@@ -45,7 +45,7 @@ Keeps old new = (n : ℕ) (consumer : List ℕ) (s : ℕ) → sub_id old n consu
 
 -- the events of each were retried at most so often, if those before were
 abbrev pub BoundOn : ℕ → List QueueView → List QueueView → Type 0
-BoundOn rounds old new = ((n : ℕ) → AllStored (RetriedAtMost rounds) (get_or old n no_queue).tables.tables) → (n : ℕ) → AllStored (RetriedAtMost rounds) (get_or new n no_queue).tables.tables
+BoundOn rounds old new = ((n : ℕ) → AllStored (RetriedAtMost rounds) (get_or old n no_queue).event_tables.tables) → (n : ℕ) → AllStored (RetriedAtMost rounds) (get_or new n no_queue).event_tables.tables
 
 waiting-on : {rounds : ℕ} → (old new : List QueueView) → ((n : ℕ) → Stands old n → Stands new n) → Keeps old new → (r : Retry) → IsWaiting rounds old r → IsWaiting rounds new r
 waiting-on old new stands keeps r is = record {
@@ -78,14 +78,14 @@ set-either P (y ∷ ys) (suc i) (suc n) x here there = set-either P ys i n x her
 
 -- its events
 bound-set : {rounds : ℕ} → (queues : List QueueView) (i : ℕ) (old new : QueueView) → i < length queues → old ≡ get_or queues i old
-    → (AllStored (RetriedAtMost rounds) old.tables.tables → AllStored (RetriedAtMost rounds) new.tables.tables) → BoundOn rounds queues (slice_set queues i new)
+    → (AllStored (RetriedAtMost rounds) old.event_tables.tables → AllStored (RetriedAtMost rounds) new.event_tables.tables) → BoundOn rounds queues (slice_set queues i new)
 bound-set {rounds} queues i old new lt at goes all n =
-    set-either (λ q. AllStored (RetriedAtMost rounds) q.tables.tables) queues i n new
-    (goes (subst (λ (q : QueueView). AllStored (RetriedAtMost rounds) q.tables.tables) (sym (get_or_read queues i old lt at no_queue)) (all i))) (all n)
+    set-either (λ q. AllStored (RetriedAtMost rounds) q.event_tables.tables) queues i n new
+    (goes (subst (λ (q : QueueView). AllStored (RetriedAtMost rounds) q.event_tables.tables) (sym (get_or_read queues i old lt at no_queue)) (all i))) (all n)
 
 -- one that has changed but for its subscriptions
 pub retried-stays : {rounds : ℕ} → (queues : List QueueView) (i : ℕ) (old new : QueueView) (rs : List Retry) → Stands queues i → i < length queues → old ≡ get_or queues i old → Stays old new
-    → (AllStored (RetriedAtMost rounds) old.tables.tables → AllStored (RetriedAtMost rounds) new.tables.tables) → RetriedWithin rounds queues rs → RetriedWithin rounds (slice_set queues i new) rs
+    → (AllStored (RetriedAtMost rounds) old.event_tables.tables → AllStored (RetriedAtMost rounds) new.event_tables.tables) → RetriedWithin rounds queues rs → RetriedWithin rounds (slice_set queues i new) rs
 retried-stays queues i old new rs stands lt at stays goes within =
     retried-still queues (slice_set queues i new) rs (stand-set queues i old new stands lt at stays) (bound-set queues i old new lt at goes) within
 
@@ -101,12 +101,12 @@ pub one-event : {rounds : ℕ} → (old new : Tables) (e : Event) → new ≡ wi
 one-event {rounds} old new e more is all = subst (AllStored (RetriedAtMost rounds)) (sym more) (stored-one (RetriedAtMost rounds) e old is all)
 
 -- and after a switch
-pub switch-events : {rounds : ℕ} → (old new : QueueView) (now : ℤ) → new ≡ switched_in now old → AllStored (RetriedAtMost rounds) old.tables.tables → AllStored (RetriedAtMost rounds) new.tables.tables
-switch-events {rounds} old new now is all = subst (λ (q : QueueView). AllStored (RetriedAtMost rounds) q.tables.tables) (sym is) (stored-switched (RetriedAtMost rounds) now old.tables.tables all)
+pub switch-events : {rounds : ℕ} → (old new : QueueView) (now : ℤ) → new ≡ switched_in now old → AllStored (RetriedAtMost rounds) old.event_tables.tables → AllStored (RetriedAtMost rounds) new.event_tables.tables
+switch-events {rounds} old new now is all = subst (λ (q : QueueView). AllStored (RetriedAtMost rounds) q.event_tables.tables) (sym is) (stored-switched (RetriedAtMost rounds) now old.event_tables.tables all)
 
 -- those of a queue that is there
-pub stored-here : {rounds : ℕ} → (queues : List QueueView) (i : ℕ) (q : QueueView) (rs : List Retry) → i < length queues → q ≡ get_or queues i q → RetriedWithin rounds queues rs → AllStored (RetriedAtMost rounds) q.tables.tables
-stored-here {rounds} queues i q rs lt at within = subst (λ (x : QueueView). AllStored (RetriedAtMost rounds) x.tables.tables) (sym (get_or_read queues i q lt at no_queue)) (within.stored i)
+pub stored-here : {rounds : ℕ} → (queues : List QueueView) (i : ℕ) (q : QueueView) (rs : List Retry) → i < length queues → q ≡ get_or queues i q → RetriedWithin rounds queues rs → AllStored (RetriedAtMost rounds) q.event_tables.tables
+stored-here {rounds} queues i q rs lt at within = subst (λ (x : QueueView). AllStored (RetriedAtMost rounds) x.event_tables.tables) (sym (get_or_read queues i q lt at no_queue)) (within.stored i)
 
 -- the bound, in what is kept as in what is shown
 pub most-kept : (v now : QueuesView) (e : Event) → v ≡ now → RetriedAtMost now.rounds e → RetriedAtMost v.rounds e
@@ -114,9 +114,9 @@ most-kept v now e same is = subst (λ (w : QueuesView). RetriedAtMost w.rounds e
 
 -- after a tick
 pub tick-events : {E : Type 0} {rounds : ℕ} → (r : Result ℕ E) (old new : QueueView) (ts : ℕ → List Tick) → IfOk r (λ id. new ≡ record old { ticks = ts id }) → OnErr r (new ≡ old)
-    → AllStored (RetriedAtMost rounds) old.tables.tables → AllStored (RetriedAtMost rounds) new.tables.tables
-tick-events (Ok id) old new ts ok err = same-events old.tables new.tables (ap QueueView.tables ok)
-tick-events (Err e) old new ts ok err = same-events old.tables new.tables (ap QueueView.tables err)
+    → AllStored (RetriedAtMost rounds) old.event_tables.tables → AllStored (RetriedAtMost rounds) new.event_tables.tables
+tick-events (Ok id) old new ts ok err = same-events old.event_tables new.event_tables (ap QueueView.event_tables ok)
+tick-events (Err e) old new ts ok err = same-events old.event_tables new.event_tables (ap QueueView.event_tables err)
 
 -- a change of a subscription keeps its id
 abbrev pub KeepsId : Change → Option SubView → Type 0
@@ -134,7 +134,7 @@ pub retried-becomes : {rounds : ℕ} → (queues : List QueueView) (i : ℕ) (ol
     → new ≡ record old { subs = new.subs } → Becomes name f old new → ((o : Option SubView) → KeepsId f o) → RetriedWithin rounds queues rs → RetriedWithin rounds (slice_set queues i new) rs
 retried-becomes queues i old new name f rs stands lt at but is keeps within =
     retried-on queues (slice_set queues i new) rs (stands-set queues i new lt (ticks-kept queues i old new lt at stands (ap QueueView.ticks but)))
-    (keeps-set queues i old new name f lt at is keeps) (bound-set queues i old new lt at (same-events old.tables new.tables (ap QueueView.tables but))) within
+    (keeps-set queues i old new name f lt at is keeps) (bound-set queues i old new lt at (same-events old.event_tables new.event_tables (ap QueueView.event_tables but))) within
 
 pub tick-keeps : (tick : ℕ) (o : Option SubView) → KeepsId (option_map (at_tick tick)) o
 tick-keeps tick None s is = is
@@ -158,7 +158,7 @@ pub retried-come : {rounds : ℕ} → (queues : List QueueView) (i : ℕ) (old n
     → new ≡ record old { subs = new.subs } → Becomes name (λ _. Some x) old new → sub_at queues i name ≡ None → RetriedWithin rounds queues rs → RetriedWithin rounds (slice_set queues i new) rs
 retried-come {rounds} queues i old new name x rs stands lt at but is none within =
     retried-on queues (slice_set queues i new) rs (stands-set queues i new lt (ticks-kept queues i old new lt at stands (ap QueueView.ticks but)))
-    keeps (bound-set queues i old new lt at (same-events old.tables new.tables (ap QueueView.tables but))) within
+    keeps (bound-set queues i old new lt at (same-events old.event_tables new.event_tables (ap QueueView.event_tables but))) within
   where
     keeps : Keeps queues (slice_set queues i new)
     keeps n consumer s its = ap (option_map SubView.id) (subs-set queues i old new name (λ _. Some x) lt at is n consumer) ∙ by (is_one i name n consumer) refl
@@ -185,7 +185,7 @@ pub retried-leave : {rounds : ℕ} → (queues : List QueueView) (i sub : ℕ) (
 retried-leave {rounds} queues i sub old new name rs left stands lt at but is was less within = record {
   waiting = subst (All (IsWaiting (rounds + 1) (slice_set queues i new))) (sym less)
       (kept-all (IsWaiting (rounds + 1) queues) (IsWaiting (rounds + 1) (slice_set queues i new)) (λ r. not (is_of sub r)) rs stays within.waiting);
-  stored = bound-set queues i old new lt at (same-events old.tables new.tables (ap QueueView.tables but)) within.stored;
+  stored = bound-set queues i old new lt at (same-events old.event_tables new.event_tables (ap QueueView.event_tables but)) within.stored;
 }
   where
     its-own : (r : Retry) (consumer : List ℕ) → is_one i name r.queue consumer ≡ true → sub_id queues r.queue consumer ≡ Some r.sub → r.sub ≡ sub
@@ -213,13 +213,13 @@ retried-leave {rounds} queues i sub old new name rs left stands lt at but is was
 
 -- ---- a queue is made, or dropped
 
-bound-more : {rounds : ℕ} → (queues : List QueueView) (q : QueueView) → AllStored (RetriedAtMost rounds) q.tables.tables → (n : ℕ) → AllStored (RetriedAtMost rounds) (get_or queues n no_queue).tables.tables → AllStored (RetriedAtMost rounds) (get_or (queues ++ q ∷ []) n no_queue).tables.tables
+bound-more : {rounds : ℕ} → (queues : List QueueView) (q : QueueView) → AllStored (RetriedAtMost rounds) q.event_tables.tables → (n : ℕ) → AllStored (RetriedAtMost rounds) (get_or queues n no_queue).event_tables.tables → AllStored (RetriedAtMost rounds) (get_or (queues ++ q ∷ []) n no_queue).event_tables.tables
 bound-more [] q none zero all = none
 bound-more [] q none (suc n) all = all
 bound-more (x ∷ xs) q none zero all = all
 bound-more (x ∷ xs) q none (suc n) all = bound-more xs q none n all
 
-pub retried-made : {rounds : ℕ} → (old new : List QueueView) (q : QueueView) (rs : List Retry) → new ≡ old ++ q ∷ [] → AllStored (RetriedAtMost rounds) q.tables.tables → q.subs ≡ no_subs → RetriedWithin rounds old rs → RetriedWithin rounds new rs
+pub retried-made : {rounds : ℕ} → (old new : List QueueView) (q : QueueView) (rs : List Retry) → new ≡ old ++ q ∷ [] → AllStored (RetriedAtMost rounds) q.event_tables.tables → q.subs ≡ no_subs → RetriedWithin rounds old rs → RetriedWithin rounds new rs
 retried-made {rounds} old new q rs come events subs within =
     subst (λ qs. RetriedWithin rounds qs rs) (sym come) (retried-on old (old ++ q ∷ []) rs (stands-more old q) (λ n consumer s is. ap (option_map SubView.id) (sub_at-more old q subs n consumer) ∙ is) (λ all n. bound-more old q events n (all n)) within)
 
@@ -230,7 +230,7 @@ pub retried-dropped : {rounds : ℕ} → (queues new : List QueueView) (n : ℕ)
     → RetriedWithin rounds queues rs → RetriedWithin rounds new rs
 retried-dropped {rounds} queues new n rs empty lt none within = subst (λ qs. RetriedWithin rounds qs rs) (sym empty) (record {
   waiting = All-weaker (IsWaiting (rounds + 1) queues) (IsWaiting (rounds + 1) (slice_set queues n no_queue)) rs stays within.waiting;
-  stored = λ m. set-either (λ q. AllStored (RetriedAtMost rounds) q.tables.tables) queues n m no_queue (All-nil (All (λ (s : Stored). RetriedAtMost rounds s.event))) (within.stored m);
+  stored = λ m. set-either (λ q. AllStored (RetriedAtMost rounds) q.event_tables.tables) queues n m no_queue (All-nil (All (λ (s : Stored). RetriedAtMost rounds s.event))) (within.stored m);
 })
   where
     apart : (r : Retry) (consumer : List ℕ) → sub_id queues r.queue consumer ≡ Some r.sub → n ≡ r.queue → ⊥
@@ -259,9 +259,9 @@ more-stays : (e : Event) (old new : QueueView) → HasMore e old new → Stays o
 more-stays e old new (inl is) = stays-alike old new (ap QueueView.ticks is) (ap QueueView.subs is)
 more-stays e old new (inr is) = stays-alike old new (ap QueueView.ticks is) (ap QueueView.subs is)
 
-more-events : {rounds : ℕ} → (e : Event) (old new : QueueView) → RetriedAtMost rounds e → HasMore e old new → AllStored (RetriedAtMost rounds) old.tables.tables → AllStored (RetriedAtMost rounds) new.tables.tables
-more-events e old new most (inl is) = one-event old.tables.tables new.tables.tables e (ap (λ (q : QueueView). q.tables.tables) is) most
-more-events e old new most (inr is) = same-events old.tables new.tables (ap QueueView.tables is)
+more-events : {rounds : ℕ} → (e : Event) (old new : QueueView) → RetriedAtMost rounds e → HasMore e old new → AllStored (RetriedAtMost rounds) old.event_tables.tables → AllStored (RetriedAtMost rounds) new.event_tables.tables
+more-events e old new most (inl is) = one-event old.event_tables.tables new.event_tables.tables e (ap (λ (q : QueueView). q.event_tables.tables) is) most
+more-events e old new most (inr is) = same-events old.event_tables new.event_tables (ap QueueView.event_tables is)
 
 put-stands : (v now : QueuesView) (i : ℕ) (e : Event) (old new : QueueView) → v ≡ now → Stands now.queues i → i < length v.queues → old ≡ get_or v.queues i old → HasMore e old new → StillStand v.queues (slice_set v.queues i new)
 put-stands v now i e old new same stands lt at more = stand-set v.queues i old new (stands-kept v now i same stands) lt at (more-stays e old new more)
@@ -286,13 +286,13 @@ told-bound : {rounds : ℕ} → (now : ℤ) (t : ℕ) (es : List RowEvent) (queu
 told-bound now t [] queues all = all
 told-bound {rounds} now t (e ∷ es) queues all =
     told-bound now t es (slice_set queues e.queue (telling now t e (get_or queues e.queue no_queue)))
-    (λ n. set-either (λ q. AllStored (RetriedAtMost rounds) q.tables.tables) queues e.queue n (telling now t e (get_or queues e.queue no_queue))
-    (one-event (get_or queues e.queue no_queue).tables.tables (telling now t e (get_or queues e.queue no_queue)).tables.tables (told_event ((get_or queues e.queue no_queue).seq + 1) now t e) refl (omega arith) (all e.queue)) (all n))
+    (λ n. set-either (λ q. AllStored (RetriedAtMost rounds) q.event_tables.tables) queues e.queue n (telling now t e (get_or queues e.queue no_queue))
+    (one-event (get_or queues e.queue no_queue).event_tables.tables (telling now t e (get_or queues e.queue no_queue)).event_tables.tables (told_event ((get_or queues e.queue no_queue).seq + 1) now t e) refl (omega arith) (all e.queue)) (all n))
 
 pub retried-told : {A E : Type 0} {rounds : ℕ} → (r : Result A E) (now : ℤ) (t : ℕ) (es : List RowEvent) (old new : List QueueView) (rs : List Retry) → StillStand old new → OnOk r (new ≡ telling_all now t es old) → OnErr r (new ≡ old)
     → RetriedWithin rounds old rs → RetriedWithin rounds new rs
 retried-told {rounds = rounds} (Ok a) now t es old new rs still ok err within =
-    retried-still old new rs still (λ all. subst (λ qs. (n : ℕ) → AllStored (RetriedAtMost rounds) (get_or qs n no_queue).tables.tables) (sym ok) (told-bound now t es old all)) within
+    retried-still old new rs still (λ all. subst (λ qs. (n : ℕ) → AllStored (RetriedAtMost rounds) (get_or qs n no_queue).event_tables.tables) (sym ok) (told-bound now t es old all)) within
 retried-told (Err e) now t es old new rs still ok err within = retried-same old new rs err within
 
 -- ---- a retry is asked for

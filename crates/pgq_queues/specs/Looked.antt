@@ -15,13 +15,13 @@ most_between _ _ ts = 0
 
 -- for a batch of a queue
 abbrev pub most_in : Queue → Batch → ℕ
-most_in q b = most_between (tick b.prev q.tick_list) (tick b.cur q.tick_list) q.tables
+most_in q b = most_between (tick b.prev q.tick_list) (tick b.cur q.tick_list) q.event_tables
 
--- they are those between two ticks, if both are kept
+-- what is looked at between two ticks, if both are kept
 abbrev pub AreLookedAtBetween : (from to : Option Tick) → Tables → List Looked → Type 0
 AreLookedAtBetween (Some from) (Some to) ts looks = AreLookedAt from.snapshot to.snapshot ts looks
 AreLookedAtBetween _ _ ts looks = Unit {0}
 
 -- for a batch of a queue
 abbrev pub AreLookedAtIn : Queue → Batch → List Looked → Type 0
-AreLookedAtIn q b looks = AreLookedAtBetween (tick b.prev q.tick_list) (tick b.cur q.tick_list) q.tables looks
+AreLookedAtIn q b looks = AreLookedAtBetween (tick b.prev q.tick_list) (tick b.cur q.tick_list) q.event_tables looks

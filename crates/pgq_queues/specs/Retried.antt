@@ -32,4 +32,4 @@ pub record IsWaiting (rounds : ℕ) (queues : List QueueView) (r : Retry) : Type
 -- this holds of each retry; and no event that is stored was retried more often than retries came back
 pub record RetriedWithin (rounds : ℕ) (queues : List QueueView) (retries : List Retry) : Type 0 where
   pub waiting : All (IsWaiting (rounds + 1) queues) retries
-  pub stored : (n : ℕ) → AllStored (RetriedAtMost rounds) (slice_index_or queues n no_queue).tables.tables
+  pub stored : (n : ℕ) → AllStored (RetriedAtMost rounds) (slice_index_or queues n no_queue).event_tables.tables

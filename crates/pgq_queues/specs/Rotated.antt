@@ -8,7 +8,7 @@ use Rattle.pgq_queues.specs.Seen.{no_queue}
 
 -- a queue with its event tables changed; how often events were looked at stays
 abbrev pub retabled : (Tables → Tables) → QueueView → QueueView
-retabled change q = record q { tables = record q.tables { tables = change q.tables.tables } }
+retabled change q = record q { event_tables = record q.tables { tables = change q.event_tables.tables } }
 
 -- a queue once a transaction was rolled back
 abbrev pub undone_in : ℕ → QueueView → QueueView
@@ -16,15 +16,15 @@ undone_in t q = retabled (without_transaction t) q
 
 -- a queue whose pending switch was made at a time
 abbrev pub switched_in : ℤ → QueueView → QueueView
-switched_in now q = record (retabled (tables_of.with_switch now) q) { ticks = ticks_above (second_step_of q.tables.tables) q.ticks }
+switched_in now q = record (retabled (tables_of.with_switch now) q) { ticks = ticks_above (second_step_of q.event_tables.tables) q.ticks }
 
 -- one whose pending switch was made if it is this transaction's
 abbrev pub settled_in : ℕ → ℤ → QueueView → QueueView
-settled_in t now q = if is_pending t q.tables.tables then switched_in now q else q
+settled_in t now q = if is_pending t q.event_tables.tables then switched_in now q else q
 
 -- one whose second step was made by this transaction if it was missing
 abbrev pub ended_in : ℕ → QueueView → QueueView
-ended_in t q = if is_none q.tables.tables.second_step then retabled (with_second_step t) q else q
+ended_in t q = if is_none q.event_tables.tables.second_step then retabled (with_second_step t) q else q
 
 -- each of the queues of some numbers is changed, one after another
 abbrev pub each_changed : (QueueView → QueueView) → List ℕ → List QueueView → List QueueView

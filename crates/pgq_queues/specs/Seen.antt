@@ -22,7 +22,7 @@ abbrev pub seen_queue : QueueView → Queue
 seen_queue q = record {
   config = q.config;
   seq = q.seq;
-  tables = q.tables.tables;
+  tables = q.event_tables.tables;
   tick_list = q.ticks;
   members = (seen_subs q.subs).members;
   sub = shown (seen_subs q.subs).kept;
@@ -30,7 +30,7 @@ seen_queue q = record {
 
 -- a queue that isn't made, or was dropped
 abbrev pub no_queue : QueueView
-no_queue = record { config = default_config; seq = 0; tables = record { tables = no_tables; reads = 0 }; ticks = []; subs = no_subs }
+no_queue = record { config = default_config; seq = 0; event_tables = record { tables = no_tables; reads = 0 }; ticks = []; subs = no_subs }
 
 -- the queue of a number exists: it has a tick
 abbrev pub Stands : List QueueView → ℕ → Type 0
@@ -50,7 +50,7 @@ seen_span s = record { id = 0; queue = s.queue; consumer = []; sub = s.sub; prev
 
 -- how many stored events of the queue of a number were ever looked at
 abbrev pub reads_at : List QueueView → ℕ → ℕ
-reads_at queues n = (slice_index_or queues n no_queue).tables.reads
+reads_at queues n = (slice_index_or queues n no_queue).event_tables.reads
 
 -- the active batch of a subscription at a place, under an id
 abbrev pub batch_of : ℕ → Place → SubView → Option model.Batch

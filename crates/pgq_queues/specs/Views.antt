@@ -13,7 +13,7 @@ use Rattle.pgq_queues.specs.declared.batch.Place.{Place}
 pub record QueueView : Type 0 where
   pub config : Config
   pub seq : ℕ
-  pub tables : TablesView
+  pub event_tables : TablesView
   pub ticks : List Tick
   -- by their consumers, in the order of registering
   pub subs : NamedView SubView

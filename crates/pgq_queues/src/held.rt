@@ -21,16 +21,16 @@ impl Queue {
         ensures held { IfOk result (λ held. held ≡ held_back now (seen_queue self.now)) }
         ensures moment { IfOk result (λ held. IfSome held IsPrinted) }
     {
-        if let Some(txid) = self.tables.pending() {
+        if let Some(txid) = self.event_tables.pending() {
             return Ok(Some(HeldBack::Pending(txid)));
         }
         let ends = self.period_ends();
         if now < ends {
             return Ok(Some(HeldBack::Period(ends)));
         }
-        match self.tables.step2_id() {
+        match self.event_tables.step2_id() {
             Some(txid) => self.held_by_step2(alloc, txid),
-            None => Ok(Some(HeldBack::SecondStep(self.tables.step1_id()))),
+            None => Ok(Some(HeldBack::SecondStep(self.event_tables.step1_id()))),
         }
     }
 
@@ -39,10 +39,10 @@ impl Queue {
         requires { IsTime now }
         ensures { result ≡ is_some (held_back now (seen_queue self.now)) }
     {
-        if self.tables.pending().is_some() || now < self.period_ends() {
+        if self.event_tables.pending().is_some() || now < self.period_ends() {
             return true;
         }
-        match self.tables.step2_id() {
+        match self.event_tables.step2_id() {
             Some(txid) => self.has_too_old(txid) || self.held_by_newest(txid).is_some(),
             None => true,
         }
@@ -65,7 +65,7 @@ impl Queue {
         ensures value { result ≡ period_ends (seen_queue self.now) }
         ensures moment { HasMoment result }
     {
-        self.tables.switched_at() + self.config.rotation_period()
+        self.event_tables.switched_at() + self.config.rotation_period()
     }
 
     /// What a switch whose second step a transaction made holds back.
@@ -125,8 +125,8 @@ impl Queue {
     pub fn floor(&self) -> u64
         ensures { result ≡ floor (seen_queue self.now) }
     {
-        let above = match self.tables.pending() {
-            Some(_) => self.tables.step2_id().unwrap_or(0),
+        let above = match self.event_tables.pending() {
+            Some(_) => self.event_tables.step2_id().unwrap_or(0),
             None => 0,
         };
         self.ticks.least(above).unwrap_or(0)

@@ -40,7 +40,7 @@ pub struct Queue {
     alloc: Global,
     pub(crate) config: QueueConfig,
     seq: u64,
-    pub(crate) tables: EventTables,
+    pub(crate) event_tables: EventTables,
     pub(crate) ticks: Ticks,
     pub(crate) subs: Subs,
 }
@@ -52,9 +52,9 @@ impl Model for Queue {
 
     ghost Value = { QueueView };
 
-    ghost invariant = { λ q. AllStored (λ e. HasMoment e.ev_time) q.tables.tables × IsTime q.tables.tables.switched_at };
+    ghost invariant = { λ q. AllStored (λ e. HasMoment e.ev_time) q.event_tables.tables × IsTime q.event_tables.tables.switched_at };
 
-    ghost view = { λ q. record { config = q.config; seq = q.seq; tables = q.tables; ticks = q.ticks; subs = q.subs } };
+    ghost view = { λ q. record { config = q.config; seq = q.seq; event_tables = q.event_tables; ticks = q.ticks; subs = q.subs } };
 }
 
 impl Queue {
@@ -66,7 +66,7 @@ impl Queue {
         snapshot: Snapshot,
     ) -> Result<Queue, NoMemory>
         requires { IsTime now }
-        ensures { IfOk result (λ queue. queue ≡ record { config = default_config; seq = 0; tables = record { tables = new_tables txid now; reads = 0 }; ticks = record { id = 1; time = now; snapshot = snapshot; seq = 0 } ∷ []; subs = no_subs }) }
+        ensures { IfOk result (λ queue. queue ≡ record { config = default_config; seq = 0; event_tables = record { tables = new_tables txid now; reads = 0 }; ticks = record { id = 1; time = now; snapshot = snapshot; seq = 0 } ∷ []; subs = no_subs }) }
     {
         let first = Tick {
             id: 1,
@@ -79,7 +79,7 @@ impl Queue {
             alloc,
             config: QueueConfig::new(),
             seq: 0,
-            tables: EventTables::new(alloc, TABLES, txid, now)?,
+            event_tables: EventTables::new(alloc, TABLES, txid, now)?,
             ticks,
             subs: Subs::new(alloc),
         })
@@ -109,11 +109,11 @@ impl Queue {
         ensures { IfOk result (λ info. info ≡ info_of (seen_queue self.now)) }
     {
         let mut stored = Vec::with_capacity(alloc, TABLES)?;
-        for table in 0..self.tables.len() {
-            stored.push(self.tables.count(table) as u64)?;
+        for table in 0..self.event_tables.len() {
+            stored.push(self.event_tables.count(table) as u64)?;
         }
         Ok(QueueInfo {
-            current: self.tables.current() as u64,
+            current: self.event_tables.current() as u64,
             last_tick: self.ticks.newest().id(),
             seq: self.seq,
             stored: Counts::new(stored),
@@ -158,16 +158,16 @@ impl Queue {
 
     /// The first of these transactions that has an event here, or makes the pending switch.
     pub fn first_producer(&self, txids: &[u64]) -> Option<u64>
-        ensures { result ≡ find (has_part_in (seen_queue self.now).tables) txids.now }
+        ensures { result ≡ find (has_part_in (seen_queue self.now).event_tables) txids.now }
     {
         txids.iter().copied().find(|txid| self.has_part(*txid))
     }
 
     /// Whether a transaction has an event here, or makes the pending switch.
     fn has_part(&self, txid: u64) -> bool
-        ensures { result ≡ has_part_in (seen_queue self.now).tables txid }
+        ensures { result ≡ has_part_in (seen_queue self.now).event_tables txid }
     {
-        self.tables.has_writer(txid) || self.tables.pending() == Some(txid)
+        self.event_tables.has_writer(txid) || self.event_tables.pending() == Some(txid)
     }
 
     /// The sequence has this value from now on.
@@ -194,7 +194,7 @@ impl Queue {
         ensures ok { OnOk result (self.new ≡ retabled (with_stored event) self.old) }
         ensures err { OnErr result (self.new ≡ self.old) }
     {
-        self.tables.insert(event)
+        self.event_tables.insert(event)
     }
 
     /// Stores a plain event.
@@ -204,7 +204,7 @@ impl Queue {
         ensures ok { OnOk result (self.new ≡ retabled (with_stored (full_event event)) self.old) }
         ensures err { OnErr result (self.new ≡ self.old) }
     {
-        self.tables.insert_plain(event)
+        self.event_tables.insert_plain(event)
     }
 
     /// Stores one more event of a trigger, which takes the next id.
@@ -215,7 +215,7 @@ impl Queue {
         ensures err { OnErr result (self.new ≡ self.old) }
     {
         let id = self.seq + 1;
-        self.tables.insert(told_event(id, now, txid, event))?;
+        self.event_tables.insert(told_event(id, now, txid, event))?;
         self.seq = id;
         Ok(())
     }
@@ -225,7 +225,7 @@ impl Queue {
         requires { (now : ℤ) × (t : ℕ) × (e : RowEvent) × (q : QueueView) × (self.old ≡ telling now t e q) }
         ensures { (now : ℤ) (t : ℕ) (e : RowEvent) (q : QueueView) → self.old ≡ telling now t e q → self.new ≡ q }
     {
-        self.tables.take_back();
+        self.event_tables.take_back();
         self.seq -= 1;
     }
 
@@ -297,15 +297,15 @@ impl Queue {
     pub(crate) fn select(&mut self, alloc: Global, span: Span) -> Result<Vec<Event>, NoMemory>
         ensures events { IfOk result (λ events. events.items ≡ selected_in (seen_queue self.old) (seen_span span)) }
         ensures moments { IfOk result (λ events. EventsHaveMoments events.items) }
-        ensures but { self.new ≡ record self.old { tables = record self.old.tables { reads = self.new.tables.reads } } }
-        ensures lower { IfOk result (λ events. self.new.tables.reads < 2 ^ 64 - 1 → length events.items + self.old.tables.reads ≤ self.new.tables.reads) }
-        ensures upper { OnOk result (self.new.tables.reads ≤ self.old.tables.reads + most_between (tick span.prev self.old.ticks) (tick span.cur self.old.ticks) self.old.tables.tables) }
+        ensures but { self.new ≡ record self.old { event_tables = record self.old.event_tables { reads = self.new.event_tables.reads } } }
+        ensures lower { IfOk result (λ events. self.new.event_tables.reads < 2 ^ 64 - 1 → length events.items + self.old.event_tables.reads ≤ self.new.event_tables.reads) }
+        ensures upper { OnOk result (self.new.event_tables.reads ≤ self.old.event_tables.reads + most_between (tick span.prev self.old.ticks) (tick span.cur self.old.ticks) self.old.event_tables.tables) }
     {
         let ticks = (self.ticks.get(span.prev), self.ticks.get(span.cur));
         match ticks {
             (Some(prev), Some(cur)) => pgq_batch::select(
                 alloc,
-                &mut self.tables,
+                &mut self.event_tables,
                 prev.snapshot(),
                 cur.snapshot(),
                 span.sub,
@@ -317,14 +317,14 @@ impl Queue {
     /// Looks at the events that a batch of this queue may have: at none if one of its ticks isn't kept.
     pub(crate) fn look(&mut self, alloc: Global, span: Span) -> Result<Vec<Looked>, NoMemory>
         ensures looked { IfOk result (λ looks. AreLookedAtIn (seen_queue self.old) (seen_span span) looks.items) }
-        ensures but { self.new ≡ record self.old { tables = record self.old.tables { reads = self.new.tables.reads } } }
-        ensures lower { OnOk result (self.new.tables.reads < 2 ^ 64 - 1 → length (selected_in (seen_queue self.old) (seen_span span)) + self.old.tables.reads ≤ self.new.tables.reads) }
-        ensures upper { OnOk result (self.new.tables.reads ≤ self.old.tables.reads + most_between (tick span.prev self.old.ticks) (tick span.cur self.old.ticks) self.old.tables.tables) }
+        ensures but { self.new ≡ record self.old { event_tables = record self.old.event_tables { reads = self.new.event_tables.reads } } }
+        ensures lower { OnOk result (self.new.event_tables.reads < 2 ^ 64 - 1 → length (selected_in (seen_queue self.old) (seen_span span)) + self.old.event_tables.reads ≤ self.new.event_tables.reads) }
+        ensures upper { OnOk result (self.new.event_tables.reads ≤ self.old.event_tables.reads + most_between (tick span.prev self.old.ticks) (tick span.cur self.old.ticks) self.old.event_tables.tables) }
     {
         let ticks = (self.ticks.get(span.prev), self.ticks.get(span.cur));
         match ticks {
             (Some(prev), Some(cur)) => {
-                pgq_batch::look(alloc, &mut self.tables, prev.snapshot(), cur.snapshot())
+                pgq_batch::look(alloc, &mut self.event_tables, prev.snapshot(), cur.snapshot())
             }
             _ => Ok(Vec::new(alloc)),
         }
@@ -344,7 +344,7 @@ impl Queue {
         match ticks {
             (Some(prev), Some(cur)) => {
                 let (prev, cur) = (prev.snapshot(), cur.snapshot());
-                let found = pgq_batch::lend(alloc, &self.tables, looks, prev, cur, span.sub)?;
+                let found = pgq_batch::lend(alloc, &self.event_tables, looks, prev, cur, span.sub)?;
                 pgq_batch::recorded(alloc, &found)
             }
             _ => Ok(Vec::new(alloc)),
@@ -361,15 +361,15 @@ impl Queue {
     ) -> Result<Option<Event>, NoMemory>
         ensures found { IfOk result (λ found. found ≡ find (λ e. e.ev_id == id) (selected_in (seen_queue self.old) (seen_span span))) }
         ensures moment { IfOk result (λ found. IfSome found (λ e. HasMoment e.ev_time)) }
-        ensures rounds { (rounds : ℕ) → AllStored (RetriedAtMost rounds) self.old.tables.tables → IfOk result (λ found. IfSome found (λ e. RetriedAtMost rounds e)) }
-        ensures but { self.new ≡ record self.old { tables = record self.old.tables { reads = self.new.tables.reads } } }
-        ensures upper { OnOk result (self.new.tables.reads ≤ self.old.tables.reads + most_between (tick span.prev self.old.ticks) (tick span.cur self.old.ticks) self.old.tables.tables) }
+        ensures rounds { (rounds : ℕ) → AllStored (RetriedAtMost rounds) self.old.event_tables.tables → IfOk result (λ found. IfSome found (λ e. RetriedAtMost rounds e)) }
+        ensures but { self.new ≡ record self.old { event_tables = record self.old.event_tables { reads = self.new.event_tables.reads } } }
+        ensures upper { OnOk result (self.new.event_tables.reads ≤ self.old.event_tables.reads + most_between (tick span.prev self.old.ticks) (tick span.cur self.old.ticks) self.old.event_tables.tables) }
     {
         let ticks = (self.ticks.get(span.prev), self.ticks.get(span.cur));
         match ticks {
             (Some(prev), Some(cur)) => pgq_batch::find(
                 alloc,
-                &mut self.tables,
+                &mut self.event_tables,
                 prev.snapshot(),
                 cur.snapshot(),
                 span.sub,
@@ -383,28 +383,28 @@ impl Queue {
     pub(crate) fn undo(&mut self, txid: u64)
         ensures { self.new ≡ undone_in txid self.old }
     {
-        if self.tables.pending() == Some(txid) {
-            self.tables.drop_switch();
+        if self.event_tables.pending() == Some(txid) {
+            self.event_tables.drop_switch();
         }
-        self.tables.mark_dead(txid);
+        self.event_tables.mark_dead(txid);
     }
 
     /// A switch is pending, which the commit of a transaction makes.
     pub(crate) fn begin_switch(&mut self, txid: u64)
-        requires { self.old.tables.tables.pending ≡ None }
+        requires { self.old.event_tables.tables.pending ≡ None }
         ensures { self.new ≡ retabled (with_pending txid) self.old }
     {
-        self.tables.begin_switch(txid);
+        self.event_tables.begin_switch(txid);
     }
 
     /// The pending switch is made, and the ticks are dropped that aren't above the second step of the one before.
     pub(crate) fn commit_switch(&mut self, now: i64)
         requires time { IsTime now }
-        requires pending { is_some self.old.tables.tables.pending ≡ true }
+        requires pending { is_some self.old.event_tables.tables.pending ≡ true }
         ensures { self.new ≡ switched_in now self.old }
     {
-        self.ticks.drop_below(self.tables.step2_id().unwrap_or(0));
-        self.tables.commit_switch(now);
+        self.ticks.drop_below(self.event_tables.step2_id().unwrap_or(0));
+        self.event_tables.commit_switch(now);
     }
 
     /// The pending switch is made if this transaction makes it.
@@ -412,16 +412,16 @@ impl Queue {
         requires { IsTime now }
         ensures { self.new ≡ settled_in txid now self.old }
     {
-        if self.tables.pending() == Some(txid) {
+        if self.event_tables.pending() == Some(txid) {
             self.commit_switch(now);
         }
     }
 
     /// Whether the second step of the last switch is missing.
     pub(crate) fn lacks_second_step(&self) -> bool
-        ensures { result ≡ is_none self.now.tables.tables.second_step }
+        ensures { result ≡ is_none self.now.event_tables.tables.second_step }
     {
-        self.tables.step2_id().is_none()
+        self.event_tables.step2_id().is_none()
     }
 
     /// A transaction makes the second step of the last switch, if it is missing.
@@ -429,7 +429,7 @@ impl Queue {
         ensures { self.new ≡ ended_in txid self.old }
     {
         if self.lacks_second_step() {
-            self.tables.step2(txid);
+            self.event_tables.step2(txid);
         }
     }
 }

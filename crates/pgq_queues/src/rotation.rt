@@ -41,7 +41,7 @@ impl Queues {
     /// A switch of a queue is pending, which the commit of a transaction makes.
     pub fn begin_switch(&mut self, queue: usize, txid: u64)
         requires stands { Stands self.old.queues queue }
-        requires none { (queue_at self.old queue).tables.pending ≡ None }
+        requires none { (queue_at self.old queue).event_tables.pending ≡ None }
         ensures mark { (beside : Beside) → seen_with beside self.new ≡ after_mark (seen_with beside self.old) (queued (switching queue txid)) }
         ensures stand { StillStand self.old.queues self.new.queues }
         ensures rest { KeepsRest self.old self.new }
@@ -53,7 +53,7 @@ impl Queues {
     pub fn commit_switch(&mut self, queue: usize, now: i64)
         requires stands { Stands self.old.queues queue }
         requires time { IsTime now }
-        requires pending { is_some (queue_at self.old queue).tables.pending ≡ true }
+        requires pending { is_some (queue_at self.old queue).event_tables.pending ≡ true }
         ensures mark { (beside : Beside) → seen_with beside self.new ≡ after_mark (seen_with beside self.old) (queued (switched queue now)) }
         ensures stand { StillStand self.old.queues self.new.queues }
         ensures rest { KeepsRest self.old self.new }

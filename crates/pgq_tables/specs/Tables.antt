@@ -19,7 +19,7 @@ full_event e = record {
   ev_extra4 = None;
 }
 
--- what of an event records a change of a row: the others are missing
+-- the parts of an event that record a change of a row; its time is 0, and the rest is missing
 abbrev pub recorded_part : Event → Event
 recorded_part e = record {
   ev_id = e.ev_id;

@@ -3,7 +3,7 @@ ghost use Rattle.std.specs.Prelude.{◌≡◌, ◌-◌};
 use std::marker::Model;
 
 /// The events of a table between two indexes in order of transactions, of which each was counted as looked at and can
-/// be lent once. Only `look` of the tables makes one, and by it alone are several events lent at once.
+/// be lent once. Only `EventTables::look` makes one, and only by one are several events lent at once.
 #[derive(Debug, Drop)]
 pub struct Looked {
     pub(crate) table: usize,

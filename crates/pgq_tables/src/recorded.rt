@@ -4,8 +4,8 @@ ghost use Rattle.pgq_tables.specs.Tables.{recorded_part};
 use sky_val::{Event, Text};
 use std::marker::Model;
 
-/// What of an event records a change of a row: its id and transaction, what was done, the row, and the table's name. It
-/// is seen as an event of which all else is missing.
+/// The parts of an event that record a change of a row: its id and transaction, what was done, the row, and the table's
+/// name. It is seen as an event at the moment 0 of which all else is missing.
 #[derive(Drop)]
 pub struct Recorded<'a> {
     pub ev_id: u64,

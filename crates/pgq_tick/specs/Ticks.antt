@@ -1,11 +1,11 @@
 -- Lists of ticks, as a queue keeps them.
 use Rattle.std.specs.Prelude.{ℕ, ◌+◌, ℤ, pos, neg_ℤ, ◌≤◌, ◌≤ℤ◌, nat_lt, Bool, List, [], ◌∷◌, Option, option_map, find, filter}
-use Rattle.sky_model.specs.Moment.{IsTime}
+use Rattle.sky_model.specs.Moment.{last_moment, IsTime}
 use Rattle.sky_model.specs.Queues.{Tick, is_above}
 
 -- a time from one moment of the clock to another
 abbrev pub IsSpan : ℤ → Type 0
-IsSpan time = (neg_ℤ (pos 1000000000000000) ≤ℤ time) × (time ≤ℤ pos 1000000000000000)
+IsSpan time = (neg_ℤ last_moment ≤ℤ time) × (time ≤ℤ last_moment)
 
 -- rising ids, the first at least this one, at moments of the clock
 abbrev pub AreTicks : ℕ → List Tick → Type 0

@@ -22,7 +22,7 @@ use Rattle.sky_model.specs.declared.reply.Reply.TheVariants.{Done, Number, Null}
 use Rattle.sky_model.specs.declared.reply.Refusal.TheVariants.{NoQueue, ReservedType, NodeExists, QueueExists, TooMany, TableBusy, Canceled}
 use Rattle.sky_model.specs.declared.reply.Limit.TheVariants.{Queues, Triggers}
 use Rattle.sky_model.specs.InForm.{IsInForm, IsRowInForm}
-use Rattle.sky_model.specs.History.{Mark, of_session, of_worker, of_copy, began, ended, block_failed, block_ended, looked, tabled, wrote, waits, waited, queued, made, raised, put, returned, switched, traced, untraced, noded, root_made, listed, unlisted, leaf_made, leaf_added, copied, restarted, applied, hold_begun, hold_ended, read_only, History}
+use Rattle.sky_model.specs.History.{Mark, of_session, of_worker, of_copy, began, ended, block_failed, block_ended, sight_taken, tabled, wrote, waits, waited, queued, made, raised, put, returned, switched, traced, untraced, noded, root_made, set_added, set_removed, leaf_made, leaf_added, copied, restarted, applied, hold_begun, hold_ended, read_only, History}
 use Rattle.sky_model.specs.Sessions.{Block, outside, inside, failed, session, has_open, block, own_txid}
 use Rattle.sky_model.specs.Locks.{waiting, attempt}
 use Rattle.sky_model.specs.Nodes.{node, is_leaf, is_set_queue}
@@ -164,7 +164,7 @@ shows-held h cut strict who n key = shown-held h (cut-held h cut (not-true (is_l
 plain-switches_by : (d : Database) (now : ℤ) (t : ℕ) (qs : List NamedQueue) (marks : List Mark) → Each Plain marks → Each Plain (switches_by d now t qs ++ marks)
 plain-switches_by d now t [] marks all = all
 plain-switches_by d now t (q ∷ qs) marks all =
-    by_test (λ b. Each Plain ((if b then queued (switched q.number now) ∷ switches_by d now t qs else switches_by d now t qs) ++ marks)) (is_pending t (d.queue q.number).tables)
+    by_test (λ b. Each Plain ((if b then queued (switched q.number now) ∷ switches_by d now t qs else switches_by d now t qs) ++ marks)) (is_pending t (d.queue q.number).event_tables)
     (λ _. (tt, plain-switches_by d now t qs marks all)) (λ _. plain-switches_by d now t qs marks all)
 
 plain-commit : (d : Database) (now : ℤ) (who : ℕ) (b : Block) (o : Option ℕ) → PlainLeaves (after_marks_of (switches_of d now (committed_by b o)) (tells d now (commit who o b)))
@@ -286,8 +286,8 @@ form-cut h cut now who stmt is = cut-settled h cut who (form (database_of h) (sh
 runs-cut : (h : History) → Cut h → (now : ℤ) (who : ℕ) (stmt : Stmt) → IsInForm stmt → (may : Checked (Unit {0})) → Cut (marked h (runs_if (making database_by_history now who stmt) (where_of stmt) who h may).marks)
 runs-cut h cut now who stmt is (Err refusal) = cut-abort h who (block who h) (own_txid who h) refusal cut
 runs-cut h cut now who stmt is (Ok _) =
-    cond_both (takes_sight (where_of stmt) (session h who).sight) (looking who (or_refused who (session (looked who ∷ h) who) (form (database_of (looked who ∷ h)) (shown_in (looked who ∷ h)) now who stmt))) _ (λ o. Cut (marked h o.marks))
-    (λ _. form-cut (looked who ∷ h) (plain (looked who) cut tt) now who stmt is) (λ _. form-cut h cut now who stmt is)
+    cond_both (takes_sight (where_of stmt) (session h who).sight) (looking who (or_refused who (session (sight_taken who ∷ h) who) (form (database_of (sight_taken who ∷ h)) (shown_in (sight_taken who ∷ h)) now who stmt))) _ (λ o. Cut (marked h o.marks))
+    (λ _. form-cut (sight_taken who ∷ h) (plain (sight_taken who) cut tt) now who stmt is) (λ _. form-cut h cut now who stmt is)
 
 statement-cut : (h : History) → Cut h → (now : ℤ) (who : ℕ) (stmt : Stmt) → IsInForm stmt → Cut (marked h (statement database_by_history h now who stmt).marks)
 statement-cut h cut now who stmt is = runs-cut h cut now who stmt is (allowed (is_waiting who (waiting h)) (has_open who h) (block who h) (where_of stmt))
@@ -378,7 +378,7 @@ daemon-cut h cut part.Maintain now =
 -- ---- calls
 
 enters-cut : (h : History) → Cut h → (who : ℕ) (sight : Bool) (may : Checked (Unit {0})) → Cut (marked h (enters who (look_of who sight) may).marks)
-enters-cut h cut who true (Ok _) = plain (looked who) cut tt
+enters-cut h cut who true (Ok _) = plain (sight_taken who) cut tt
 enters-cut h cut who false (Ok _) = cut
 enters-cut h cut who sight (Err refusal) = cut
 
@@ -399,8 +399,8 @@ consumers-plain (queued (returned retry moment)) e = absurd (cc)
 consumers-plain (queued (traced table name trigger)) e = absurd (cc)
 consumers-plain (queued (untraced table)) e = absurd (cc)
 consumers-plain (noded (root_made name queue)) e = absurd (cc)
-consumers-plain (noded (listed table)) e = absurd (cc)
-consumers-plain (noded (unlisted table)) e = absurd (cc)
+consumers-plain (noded (set_added table)) e = absurd (cc)
+consumers-plain (noded (set_removed table)) e = absurd (cc)
 consumers-plain _ e = tt
 
 -- the marks of a copy, in a leaf's database
@@ -454,7 +454,7 @@ lists-cut : (h : History) → Cut h → (name : List ℕ) (q table : ℕ) → Cu
 lists-cut h cut name q table = of (nat_le 8 (length (triggers_of table (triggers h)))) (least_writer (part_of h) table)
   where
     of : (full : Bool) (busy : Option ℕ)
-        → CutIf h (refused_if full (TooMany Triggers) >> (refused_by (option_map TableBusy busy) >> does_marks Done (noded (listed name) ∷ queued (traced table None (set_trigger q)) ∷ [])))
+        → CutIf h (refused_if full (TooMany Triggers) >> (refused_by (option_map TableBusy busy) >> does_marks Done (noded (set_added name) ∷ queued (traced table None (set_trigger q)) ∷ [])))
     of true busy = λ _. cut
     of false (Some t) = λ _. cut
     of false None = λ traces. lists name table q cut traces

@@ -12,7 +12,7 @@ use Rattle.pgq_retry.specs.declared.retry.Retry.{Retry}
 use Rattle.londiste_state.specs.Nodes.{Node, of_root, of_leaf}
 use Rattle.sky_urlenc.specs.RowEvents.{Trigger, Write, leaves_out, event_of}
 use Rattle.sky_urlenc.specs.Changes as change
-use Rattle.sky_model.specs.History.{Mark, of_session, tabled, table_made, wrote, queued, raised, put, returned, listed, unlisted, History}
+use Rattle.sky_model.specs.History.{Mark, of_session, tabled, table_made, wrote, queued, raised, put, returned, set_added, set_removed, History}
 use Rattle.sky_model.specs.Nodes.{after_node, node, is_root, is_leaf}
 use Rattle.sky_model.specs.Queues.{queues_made, queues, events}
 use Rattle.sky_model.specs.Retries.{brought_by}
@@ -348,10 +348,10 @@ module _ (n : ℕ) (name : List ℕ) (columns : List Column) (q : ℕ) where
       subst (λ es. Tells columns es (written n h)) (sym (one-apart h retry.queue (brought_by t retry.event) (back-owned t (legal-below_mark l) (fine_mark l))))
       (cut-tells h cut (legal-below_mark (legal-below_mark l)) root set (table-below n name columns _ h (table-below n name columns _ _ a)))
   cut-tells _ (lists {h = h} table_name table p cut after) l root set a =
-      let same : IsSameNode (node h) (after_node (listed table_name) (node h)) = same-node (listed table_name) refl (node h) in
+      let same : IsSameNode (node h) (after_node (set_added table_name) (node h)) = same-node (set_added table_name) refl (node h) in
       cut-tells h cut (legal-below_mark (legal-below_mark l)) (sym same.root ∙ root) (sym (same.set (queues h)) ∙ set) (table-below n name columns _ h (table-below n name columns _ _ a))
   cut-tells _ (unlists {h = h} table_name table cut after) l root set a =
-      let same : IsSameNode (node h) (after_node (unlisted table_name) (node h)) = same-node (unlisted table_name) refl (node h) in
+      let same : IsSameNode (node h) (after_node (set_removed table_name) (node h)) = same-node (set_removed table_name) refl (node h) in
       cut-tells h cut (legal-below_mark (legal-below_mark l)) (sym same.root ∙ root) (sym (same.set (queues h)) ∙ set) (table-below n name columns _ h (table-below n name columns _ _ a))
   cut-tells _ (roots {h = h} root_name queue t time cut bare) l root set a =
       let below : Legal h = legal-below_mark (legal-below_mark l) in

@@ -3,7 +3,7 @@ use Rattle.std.proofs.Common.{◌≡◌, ℕ, ℤ, List, [], ◌∷◌, true, fa
 use Rattle.sky_val.specs.declared.val.Val.{Val}
 use Rattle.sky_val.specs.declared.event.Event.{Event}
 use Rattle.pgq_retry.specs.declared.retry.Retry.{Retry}
-use Rattle.sky_model.specs.History.{Whose, Mark, of_session, tabled, wrote, queued, made, raised, put, returned, traced, untraced, noded, root_made, listed, unlisted, leaf_made, History}
+use Rattle.sky_model.specs.History.{Whose, Mark, of_session, tabled, wrote, queued, made, raised, put, returned, traced, untraced, noded, root_made, set_added, set_removed, leaf_made, History}
 use Rattle.sky_model.specs.Nodes.{node, is_leaf, set_tables}
 use Rattle.sky_model.specs.Queues.{queues}
 use Rattle.sky_model.specs.State.{Database, database_of}
@@ -47,9 +47,9 @@ pub data Cut : History → Type 0 where
   -- a retry that comes back
   returns : {h : History} (retry : Retry) (t : ℕ) (moment : ℤ) → Cut h → Cut (queued (returned retry moment) ∷ queued (put retry.queue (brought_by t retry.event)) ∷ h)
   -- a table that joins a set; one that leaves it
-  lists : {h : History} (name : List ℕ) (table q : ℕ) → Cut h → Tracing (queued (traced table None (set_trigger q)) ∷ noded (listed name) ∷ h)
-      → Cut (queued (traced table None (set_trigger q)) ∷ noded (listed name) ∷ h)
-  unlists : {h : History} (name : List ℕ) (table : ℕ) → Cut h → Tracing (queued (untraced table) ∷ noded (unlisted name) ∷ h) → Cut (queued (untraced table) ∷ noded (unlisted name) ∷ h)
+  lists : {h : History} (name : List ℕ) (table q : ℕ) → Cut h → Tracing (queued (traced table None (set_trigger q)) ∷ noded (set_added name) ∷ h)
+      → Cut (queued (traced table None (set_trigger q)) ∷ noded (set_added name) ∷ h)
+  unlists : {h : History} (name : List ℕ) (table : ℕ) → Cut h → Tracing (queued (untraced table) ∷ noded (set_removed name) ∷ h) → Cut (queued (untraced table) ∷ noded (set_removed name) ∷ h)
   -- a root, with the queue of its set
   roots : {h : History} (name queue : List ℕ) (t : ℕ) (time : ℤ) → Cut h → node h ≡ None → Cut (noded (root_made name queue) ∷ queued (made queue t time) ∷ h)
 
@@ -73,8 +73,8 @@ held-events h _ (with_put {ys = ys} queue event more) held = held-events (queued
 
 leaf-plain : (h : History) (mark : Mark) → Plain mark → is_leaf (node (mark ∷ h)) ≡ false → is_leaf (node h) ≡ false
 leaf-plain h (noded (root_made name queue)) is e = absurd is
-leaf-plain h (noded (listed table)) is e = absurd is
-leaf-plain h (noded (unlisted table)) is e = absurd is
+leaf-plain h (noded (set_added table)) is e = absurd is
+leaf-plain h (noded (set_removed table)) is e = absurd is
 leaf-plain h (noded (leaf_made name provider tick)) is e = absurd (cc)
 leaf-plain h (noded mark) is e = sym (same-node mark refl (node h)).leaf ∙ e
 leaf-plain h _ is e = e
@@ -100,6 +100,6 @@ cut-held _ (writes {h = h} who t table key old new time events cut told some hel
 cut-held _ (leaf_writes whose t table key old new cut leaf) free = absurd (cc (sym leaf ∙ free))
 cut-held _ (inserts {h = h} q value e cut is) free = cut-held h cut free
 cut-held _ (returns {h = h} retry t moment cut) free = cut-held h cut free
-cut-held _ (lists {h = h} name table q cut traces) free = cut-held h cut (sym (same-node (listed name) refl (node h)).leaf ∙ free)
-cut-held _ (unlists {h = h} name table cut traces) free = cut-held h cut (sym (same-node (unlisted name) refl (node h)).leaf ∙ free)
+cut-held _ (lists {h = h} name table q cut traces) free = cut-held h cut (sym (same-node (set_added name) refl (node h)).leaf ∙ free)
+cut-held _ (unlists {h = h} name table cut traces) free = cut-held h cut (sym (same-node (set_removed name) refl (node h)).leaf ∙ free)
 cut-held _ (roots {h = h} name queue t time cut bare) free = cut-held h cut (ap is_leaf bare)

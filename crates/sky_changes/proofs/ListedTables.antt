@@ -7,7 +7,7 @@ use Rattle.sky_txid.specs.Ids.{contains}
 use Rattle.sky_names.specs.Places.{place_of}
 use Rattle.sky_names.proofs.PlaceLemmas.{bytes_eq_refl, same_name, place_of-append}
 use Rattle.londiste_state.specs.Nodes.{Node, is_among}
-use Rattle.sky_model.specs.History.{Mark, NodeMark, tabled, table_made, wrote, noded, root_made, listed, unlisted, leaf_made, History}
+use Rattle.sky_model.specs.History.{Mark, NodeMark, tabled, table_made, wrote, noded, root_made, set_added, set_removed, leaf_made, History}
 use Rattle.sky_model.specs.Transactions.{next_txid, running, has_ended}
 use Rattle.sky_model.specs.Rows.{Write, table_names, columns_of, writes as writes_of}
 use Rattle.sky_model.specs.Nodes.{after_node, node, is_root, set_tables}
@@ -169,7 +169,7 @@ others-ended n (noded mark ∷ h) l is = others-more (noded mark) h (written n h
     of : (m : NodeMark) → NodeFits h m → is_listed n (noded m ∷ h) ≡ true → (is_listed n h ≡ true → OthersEnded h (written n h)) → OthersEnded h (written n h)
     of (root_made name queue) fits e ih = absurd (cc)
     of (leaf_made name provider tick) fits e ih = absurd (cc)
-    of (listed name) fits e ih =
+    of (set_added name) fits e ih =
         let root : is_root (node h) ≡ true = (and_parts (is_root (node h)) (not (is_among name (set_tables (node h)))) fits.may).0 in
         let either : (is_one_of (table_names h) (set_tables (node h)) n || is_at n (Some fits.table)) ≡ true
         = sym (ap (λ names. is_one_of (table_names h) names n) (set-listed (node h) name root) ∙ one-push (table_names h) (set_tables (node h)) name n
@@ -177,7 +177,7 @@ others-ended n (noded mark ∷ h) l is = others-more (noded mark) h (written n h
         by_test (λ b. is_listed n h ≡ b → (b || is_at n (Some fits.table)) ≡ true → OthersEnded h (written n h)) (is_listed n h)
         (λ _ was _. ih was)
         (λ _ _ joins. all-ended n h below (ap (least_writer (part_of h)) (sym (eqb-true fits.table n joins)) ∙ fits.unused.unwritten)) refl either
-    of (unlisted name) fits e ih =
+    of (set_removed name) fits e ih =
         ih (and_parts (not (fits.table == n)) (is_one_of (table_names h) (set_tables (node h)) n)
         (sym (ap (λ names. is_one_of (table_names h) names n) (set-unlisted (node h) name) ∙ one-less (table_names h) (set_tables (node h)) name fits.table fits.there n) ∙ e)).1
     of m fits e ih = ih (sym (ap (λ names. is_one_of (table_names h) names n) (set-same m refl (node h))) ∙ e)

@@ -19,7 +19,7 @@ use Rattle.sky_model.specs.declared.reply.Reply.TheVariants.{Done}
 use Rattle.sky_model.specs.Kinds as kind
 use Rattle.sky_model.specs.Kinds.{is_name}
 use Rattle.sky_model.specs.InForm.{IsOf, IsRowInForm}
-use Rattle.sky_model.specs.History.{Mark, of_session, block_failed, tabled, table_made, wrote, waits, queued, put, returned, traced, untraced, noded, root_made, listed, unlisted}
+use Rattle.sky_model.specs.History.{Mark, of_session, block_failed, tabled, table_made, wrote, waits, queued, put, returned, traced, untraced, noded, root_made, set_added, set_removed}
 use Rattle.sky_model.specs.Sessions.{Block, outside, inside, failed, Session}
 use Rattle.sky_model.specs.State.{RowPart}
 use Rattle.sky_model.specs.ShownRows.{KeyShown, RowsShown}
@@ -80,8 +80,8 @@ Plain (queued (returned retry moment)) = ⊥
 Plain (queued (traced table None trigger)) = ⊥
 Plain (queued (untraced table)) = ⊥
 Plain (noded (root_made name queue)) = ⊥
-Plain (noded (listed table)) = ⊥
-Plain (noded (unlisted table)) = ⊥
+Plain (noded (set_added table)) = ⊥
+Plain (noded (set_removed table)) = ⊥
 Plain _ = Unit {0}
 
 -- a session's write: it leaves a row or had one; and the row that it leaves is held, if it is to be

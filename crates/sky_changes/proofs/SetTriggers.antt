@@ -5,7 +5,7 @@ use Rattle.std.proofs.lemmas.List.Elements.{All-nil, All-head, All-tail, All-pus
 use Rattle.sky_names.specs.Places.{named}
 use Rattle.sky_names.proofs.PlaceLemmas.{bytes_eq_refl}
 use Rattle.londiste_state.specs.Nodes.{Node}
-use Rattle.sky_model.specs.History.{Mark, NodeMark, queued, made, put, raised, noded, root_made, listed, unlisted, leaf_made, leaf_added, leaf_removed, History}
+use Rattle.sky_model.specs.History.{Mark, NodeMark, queued, made, put, raised, noded, root_made, set_added, set_removed, leaf_made, leaf_added, leaf_removed, History}
 use Rattle.sky_model.specs.Nodes.{after_node, node, is_root, set_tables}
 use Rattle.sky_model.specs.Queues.{NamedQueue, queues_made, queues, queue_number}
 use Rattle.sky_model.specs.Rows.{table_names}
@@ -55,8 +55,8 @@ keeps-set (later {h = h} {mark = mark} s) l root =
 -- a node that is a root was one before a plain mark
 pub root-before : (h : History) (mark : Mark) → Plain mark → is_root (node (mark ∷ h)) ≡ true → is_root (node h) ≡ true
 root-before h (noded (root_made name queue)) is root = absurd is
-root-before h (noded (listed table)) is root = absurd is
-root-before h (noded (unlisted table)) is root = absurd is
+root-before h (noded (set_added table)) is root = absurd is
+root-before h (noded (set_removed table)) is root = absurd is
 root-before h (noded (leaf_made name provider tick)) is root = absurd (cc)
 root-before h (noded mark) is root = sym (same-node mark refl (node h)).root ∙ root
 root-before h _ is root = root
@@ -94,23 +94,23 @@ filter-skips p (y ∷ ys) x isnt =
 abbrev pub leaves_set : NodeMark → Bool
 leaves_set (root_made name queue) = false
 leaves_set (leaf_made name provider tick) = false
-leaves_set (listed table) = false
-leaves_set (unlisted table) = false
+leaves_set (set_added table) = false
+leaves_set (set_removed table) = false
 leaves_set _ = true
 
 pub set-same : (mark : NodeMark) → leaves_set mark ≡ true → (n : Option Node) → set_tables (after_node mark n) ≡ set_tables n
 set-same (root_made name queue) e n = absurd (cc)
 set-same (leaf_made name provider tick) e n = absurd (cc)
-set-same (listed table) e n = absurd (cc)
-set-same (unlisted table) e n = absurd (cc)
+set-same (set_added table) e n = absurd (cc)
+set-same (set_removed table) e n = absurd (cc)
 set-same (leaf_added table) e n = set-other _ n
 set-same (leaf_removed table) e n = set-other _ n
 set-same mark e n = (same-tables mark refl n).set
 
 tracing-plain : (h : History) → Legal h → (mark : Mark) → Fine h mark → Plain mark → Tracing h → Tracing (mark ∷ h)
 tracing-plain h l _ (nodes (root_made name queue) fits) is s = absurd is
-tracing-plain h l _ (nodes (listed table) fits) is s = absurd is
-tracing-plain h l _ (nodes (unlisted table) fits) is s = absurd is
+tracing-plain h l _ (nodes (set_added table) fits) is s = absurd is
+tracing-plain h l _ (nodes (set_removed table) fits) is s = absurd is
 tracing-plain h l _ (nodes (leaf_made name provider tick) fits) is s =
     λ n. s n ∙ ap (λ m. if is_one_of (table_names h) (set_tables m) n then triggers_into n (queue_of_set (queues h) m) else []) fits.0
 tracing-plain h l _ (nodes mark fits) is s =
@@ -200,11 +200,11 @@ named-elsewhere q _ (leaf_writes {h = h} whose t table key old new cut leaf) l r
 named-elsewhere q _ (inserts {h = h} p value e cut is) l root set = named-elsewhere q h cut (legal-below_mark (legal-below_mark l)) root set
 named-elsewhere q _ (returns {h = h} retry t moment cut) l root set = named-elsewhere q h cut (legal-below_mark (legal-below_mark l)) root set
 named-elsewhere q _ (lists {h = h} name table p cut after) l root set =
-    let same : IsSameNode (node h) (after_node (listed name) (node h)) = same-node (listed name) refl (node h) in
+    let same : IsSameNode (node h) (after_node (set_added name) (node h)) = same-node (set_added name) refl (node h) in
     All-push (NamedElsewhere q) (triggers h) (record { table = table; name = None; trigger = set_trigger p })
     (named-elsewhere q h cut (legal-below_mark (legal-below_mark l)) (sym same.root ∙ root) (sym (same.set (queues h)) ∙ set)) (λ e. absurd (cc))
 named-elsewhere q _ (unlists {h = h} name table cut after) l root set =
-    let same : IsSameNode (node h) (after_node (unlisted name) (node h)) = same-node (unlisted name) refl (node h) in
+    let same : IsSameNode (node h) (after_node (set_removed name) (node h)) = same-node (set_removed name) refl (node h) in
     All-filter (λ x. not (is_sets table x)) (NamedElsewhere q) (triggers h) (named-elsewhere q h cut (legal-below_mark (legal-below_mark l)) (sym same.root ∙ root) (sym (same.set (queues h)) ∙ set))
 named-elsewhere q _ (roots {h = h} name queue t time cut bare) l root set =
     let new : q ≡ queues_made h = new-number queue (queues h) (queues_made h) q (fresh-name (fine_mark (legal-below_mark l))) set in

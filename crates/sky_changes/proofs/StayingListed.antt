@@ -3,7 +3,7 @@ use Rattle.std.proofs.Common.{◌≡◌, inl, inr, ℕ, true, false, not, ◌||�
 use Rattle.std.proofs.lemmas.List.Elements.{All-head, All-tail}
 use Rattle.sky_names.proofs.PlaceLemmas.{same_name}
 use Rattle.londiste_state.specs.Nodes.{is_among, all_but}
-use Rattle.sky_model.specs.History.{Mark, NodeMark, noded, root_made, listed, unlisted, leaf_made, History}
+use Rattle.sky_model.specs.History.{Mark, NodeMark, noded, root_made, set_added, set_removed, leaf_made, History}
 use Rattle.sky_model.specs.Nodes.{after_node, node, set_tables}
 use Rattle.sky_model.specs.State.{database_of}
 use Rattle.sky_model.proofs.Legal.{Fine, NodeFits, Legal, legal-below_mark, fine_mark}
@@ -34,9 +34,9 @@ stays-mark h l (noded m) fine queue name out is = of m (fits-of fine) out
     of : (m : NodeMark) → NodeFits h m → is_unlisting name (noded m) ≡ false → is_among name (set_tables (after_node m (node h))) ≡ true
     of (root_made n q) fits e = absurd (cc (sym is.among ∙ ap (λ x. is_among name (set_tables x)) fits.0))
     of (leaf_made n q t) fits e = absurd (cc (sym is.among ∙ ap (λ x. is_among name (set_tables x)) fits.0))
-    of (listed table) fits e =
+    of (set_added table) fits e =
         ap (is_among name) (set-listed (node h) table (root-of h queue (sym (set-number (database_of h)) ∙ is.set))) ∙ among-push name (set_tables (node h)) table is.among
-    of (unlisted table) fits e = ap (is_among name) (set-unlisted (node h) table) ∙ among-but name table (set_tables (node h)) e is.among
+    of (set_removed table) fits e = ap (is_among name) (set-unlisted (node h) table) ∙ among-but name table (set_tables (node h)) e is.among
     of m fits e = ap (is_among name) (set-same m refl (node h)) ∙ is.among
 stays-mark h l _ fine queue name out is = is.among
 

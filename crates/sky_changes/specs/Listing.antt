@@ -1,7 +1,7 @@
 -- Whether a table stays in a set from one place of a history to another.
 use Rattle.std.specs.Prelude.{◌≡◌, ℕ, Bool, true, false, List, ◌++◌, Some, length, nat_lt, bytes_eq, if◌then◌else◌}
 use Rattle.londiste_state.specs.Nodes.{is_among}
-use Rattle.sky_model.specs.History.{Mark, noded, unlisted, History}
+use Rattle.sky_model.specs.History.{Mark, noded, set_removed, History}
 use Rattle.sky_model.specs.Nodes.{node, set_tables}
 use Rattle.sky_model.specs.State.{database_of}
 use Rattle.sky_model.specs.StepNode.{set_queue}
@@ -26,5 +26,5 @@ StaysListed p q queue name = (x : History) → IsBelow p x → IsBelow x q → I
 
 -- whether a mark takes the table of a name out of the set
 abbrev pub is_unlisting : List ℕ → Mark → Bool
-is_unlisting name (noded (unlisted table)) = bytes_eq name table
+is_unlisting name (noded (set_removed table)) = bytes_eq name table
 is_unlisting name _ = false

@@ -9,7 +9,8 @@ use Rattle.sky_model.specs.Reader.{within_database, by_past, Deed, answers_with,
 use Rattle.sky_model.specs.declared.reply.Reply.TheVariants.{Moment}
 use Rattle.sky_model.specs.declared.reply.Refusal.TheVariants.{ClockSpent}
 use Rattle.sky_model.specs.Daemon.{daemon_does, is_due_at, next_due}
-use Rattle.sky_model.specs.Clock.{deed_in, part_works, daemon_works, daemons_work, at_moment, goes_to, through, last_moment, clock_goes, clock}
+use Rattle.sky_model.specs.Moment.{last_moment}
+use Rattle.sky_model.specs.Clock.{deed_in, part_works, daemon_works, daemons_work, at_moment, goes_to, through, clock_goes, clock}
 use Rattle.sky_model.proofs.PastHistories.{on_top-append}
 
 -- what happens in a deed

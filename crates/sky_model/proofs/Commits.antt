@@ -61,7 +61,7 @@ pending-of t (Some u) is = let same : u ≡ t = grind (arith, nat_tests, is) in 
 
 -- each queue that has a switch of this transaction pending in a database still has it at a place, and stands there
 abbrev StillPending : Database → ℕ → History → List NamedQueue → Type 0
-StillPending d t g queues = All (λ q. IsQueue g q.number × (is_pending t (d.queue q.number).tables ≡ true → is_pending t (event_tables q.number g) ≡ true)) queues
+StillPending d t g queues = All (λ q. IsQueue g q.number × (is_pending t (d.queue q.number).event_tables ≡ true → is_pending t (event_tables q.number g) ≡ true)) queues
 
 -- the switches may be made one after another, and what may come after them all may come then
 pub good_switches_by : (d : Database) (now : ℤ) (t : ℕ) (queues : List NamedQueue) (g : History) → Legal g → Apart queues → StillPending d t g queues
@@ -69,8 +69,8 @@ pub good_switches_by : (d : Database) (now : ℤ) (t : ℕ) (queues : List Named
     → Chain g (switches_by d now t queues ++ marks)
 good_switches_by d now t [] g l apart still marks Q here also ends = ends g l here
 good_switches_by d now t (q ∷ queues) g l apart still marks Q here also ends =
-    by_test (λ b. is_pending t (d.queue q.number).tables ≡ b → Chain g ((if b then queued (switched q.number now) ∷ switches_by d now t queues else switches_by d now t queues) ++ marks))
-    (is_pending t (d.queue q.number).tables)
+    by_test (λ b. is_pending t (d.queue q.number).event_tables ≡ b → Chain g ((if b then queued (switched q.number now) ∷ switches_by d now t queues else switches_by d now t queues) ++ marks))
+    (is_pending t (d.queue q.number).event_tables)
     (λ _ is.
     let fine = makes_switch q.number t now first.0 (pending-of t (event_tables q.number g).pending (first.1 is)) in
     more fine (good_switches_by d now t queues (queued (switched q.number now) ∷ g) (next l fine) apart.1
@@ -80,11 +80,11 @@ good_switches_by d now t (q ∷ queues) g l apart still marks Q here also ends =
     marks Q (also g q.number here) also ends))
     (λ _ _. good_switches_by d now t queues g l apart.1 rest marks Q here also ends) refl
   where
-    first : IsQueue g q.number × (is_pending t (d.queue q.number).tables ≡ true → is_pending t (event_tables q.number g) ≡ true)
-    first = All-head (λ q. IsQueue g q.number × (is_pending t (d.queue q.number).tables ≡ true → is_pending t (event_tables q.number g) ≡ true)) q queues still
+    first : IsQueue g q.number × (is_pending t (d.queue q.number).event_tables ≡ true → is_pending t (event_tables q.number g) ≡ true)
+    first = All-head (λ q. IsQueue g q.number × (is_pending t (d.queue q.number).event_tables ≡ true → is_pending t (event_tables q.number g) ≡ true)) q queues still
 
     rest : StillPending d t g queues
-    rest = All-tail (λ q. IsQueue g q.number × (is_pending t (d.queue q.number).tables ≡ true → is_pending t (event_tables q.number g) ≡ true)) q queues still
+    rest = All-tail (λ q. IsQueue g q.number × (is_pending t (d.queue q.number).event_tables ≡ true → is_pending t (event_tables q.number g) ≡ true)) q queues still
 
 -- those of the queues that stand may
 pub good_switches : (h : History) → Legal h → (now : ℤ) (txid : Option ℕ) (marks : List Mark) (Q : History → Type 0) → Q h → ((f : History) (q : ℕ) → Q f → Q (queued (switched q now) ∷ f))

@@ -5,7 +5,7 @@ use Rattle.sky_keys.specs.Waits.{is_waiting}
 use Rattle.sky_model.specs.declared.stmt.Stmt.{Stmt}
 use Rattle.sky_model.specs.declared.reply.Reply.TheVariants.{Done, Null}
 use Rattle.sky_model.specs.declared.reply.Refusal.TheVariants.{TxidsSpent}
-use Rattle.sky_model.specs.History.{Mark, of_copy, began, noded, looked, History, hold_ended}
+use Rattle.sky_model.specs.History.{Mark, of_copy, began, noded, sight_taken, History, hold_ended}
 use Rattle.sky_model.specs.Transactions.{next_txid}
 use Rattle.sky_model.specs.Copies.{copies, copy_txid, Hold}
 use Rattle.sky_model.specs.Sessions.{session, has_open, block, own_txid}
@@ -50,7 +50,7 @@ unbegun-statement : (h : History) (now : ℤ) (who : ℕ) (stmt : Stmt) → Each
 unbegun-statement h now who stmt =
     (given-runs AnyReply is_no_begin (λ _. tt) (unbegun-if no_more) (making database_by_history now who stmt) (where_of stmt) who h
     (allowed (is_waiting who (waiting h)) (has_open who h) (block who h) (where_of stmt))
-    (unbegun-form (database_of h) (shown_in h) now who stmt) (unbegun-form (database_of (looked who ∷ h)) (shown_in (looked who ∷ h)) now who stmt)).1
+    (unbegun-form (database_of h) (shown_in h) now who stmt) (unbegun-form (database_of (sight_taken who ∷ h)) (shown_in (sight_taken who ∷ h)) now who stmt)).1
 
 unbegun-settling : (h : History) (now : ℤ) → EachMark is_no_begin (settling (within_part database_by_history now) h).marks
 unbegun-settling h now =

@@ -4,7 +4,7 @@ use Rattle.sky_val.specs.declared.event.Event.{Event}
 use Rattle.sky_model.specs.declared.stmt.Stmt.{Stmt}
 use Rattle.sky_model.specs.declared.reply.Refusal.{Refusal}
 use Rattle.sky_keys.specs.Waits.{is_waiting}
-use Rattle.sky_model.specs.History.{Batch, Mark, looked, History}
+use Rattle.sky_model.specs.History.{Batch, Mark, sight_taken, History}
 use Rattle.sky_model.specs.Consumers.{active_batch}
 use Rattle.sky_model.specs.Batches.{batch_events}
 use Rattle.sky_model.specs.Selection.{selected}
@@ -60,10 +60,10 @@ same-statement h l now who stmt =
       sessions = refl;
       waiting = refl;
       outcomes = ap (λ shown. form (database_of h) shown now who stmt) (same-shown h l);
-      sessions_behind = ap (λ (d : Database). d.part.session who) (database_of-mark h (looked who));
+      sessions_behind = ap (λ (d : Database). d.part.session who) (database_of-mark h (sight_taken who));
       outcomes_behind =
-          ap (λ shown. form (database_of (looked who ∷ h)) shown now who stmt) (same-shown (looked who ∷ h) (next l (looks who)))
-          ∙ ap (λ d. form d (shown_by d) now who stmt) (database_of-mark h (looked who));
+          ap (λ shown. form (database_of (sight_taken who ∷ h)) shown now who stmt) (same-shown (sight_taken who ∷ h) (next l (looks who)))
+          ∙ ap (λ d. form d (shown_by d) now who stmt) (database_of-mark h (sight_taken who));
     })
 
 -- a legal history reads as what the database keeps of it

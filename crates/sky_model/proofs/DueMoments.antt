@@ -21,7 +21,8 @@ use Rattle.sky_model.proofs.NodeDeeds.{after-node_does}
 use Rattle.sky_model.specs.Settling.{Turn}
 use Rattle.sky_model.specs.Reader.{Reader, within_database, by_past, Deed, answers_with, refuses, appears, idles, followed}
 use Rattle.sky_model.specs.Daemon.{daemon_does, period, is_due_at, first_after, earlier, next_due}
-use Rattle.sky_model.specs.Clock.{deed_in, part_works, daemon_works, daemons_work, at_moment, goes_to, through, last_moment, waits_at}
+use Rattle.sky_model.specs.Moment.{last_moment}
+use Rattle.sky_model.specs.Clock.{deed_in, part_works, daemon_works, daemons_work, at_moment, goes_to, through, waits_at}
 use Rattle.sky_model.specs.Clock as statement
 use Rattle.sky_model.specs.Calls.{database_turn, opening, opens, outside_does, is_leaving, left_if, may_make, of_daemon_if, gets_node, node_if, does_at, session_does, turn, Call, called, past_of}
 use Rattle.sky_model.specs.Steps.{IsCallInForm}

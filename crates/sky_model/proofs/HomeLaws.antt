@@ -10,7 +10,7 @@ use Rattle.sky_model.specs.declared.stmt.Stmt.TheVariants.{Row, CreateRoot, Node
 use Rattle.sky_model.specs.declared.stmt.RowStmt.TheVariants.{OpenDb, Close}
 use Rattle.sky_model.specs.declared.stmt.Where.TheVariants.{Anywhere, WhenOpen}
 use Rattle.sky_model.specs.declared.reply.Refusal.TheVariants.{Busy}
-use Rattle.sky_model.specs.History.{Mark, connected, disconnected, looked, History, Fact, appeared, founded, entered, left, within, Past}
+use Rattle.sky_model.specs.History.{Mark, connected, disconnected, sight_taken, History, Fact, appeared, founded, entered, left, within, Past}
 use Rattle.sky_model.specs.Sessions.{Block, outside, inside, failed, has_open, block, own_txid, session}
 use Rattle.sky_model.specs.Locks.{waiting}
 use Rattle.sky_model.specs.State.{database_of}
@@ -90,7 +90,7 @@ stay-statement : (h : History) (now : ℤ) (who : ℕ) (stmt : Stmt) (may : Chec
     → Stay (runs_if (making database_by_history now who stmt) (where_of stmt) who h may).marks
 stay-statement h now who stmt may is =
     (given-runs AnyReply is_staying (λ _. tt) (stays-if no_more refl) (making database_by_history now who stmt) (where_of stmt) who h may
-    (stays-form (database_of h) (shown_in h) now who stmt is) (stays-form (database_of (looked who ∷ h)) (shown_in (looked who ∷ h)) now who stmt is)).1
+    (stays-form (database_of h) (shown_in h) now who stmt is) (stays-form (database_of (sight_taken who ∷ h)) (shown_in (sight_taken who ∷ h)) now who stmt is)).1
 
 -- how a statement is made, by whether it is allowed
 abbrev made : History → ℤ → ℕ → Stmt → Checked (Unit {0}) → Outcome

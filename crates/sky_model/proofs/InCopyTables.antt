@@ -9,7 +9,7 @@ use Rattle.londiste_state.specs.declared.state.TableState.{TableState}
 use Rattle.londiste_state.specs.declared.state.TableState.TheVariants.{Absent, InCopy, CatchingUp, WannaSync, DoSync, Synced}
 use Rattle.londiste_state.specs.Moves.{is_allowed}
 use Rattle.londiste_state.specs.Nodes.{LeafTable, Root, Leaf, Node, of_root, of_leaf, table_of, new_table, changed_in, in_state, with_copy, with_tick}
-use Rattle.sky_model.specs.History.{Mark, NodeMark, of_copy, began, ended, noded, root_made, listed, unlisted, joined, parted, leaf_made, leaf_added, leaf_removed, state_set, copied, applied, restarted, of_synced, copy_of, hold_begun, hold_ended, History}
+use Rattle.sky_model.specs.History.{Mark, NodeMark, of_copy, began, ended, noded, root_made, set_added, set_removed, joined, parted, leaf_made, leaf_added, leaf_removed, state_set, copied, applied, restarted, of_synced, copy_of, hold_begun, hold_ended, History}
 use Rattle.sky_model.specs.Transactions.{next_txid}
 use Rattle.sky_model.specs.Copies.{copies, is_copied}
 use Rattle.sky_model.specs.Rows.{table_names}
@@ -193,8 +193,8 @@ module _ (h : History) (table : ℕ) (c : IsInCopy h table) where
   in-copy-noded : Legal h → (mark : NodeMark) → NodeFits h mark → is_copied table (copies h) ≡ true → IsInCopy (noded mark ∷ h) table
   in-copy-noded l (root_made name queue) fits is = absurd (kept-leaf fits.0)
   in-copy-noded l (leaf_made name provider tick) fits is = absurd (kept-leaf fits.0)
-  in-copy-noded l (listed other) fits is = kept-found (listed other) (table-root _ c.name (node h) ∙ c.found)
-  in-copy-noded l (unlisted other) fits is = kept-found (unlisted other) (table-root _ c.name (node h) ∙ c.found)
+  in-copy-noded l (set_added other) fits is = kept-found (set_added other) (table-root _ c.name (node h) ∙ c.found)
+  in-copy-noded l (set_removed other) fits is = kept-found (set_removed other) (table-root _ c.name (node h) ∙ c.found)
   in-copy-noded l (leaf_added other) fits is = kept-found (leaf_added other) (table-added c.name other (node h) c.t c.found)
   in-copy-noded l (leaf_removed other) fits is = kept-found (leaf_removed other) (table-less c.name other (node h) (other-table h table fits.table c other is fits.there fits.uncopied) ∙ c.found)
   in-copy-noded l (state_set other state) fits is =
@@ -306,8 +306,8 @@ fresh-removed other (Some (of_leaf l)) ih name t is = by_test (λ b. bytes_eq na
 fresh-noded : (h : History) (mark : NodeMark) → NodeFits h mark → AllFresh (node h) → AllFresh (after_node mark (node h))
 fresh-noded h (root_made name queue) fits ih = λ name t is. absurd (cc)
 fresh-noded h (leaf_made name provider tick) fits ih = λ name t is. absurd (cc)
-fresh-noded h (listed other) fits ih = λ name t is. ih name t (sym (table-root _ name (node h)) ∙ is)
-fresh-noded h (unlisted other) fits ih = λ name t is. ih name t (sym (table-root _ name (node h)) ∙ is)
+fresh-noded h (set_added other) fits ih = λ name t is. ih name t (sym (table-root _ name (node h)) ∙ is)
+fresh-noded h (set_removed other) fits ih = λ name t is. ih name t (sym (table-root _ name (node h)) ∙ is)
 fresh-noded h (leaf_added other) fits ih = fresh-added other (node h) ih
 fresh-noded h (leaf_removed other) fits ih = fresh-removed other (node h) ih
 fresh-noded h mark fits ih = fresh-still h mark fits refl ih

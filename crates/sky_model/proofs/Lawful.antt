@@ -17,7 +17,7 @@ use Rattle.sky_model.specs.Batches.{batch_events}
 use Rattle.sky_model.specs.Retries.{retries}
 use Rattle.sky_model.specs.StepRetry.{retry_of, brings, most_back, maint_retry_events, back}
 use Rattle.sky_names.specs.Places.{place_of}
-use Rattle.sky_model.specs.History.{Batch, Mark, of_session, of_worker, began, ended, looked, tabled, waited, queued, made, raised, put, moved, unregistered, opened, closed, noded, root_made, History}
+use Rattle.sky_model.specs.History.{Batch, Mark, of_session, of_worker, began, ended, sight_taken, tabled, waited, queued, made, raised, put, moved, unregistered, opened, closed, noded, root_made, History}
 use Rattle.sky_model.specs.Transactions.{next_txid, running}
 use Rattle.sky_model.specs.Sessions.{Block, outside, inside, failed, has_open, block, own_txid, session}
 use Rattle.sky_model.specs.Rows.{table_names, columns_of}
@@ -330,8 +330,8 @@ good_runs_if : (h : History) → Legal h → (now : ℤ) (who : ℕ) (stmt : Stm
     → Chain h (runs_if (making database_by_history now who stmt) (where_of stmt) who h may).marks
 good_runs_if h l now who stmt (Err refusal) is = good_refused h who refusal
 good_runs_if h l now who stmt (Ok _) is =
-    cond_both (takes_sight (where_of stmt) (session h who).sight) (looking who (or_refused who (session (looked who ∷ h) who) (form (database_of (looked who ∷ h)) (shown_in (looked who ∷ h)) now who stmt))) _ (λ o. Chain h o.marks)
-    (λ _. more (looks who) (good_form (looked who ∷ h) (next l (looks who)) now who stmt (ap is_ok is))) (λ _. good_form h l now who stmt (ap is_ok is))
+    cond_both (takes_sight (where_of stmt) (session h who).sight) (looking who (or_refused who (session (sight_taken who ∷ h) who) (form (database_of (sight_taken who ∷ h)) (shown_in (sight_taken who ∷ h)) now who stmt))) _ (λ o. Chain h o.marks)
+    (λ _. more (looks who) (good_form (sight_taken who ∷ h) (next l (looks who)) now who stmt (ap is_ok is))) (λ _. good_form h l now who stmt (ap is_ok is))
 
 good_statement : (h : History) → Legal h → (now : ℤ) (who : ℕ) (stmt : Stmt) → Chain h (statement database_by_history h now who stmt).marks
 good_statement h l now who stmt = good_runs_if h l now who stmt (allowed (is_waiting who (waiting h)) (has_open who h) (block who h) (where_of stmt)) refl
@@ -426,13 +426,13 @@ module _ {P : Type 0} (r : PartReader P) (past : P → History) (reads : ReadsPa
       subst (λ (d : RowPart). Chain (past p) (abort who (d.session who).block (d.session who).txid refusal)) (sym (reads.part p)) (good_refused (past p) who refusal)
   good_row_runs p l who stmt (Ok _) is =
       cond_both (takes_sight (where_of_row stmt) ((r.part p).session who).sight) (looking who (or_refused who ((r.part behind).session who) (r.tells behind (row_form (r.part behind) (r.rows behind) who stmt)))) _ (λ o. Chain (past p) o.marks)
-      (λ _. more (looks who) (subst (λ h. Chain h (or_refused who ((r.part behind).session who) (r.tells behind (row_form (r.part behind) (r.rows behind) who stmt))).marks) (reads.behind p (looked who))
-      (runs_at behind (subst Legal (sym (reads.behind p (looked who))) (next l (looks who)))
-      (subst (λ h. MayStand h who (where_of_row stmt)) (sym (reads.behind p (looked who))) stands))))
+      (λ _. more (looks who) (subst (λ h. Chain h (or_refused who ((r.part behind).session who) (r.tells behind (row_form (r.part behind) (r.rows behind) who stmt))).marks) (reads.behind p (sight_taken who))
+      (runs_at behind (subst Legal (sym (reads.behind p (sight_taken who))) (next l (looks who)))
+      (subst (λ h. MayStand h who (where_of_row stmt)) (sym (reads.behind p (sight_taken who))) stands))))
       (λ _. runs_at p l stands)
     where
       behind : P
-      behind = r.behind p (looked who)
+      behind = r.behind p (sight_taken who)
 
       stands : MayStand (past p) who (where_of_row stmt)
       stands = ap is_ok (ap (λ (d : RowPart). allowed (is_waiting who d.waiting) (d.session who).is_open (d.session who).block (where_of_row stmt)) (sym (reads.part p)) ∙ is)

@@ -15,7 +15,7 @@ use Rattle.sky_names.specs.Places.{place_of}
 use Rattle.sky_model.specs.declared.stmt.Set.{Set}
 use Rattle.sky_model.specs.declared.stmt.Attempt.{Attempt}
 use Rattle.sky_model.specs.declared.stmt.Attempt.TheVariants.{Insertion, Changes, Deletion}
-use Rattle.sky_model.specs.History.{Batch, Mark, of_session, of_worker, of_copy, began, ended, block_begun, repeats, looked, block_failed, block_ended, connected, disconnected, tabled, table_made, wrote, waits, waited, read_only, noded, NodeMark, root_made, listed, unlisted, joined, parted, leaf_made, leaf_added, leaf_removed, state_set, queued, made, raised, put, ticked, registered, moved, unregistered, opened, closed, asked, returned, switching, switched, second_step, configured, dropped, traced, untraced, History, copied, hold_begun}
+use Rattle.sky_model.specs.History.{Batch, Mark, of_session, of_worker, of_copy, began, ended, block_begun, repeats, sight_taken, block_failed, block_ended, connected, disconnected, tabled, table_made, wrote, waits, waited, read_only, noded, NodeMark, root_made, set_added, set_removed, joined, parted, leaf_made, leaf_added, leaf_removed, state_set, queued, made, raised, put, ticked, registered, moved, unregistered, opened, closed, asked, returned, switching, switched, second_step, configured, dropped, traced, untraced, History, copied, hold_begun}
 use Rattle.sky_model.specs.Config.{Config}
 use Rattle.sky_model.specs.Transactions.{next_txid, running, workers}
 use Rattle.sky_model.specs.Copies.{Copy, copies, is_copied, is_copied_by, is_copys, Hold, holds}
@@ -238,8 +238,8 @@ pub record IsAtSet (h : History) (consumer : List ℕ) (there : Bool) : Type 0 w
 -- a mark of a node may come next
 abbrev pub NodeFits : History → NodeMark → Type 0
 NodeFits h (root_made name queue) = (node h ≡ None) × (is_some (queue_number queue (queues h)) ≡ true)
-NodeFits h (listed table) = Joins h (listing table) table
-NodeFits h (unlisted table) = Leaves h (unlisting table) table
+NodeFits h (set_added table) = Joins h (listing table) table
+NodeFits h (set_removed table) = Leaves h (unlisting table) table
 NodeFits h (joined consumer) = IsAtSet h consumer true
 NodeFits h (parted consumer) = IsAtSet h consumer false
 NodeFits h (leaf_made name provider tick) = (node h ≡ None) × AllWritable h
@@ -259,7 +259,7 @@ pub record IsOfLast (h : History) (mark : List ℕ → NodeMark) (table : ℕ) :
 
 -- a table of a set gets the trigger into the set's queue as soon as it has joined
 pub record IsSets (h : History) (table : ℕ) (trigger : Trigger) : Type 0 where
-  pub just_joined : IsOfLast h listed table
+  pub just_joined : IsOfLast h set_added table
   pub set : queue_of_set (queues h) (node h) ≡ Some trigger.queue
   pub plain : trigger ≡ set_trigger trigger.queue
 
@@ -291,7 +291,7 @@ pub data Fine (h : History) : Mark → Type 0 where
   connects : (who : ℕ) → has_open who h ≡ false → Fine h (connected who)
   disconnects : (who : ℕ) → is_waiting who (waiting h) ≡ false → block who h ≡ outside → Fine h (disconnected who)
   repeats_block : (who : ℕ) → Fine h (repeats who)
-  looks : (who : ℕ) → Fine h (looked who)
+  looks : (who : ℕ) → Fine h (sight_taken who)
   makes_table : (name : List ℕ) (columns : List Column) → place_of name (table_names h) ≡ None → Fine h (tabled (table_made name columns))
   writes : (who t table : ℕ) (key : List Val) (old new : Option (List Val)) → own_txid who h ≡ Some t → other_than who (holder table key h) ≡ None
       → Replaces (part_of h) (node h) who table key old new
@@ -325,7 +325,7 @@ pub data Fine (h : History) : Mark → Type 0 where
       → All (λ t. has_part_in (event_tables q h) t ≡ false) (running h) → IsNotSets h q → Fine h (queued (dropped q))
   traces : (table : ℕ) (name : Option (List ℕ)) (trigger : Trigger) → table < length (table_names h) → IsQueue h trigger.queue
       → MayTrace h table name trigger → Fine h (queued (traced table name trigger))
-  untraces : (table : ℕ) → IsOfLast h unlisted table → Fine h (queued (untraced table))
+  untraces : (table : ℕ) → IsOfLast h set_removed table → Fine h (queued (untraced table))
   guards : (table : ℕ) (on : Bool) → MayGuard h table on → Fine h (tabled (read_only table on))
   nodes : (mark : NodeMark) → NodeFits h mark → Fine h (noded mark)
 

@@ -1,7 +1,7 @@
 -- A statement is made the same at places that read alike.
 use Rattle.std.proofs.Common.{◌≡◌, ℕ, Ok, Err, ◌∙◌, ap, if◌then◌else◌}
 use Rattle.sky_model.specs.declared.stmt.Where.{Where}
-use Rattle.sky_model.specs.History.{looked}
+use Rattle.sky_model.specs.History.{sight_taken}
 use Rattle.sky_model.specs.Outcome.{Checked, or_refused}
 use Rattle.sky_model.specs.Allowed.{allowed}
 use Rattle.sky_model.specs.Made.{Making, takes_sight, looking, runs_if, made_by}
@@ -11,8 +11,8 @@ pub record Alike {P Q : Type 0} (m : Making P) (n : Making Q) (who : ℕ) (p : P
   pub sessions : m.session p ≡ n.session q
   pub waiting : m.waits p ≡ n.waits q
   pub outcomes : m.outcome p ≡ n.outcome q
-  pub sessions_behind : m.session (m.behind p (looked who)) ≡ n.session (n.behind q (looked who))
-  pub outcomes_behind : m.outcome (m.behind p (looked who)) ≡ n.outcome (n.behind q (looked who))
+  pub sessions_behind : m.session (m.behind p (sight_taken who)) ≡ n.session (n.behind q (sight_taken who))
+  pub outcomes_behind : m.outcome (m.behind p (sight_taken who)) ≡ n.outcome (n.behind q (sight_taken who))
 
 same-runs_if : {P Q : Type 0} (m : Making P) (n : Making Q) (place : Where) (who : ℕ) (p : P) (q : Q) → Alike m n who p q
     → (may : Checked (Unit {0})) → runs_if m place who p may ≡ runs_if n place who q may

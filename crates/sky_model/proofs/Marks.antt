@@ -3,7 +3,7 @@ use Rattle.std.proofs.Common.{◌≡◌, ℕ, ◌+◌, List, [], ◌∷◌, ◌+
 use Rattle.sky_keys.specs.Waits.{released}
 use Rattle.sky_keys.specs.Versions.{forgotten}
 use Rattle.pgq_retry.specs.Retries.{without_sub}
-use Rattle.sky_model.specs.History.{Mark, of_session, of_worker, began, ended, block_begun, repeats, looked, block_failed, block_ended, connected, disconnected, tabled, wrote, queued, QueueMark, made, raised, put, ticked, registered, moved, unregistered, opened, closed, asked, returned, switching, switched, second_step, configured, dropped, traced, untraced, noded, History, Fact, appeared, founded, entered, left, within, clock_at, daemon_on, daemon_off, node_made, in_hand, batch_in_hand, Past, of_copy, hold_begun, hold_ended}
+use Rattle.sky_model.specs.History.{Mark, of_session, of_worker, began, ended, block_begun, repeats, sight_taken, block_failed, block_ended, connected, disconnected, tabled, wrote, queued, QueueMark, made, raised, put, ticked, registered, moved, unregistered, opened, closed, asked, returned, switching, switched, second_step, configured, dropped, traced, untraced, noded, History, Fact, appeared, founded, entered, left, within, clock_at, daemon_on, daemon_off, node_made, in_hand, batch_in_hand, Past, of_copy, hold_begun, hold_ended}
 use Rattle.sky_model.specs.Config.{default_config}
 use Rattle.pgq_tables.specs.Tables as tables_of
 use Rattle.pgq_tables.specs.Tables.{new_tables, with_stored, with_pending, with_second_step, no_tables}
@@ -44,12 +44,12 @@ database_of-queue_mark h (made name t time) = λ i. record (database_of h) {
   queues_made = queues_made h + 1;
   queues = queues h ++ record { number = queues_made h; name = name } ∷ [];
   queue = λ n. by_case (queues_made h == n) (λ b. record (queue_of h n) {
-    tables = if b then new_tables t time else (queue_of h n).tables;
+    event_tables = if b then new_tables t time else (queue_of h n).event_tables;
     tick_list = if b then (queue_of h n).tick_list ++ new_tick time h ∷ [] else (queue_of h n).tick_list;
   }) i;
 }
 database_of-queue_mark h (raised q value) = λ i. record (database_of h) { queue = λ n. by_case (q == n) (λ b. record (queue_of h n) { seq = if b then value else (queue_of h n).seq }) i }
-database_of-queue_mark h (put q event) = λ i. record (database_of h) { queue = λ n. by_case (q == n) (λ b. record (queue_of h n) { tables = if b then with_stored event (queue_of h n).tables else (queue_of h n).tables }) i }
+database_of-queue_mark h (put q event) = λ i. record (database_of h) { queue = λ n. by_case (q == n) (λ b. record (queue_of h n) { event_tables = if b then with_stored event (queue_of h n).event_tables else (queue_of h n).event_tables }) i }
 database_of-queue_mark h (ticked q id time seq) = λ i. record (database_of h) {
   queue = λ n. by_case (q == n) (λ b. record (queue_of h n) {
     tick_list = if b then (queue_of h n).tick_list ++ record { id = id; time = time; snapshot = snapshot h; seq = seq } ∷ [] else (queue_of h n).tick_list;
@@ -101,21 +101,21 @@ database_of-queue_mark h (closed b) = λ i. record (database_of h) {
       (λ m. closes (subscription_id n m h) (position n m h) (active n m h) b.cur))
       ∙ by_case (b.queue == n) (λ c. record (queue_of h n) { sub = if c then changed_for b.consumer (option_map (at_position b.cur)) (queue_of h n).sub else (queue_of h n).sub })) i;
 }
-database_of-queue_mark h (switching q t) = λ i. record (database_of h) { queue = λ n. by_case (q == n) (λ b. record (queue_of h n) { tables = if b then with_pending t (queue_of h n).tables else (queue_of h n).tables }) i }
+database_of-queue_mark h (switching q t) = λ i. record (database_of h) { queue = λ n. by_case (q == n) (λ b. record (queue_of h n) { event_tables = if b then with_pending t (queue_of h n).event_tables else (queue_of h n).event_tables }) i }
 database_of-queue_mark h (switched q time) = λ i. record (database_of h) {
   queue = λ n. by_case (q == n) (λ b. record (queue_of h n) {
-    tables = if b then tables_of.with_switch time (queue_of h n).tables else (queue_of h n).tables;
-    tick_list = if b then ticks_above (second_step_of (queue_of h n).tables) (queue_of h n).tick_list else (queue_of h n).tick_list;
+    event_tables = if b then tables_of.with_switch time (queue_of h n).event_tables else (queue_of h n).event_tables;
+    tick_list = if b then ticks_above (second_step_of (queue_of h n).event_tables) (queue_of h n).tick_list else (queue_of h n).tick_list;
   }) i;
 }
-database_of-queue_mark h (second_step q t) = λ i. record (database_of h) { queue = λ n. by_case (q == n) (λ b. record (queue_of h n) { tables = if b then with_second_step t (queue_of h n).tables else (queue_of h n).tables }) i }
+database_of-queue_mark h (second_step q t) = λ i. record (database_of h) { queue = λ n. by_case (q == n) (λ b. record (queue_of h n) { event_tables = if b then with_second_step t (queue_of h n).event_tables else (queue_of h n).event_tables }) i }
 database_of-queue_mark h (configured q c) = λ i. record (database_of h) { queue = λ n. by_case (q == n) (λ b. record (queue_of h n) { config = if b then c else (queue_of h n).config }) i }
 database_of-queue_mark h (dropped q) = λ i. record (database_of h) {
   queues = others_than q (queues h);
   queue = λ n. by_case (q == n) (λ b. record (queue_of h n) {
     config = if b then default_config else (queue_of h n).config;
     seq = if b then 0 else (queue_of h n).seq;
-    tables = if b then no_tables else (queue_of h n).tables;
+    event_tables = if b then no_tables else (queue_of h n).event_tables;
     tick_list = if b then [] else (queue_of h n).tick_list;
   }) i;
 }
@@ -144,7 +144,7 @@ part_of-mark h (ended (of_session who) t false) = λ i. record (part_of h) {
 }
 part_of-mark h (block_begun who) = λ i. record (part_of h) { session = λ n. by_case (who == n) (λ b. record (session h n) { block = if b then inside else (session h n).block }) i }
 part_of-mark h (repeats who) = λ i. record (part_of h) { session = λ n. by_case (who == n) (λ b. record (session h n) { sight = sight_by snapshot (if b then at_first else sight n h) }) i }
-part_of-mark h (looked who) = λ i. record (part_of h) { session = λ n. by_case (who == n) (λ b. record (session h n) { sight = sight_by snapshot (if b then (at_place h) else sight n h) }) i }
+part_of-mark h (sight_taken who) = λ i. record (part_of h) { session = λ n. by_case (who == n) (λ b. record (session h n) { sight = sight_by snapshot (if b then (at_place h) else sight n h) }) i }
 part_of-mark h (block_failed who) = λ i. record (part_of h) { session = λ n. by_case (who == n) (λ b. record (session h n) { block = if b then failed else (session h n).block; sight = sight_by snapshot (if b then at_each else sight n h) }) i }
 part_of-mark h (block_ended who) = λ i. record (part_of h) { session = λ n. by_case (who == n) (λ b. record (session h n) { block = if b then outside else (session h n).block; sight = sight_by snapshot (if b then at_each else sight n h) }) i }
 part_of-mark h (connected who) = λ i. record (part_of h) { session = λ n. by_case (who == n) (λ b. record (session h n) { is_open = if b then true else (session h n).is_open }) i }
@@ -159,7 +159,7 @@ part_of-mark h _ = refl
 
 -- and a database as `after_mark` says
 pub database_of-mark : (h : History) (mark : Mark) → database_of (mark ∷ h) ≡ after_mark (database_of h) mark
-database_of-mark h (ended (of_session who) t false) = λ i. record (database_of h) { part = part_of-mark h (ended (of_session who) t false) i; queue = λ n. record (queue_of h n) { tables = without_transaction t (queue_of h n).tables } }
+database_of-mark h (ended (of_session who) t false) = λ i. record (database_of h) { part = part_of-mark h (ended (of_session who) t false) i; queue = λ n. record (queue_of h n) { event_tables = without_transaction t (queue_of h n).event_tables } }
 database_of-mark h (ended of_worker t false) = refl
 database_of-mark h (ended (of_copy table) t false) = refl
 database_of-mark h (ended (of_copy table) t true) = refl

@@ -9,7 +9,7 @@ use Rattle.londiste_state.specs.Nodes.{Node, of_root, of_leaf, is_among}
 use Rattle.sky_model.specs.declared.reply.Reply.TheVariants.{Number, Null}
 use Rattle.sky_model.specs.declared.reply.Limit.TheVariants.{Consumers, Triggers}
 use Rattle.sky_model.specs.declared.reply.Refusal.TheVariants.{ConsumerExists, IdsSpent, TableBusy, TooMany}
-use Rattle.sky_model.specs.History.{Mark, tabled, read_only, queued, registered, unregistered, opened, closed, traced, untraced, noded, NodeMark, joined, parted, leaf_made, leaf_added, leaf_removed, state_set, listed, unlisted, History, of_worker, of_copy, began, ended, wrote, restarted}
+use Rattle.sky_model.specs.History.{Mark, tabled, read_only, queued, registered, unregistered, opened, closed, traced, untraced, noded, NodeMark, joined, parted, leaf_made, leaf_added, leaf_removed, state_set, set_added, set_removed, History, of_worker, of_copy, began, ended, wrote, restarted}
 use Rattle.sky_model.specs.Nodes.{node, is_leaf, leaf_tables}
 use Rattle.sky_model.specs.Queues.{Tick, tick, queues, id_of, newest_tick, ticks}
 use Rattle.sky_model.specs.Consumers.{consumers, Subscription, subscription, subscription_id, last_subscription, position, active, active_batch}
@@ -324,10 +324,10 @@ good-lists : (h : History) → Legal h → IsBetween h → (q : ℕ) (name : Lis
 good-lists h l between q name table may set there =
     good_test h 0 (nat_le 8 (length (triggers_of table (triggers h)))) (TooMany Triggers) _ (λ _.
     good_refused_by h 0 (option_map TableBusy (least_writer (part_of h) table)) _ (λ free.
-    more (nodes (listed name) (record { may = may; table = table; there = there; unused = unused h l between table free }))
+    more (nodes (set_added name) (record { may = may; table = table; there = there; unused = unused h l between table free }))
     (more (traces table None (set_trigger q) (place_of_within name (table_names h) table there) (set-stands h q set) (record {
-      just_joined = just h listed name table there;
-      set = (same-node (listed name) refl (node h)).set (queues h) ∙ sym (set-number (database_of h)) ∙ set;
+      just_joined = just h set_added name table there;
+      set = (same-node (set_added name) refl (node h)).set (queues h) ∙ sym (set-number (database_of h)) ∙ set;
       plain = refl;
     })) done)))
 
@@ -394,7 +394,7 @@ good_call h l between holding may = good_copies h l between.idle between.guardin
 good_call h l between (letting_go hold) may = good_copies h l between.idle between.guarding between.covered (letting_go hold) refl may
 good_call h l between (unlisting name) may =
     good-there h (place_of name (table_names h)) _ (λ table there.
-    more (nodes (unlisted name) (record { may = may; table = table; there = there })) (more (untraces table (just h unlisted name table there)) done))
+    more (nodes (set_removed name) (record { may = may; table = table; there = there })) (more (untraces table (just h set_removed name table there)) done))
 
 good_node : (h : History) → Legal h → IsBetween h → (call : NodeCall) → Good h 0 (node_does (database_of h) call)
 good_node h l between call =

@@ -1,7 +1,7 @@
 -- What marks of a node leave of it: whether it is a root or a leaf, its tables, and the queue of its set.
 use Rattle.std.proofs.Common.{◌≡◌, ◌⊎◌, inl, inr, ℕ, Bool, true, false, not, List, [], ◌∷◌, ◌++◌, Option, Some, None, is_none, option_map, map, filter, bytes_eq, refl, sym, ◌∙◌, ap, if◌then◌else◌}
 use Rattle.londiste_state.specs.Nodes.{LeafTable, Root, Leaf, Node, of_root, of_leaf, all_but, changed_in, new_table}
-use Rattle.sky_model.specs.History.{NodeMark, root_made, listed, unlisted, joined, parted, leaf_made, leaf_added, leaf_removed, state_set, copied, applied, restarted, of_synced, copy_of, History, hold_begun, hold_ended}
+use Rattle.sky_model.specs.History.{NodeMark, root_made, set_added, set_removed, joined, parted, leaf_made, leaf_added, leaf_removed, state_set, copied, applied, restarted, of_synced, copy_of, History, hold_begun, hold_ended}
 use Rattle.sky_model.specs.Nodes.{at_root, at_leaf, after_node, node, is_root, is_leaf, set_tables, leaf_tables}
 use Rattle.sky_model.specs.Queues.{NamedQueue, queue_number}
 use Rattle.sky_model.specs.State.{Database}
@@ -53,8 +53,8 @@ is_change _ = true
 pub same-node : (mark : NodeMark) → is_change mark ≡ true → (n : Option Node) → IsSameNode n (after_node mark n)
 same-node (root_made name queue) e n = absurd (cc)
 same-node (leaf_made name provider tick) e n = absurd (cc)
-same-node (listed table) e n = root-changed _ (λ r. refl) n
-same-node (unlisted table) e n = root-changed _ (λ r. refl) n
+same-node (set_added table) e n = root-changed _ (λ r. refl) n
+same-node (set_removed table) e n = root-changed _ (λ r. refl) n
 same-node (joined consumer) e n = root-changed _ (λ r. refl) n
 same-node (parted consumer) e n = root-changed _ (λ r. refl) n
 same-node (leaf_added table) e n = leaf-changed _ n
@@ -70,8 +70,8 @@ same-node (hold_ended hold) e n = itself n
 pub leaf-before : (h : History) (mark : NodeMark) → NodeFits h mark → is_leaf (after_node mark (node h)) ≡ true → (is_leaf (node h) ≡ true) ⊎ AllWritable h
 leaf-before h (root_made name queue) fits leaf = absurd (cc)
 leaf-before h (leaf_made name provider tick) fits leaf = inr fits.1
-leaf-before h (listed table) fits leaf = inl (sym (same-node (listed table) refl (node h)).leaf ∙ leaf)
-leaf-before h (unlisted table) fits leaf = inl (sym (same-node (unlisted table) refl (node h)).leaf ∙ leaf)
+leaf-before h (set_added table) fits leaf = inl (sym (same-node (set_added table) refl (node h)).leaf ∙ leaf)
+leaf-before h (set_removed table) fits leaf = inl (sym (same-node (set_removed table) refl (node h)).leaf ∙ leaf)
 leaf-before h (joined consumer) fits leaf = inl (sym (same-node (joined consumer) refl (node h)).leaf ∙ leaf)
 leaf-before h (parted consumer) fits leaf = inl (sym (same-node (parted consumer) refl (node h)).leaf ∙ leaf)
 leaf-before h (leaf_added table) fits leaf = inl (sym (same-node (leaf_added table) refl (node h)).leaf ∙ leaf)
@@ -110,12 +110,12 @@ map-changed name change same (x ∷ xs) = λ i. first (bytes_eq name x.name) i �
     first true = same x
     first false = refl
 
-pub set-listed : (n : Option Node) (table : List ℕ) → is_root n ≡ true → set_tables (after_node (listed table) n) ≡ set_tables n ++ table ∷ []
+pub set-listed : (n : Option Node) (table : List ℕ) → is_root n ≡ true → set_tables (after_node (set_added table) n) ≡ set_tables n ++ table ∷ []
 set-listed None table is = absurd (cc)
 set-listed (Some (of_root r)) table is = refl
 set-listed (Some (of_leaf l)) table is = absurd (cc)
 
-pub set-unlisted : (n : Option Node) (table : List ℕ) → set_tables (after_node (unlisted table) n) ≡ all_but table (set_tables n)
+pub set-unlisted : (n : Option Node) (table : List ℕ) → set_tables (after_node (set_removed table) n) ≡ all_but table (set_tables n)
 set-unlisted None table = refl
 set-unlisted (Some (of_root r)) table = refl
 set-unlisted (Some (of_leaf l)) table = refl

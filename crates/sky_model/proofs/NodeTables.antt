@@ -8,7 +8,7 @@ use Rattle.std.proofs.lemmas.List.Folds.{list_any-append}
 use Rattle.londiste_state.specs.Nodes.{Node, is_among, all_but}
 use Rattle.sky_names.specs.Places.{place_of}
 use Rattle.sky_names.proofs.PlaceLemmas.{bytes_eq_refl, same_name, slice_get-place_of, place_of-append}
-use Rattle.sky_model.specs.History.{NodeMark, tabled, table_made, queued, made, root_made, listed, unlisted, leaf_made, leaf_added, leaf_removed, History}
+use Rattle.sky_model.specs.History.{NodeMark, tabled, table_made, queued, made, root_made, set_added, set_removed, leaf_made, leaf_added, leaf_removed, History}
 use Rattle.sky_model.specs.Rows.{table_names}
 use Rattle.sky_model.specs.Queues.{queues_made, queues}
 use Rattle.sky_model.specs.Nodes.{after_node, node, is_root, is_leaf, set_tables, leaf_tables}
@@ -124,12 +124,12 @@ IsTable tables name = is_some (place_of name tables) ≡ true
 have-mark : (h : History) (mark : NodeMark) → NodeFits h mark → HaveTables (table_names h) (node h) → HaveTables (table_names h) (after_node mark (node h))
 have-mark h (root_made name queue) fits have = record { set = All-nil (IsTable (table_names h)); leaf = All-nil (IsTable (table_names h)) }
 have-mark h (leaf_made name provider tick) fits have = record { set = All-nil (IsTable (table_names h)); leaf = All-nil (IsTable (table_names h)) }
-have-mark h (listed table) fits have = record {
+have-mark h (set_added table) fits have = record {
   set = subst (AreTables (table_names h)) (sym (set-listed (node h) table (and_parts (is_root (node h)) (not (is_among table (set_tables (node h)))) fits.may).0))
       (All-push (IsTable (table_names h)) (set_tables (node h)) table have.set (ap is_some fits.there));
   leaf = subst (AreTables (table_names h)) (sym (leaf-other _ (node h))) have.leaf;
 }
-have-mark h (unlisted table) fits have = record {
+have-mark h (set_removed table) fits have = record {
   set = subst (AreTables (table_names h)) (sym (set-unlisted (node h) table)) (All-filter (λ other. not (bytes_eq table other)) (IsTable (table_names h)) (set_tables (node h)) have.set);
   leaf = subst (AreTables (table_names h)) (sym (leaf-other _ (node h))) have.leaf;
 }

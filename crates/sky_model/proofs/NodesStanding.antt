@@ -10,7 +10,7 @@ use Rattle.sky_model.specs.declared.stmt.Stmt.{Stmt}
 use Rattle.sky_model.specs.declared.reply.Limit.TheVariants.{Triggers}
 use Rattle.sky_model.specs.declared.reply.Refusal.TheVariants.{TableBusy, TooMany}
 use Rattle.sky_model.specs.declared.reply.Reply.TheVariants.{Done, Null}
-use Rattle.sky_model.specs.History.{Mark, QueueMark, NodeMark, looked, tabled, read_only, queued, traced, untraced, noded, root_made, listed, unlisted, leaf_made, leaf_added, leaf_removed, state_set, History, of_copy, ended, restarted}
+use Rattle.sky_model.specs.History.{Mark, QueueMark, NodeMark, sight_taken, tabled, read_only, queued, traced, untraced, noded, root_made, set_added, set_removed, leaf_made, leaf_added, leaf_removed, state_set, History, of_copy, ended, restarted}
 use Rattle.sky_model.specs.Sessions.{has_open, block, own_txid, session}
 use Rattle.sky_model.specs.Rows.{table_names, is_read_only}
 use Rattle.sky_model.specs.Locks.{waiting}
@@ -63,8 +63,8 @@ pub record NodeStands (h : History) : Type 0 where
 
 -- whether a mark isn't one of the two by which a table joins a set or a leaf, or leaves it
 abbrev pub is_single : Mark → Bool
-is_single (noded (listed table)) = false
-is_single (noded (unlisted table)) = false
+is_single (noded (set_added table)) = false
+is_single (noded (set_removed table)) = false
 is_single (noded (leaf_added table)) = false
 is_single (noded (leaf_removed table)) = false
 is_single (queued (traced table name trigger)) = is_some name
@@ -96,8 +96,8 @@ stands-noded h (leaf_made name provider tick) fits e s = record {
   guarding = λ n. s.guarding n ∙ ap (λ m. is_one_of (table_names h) (leaf_tables m) n) fits.0;
   on_leaves = s.on_leaves;
 }
-stands-noded h (listed table) fits e s = absurd (cc)
-stands-noded h (unlisted table) fits e s = absurd (cc)
+stands-noded h (set_added table) fits e s = absurd (cc)
+stands-noded h (set_removed table) fits e s = absurd (cc)
 stands-noded h (leaf_added table) fits e s = absurd (cc)
 stands-noded h (leaf_removed table) fits e s = absurd (cc)
 stands-noded h mark fits e s =
@@ -176,7 +176,7 @@ module _ (h : History) (s : NodeStands h) (name : List ℕ) (table : ℕ) (there
           let apart : (t.table == n) ≡ false = grind (arith, nat_tests) in
           ap (λ b. b && is_none t.name) apart
 
-  pub stands-listed : (q : ℕ) → may_serve (listing name) (node h) ≡ true → queue_of_set (queues h) (node h) ≡ Some q → NodeStands (queued (traced table None (set_trigger q)) ∷ noded (listed name) ∷ h)
+  pub stands-listed : (q : ℕ) → may_serve (listing name) (node h) ≡ true → queue_of_set (queues h) (node h) ≡ Some q → NodeStands (queued (traced table None (set_trigger q)) ∷ noded (set_added name) ∷ h)
   stands-listed q may set = record {
     tracing = λ n. by_same (λ b. (table == n) ≡ b → filter (is_sets n) (triggers h ++ own ∷ []) ≡ (if is_one_of (table_names h) (set_tables (node h)) n || b then triggers_into n (Some q) else [])) table n
         (λ same is. joins n same is) (λ other _. others n other) refl ∙ sym (now n);
@@ -200,12 +200,12 @@ module _ (h : History) (s : NodeStands h) (name : List ℕ) (table : ℕ) (there
       was : (n : ℕ) → filter (is_sets n) (triggers h) ≡ (if is_one_of (table_names h) (set_tables (node h)) n then triggers_into n (Some q) else [])
       was n = s.tracing n ∙ ap (λ o. if is_one_of (table_names h) (set_tables (node h)) n then triggers_into n o else []) set
 
-      now : (n : ℕ) → sets_on (queued (traced table None (set_trigger q)) ∷ noded (listed name) ∷ h) n
+      now : (n : ℕ) → sets_on (queued (traced table None (set_trigger q)) ∷ noded (set_added name) ∷ h) n
           ≡ (if is_one_of (table_names h) (set_tables (node h)) n || (table == n) then triggers_into n (Some q) else [])
       now n = λ i.
           if (ap (λ names. is_one_of (table_names h) names n) (set-listed (node h) name parts.0) ∙ one-push (table_names h) (set_tables (node h)) name n
           ∙ ap (λ o. is_one_of (table_names h) (set_tables (node h)) n || is_at n o) there) i
-          then triggers_into n (((same-node (listed name) refl (node h)).set (queues h) ∙ set) i) else []
+          then triggers_into n (((same-node (set_added name) refl (node h)).set (queues h) ∙ set) i) else []
 
       -- it had no trigger of the set
       joins : (n : ℕ) → table ≡ n → (table == n) ≡ true → filter (is_sets n) (triggers h ++ own ∷ []) ≡ (if is_one_of (table_names h) (set_tables (node h)) n || true then triggers_into n (Some q) else [])
@@ -225,7 +225,7 @@ module _ (h : History) (s : NodeStands h) (name : List ℕ) (table : ℕ) (there
           bare true = refl
           bare false = refl
 
-  pub stands-unlisted : NodeStands (queued (untraced table) ∷ noded (unlisted name) ∷ h)
+  pub stands-unlisted : NodeStands (queued (untraced table) ∷ noded (set_removed name) ∷ h)
   stands-unlisted = record {
     tracing = λ n. by_same (λ b. filter (is_sets n) (but_sets table (triggers h)) ≡ (if not b && is_one_of (table_names h) (set_tables (node h)) n then triggers_into n (queue_of_set (queues h) (node h)) else [])) table n
         (λ same. ap (λ k. filter (is_sets n) (but_sets k (triggers h))) same ∙ cut-own n (triggers h))
@@ -234,11 +234,11 @@ module _ (h : History) (s : NodeStands h) (name : List ℕ) (table : ℕ) (there
     on_leaves = s.on_leaves;
   }
     where
-      now : (n : ℕ) → sets_on (queued (untraced table) ∷ noded (unlisted name) ∷ h) n
+      now : (n : ℕ) → sets_on (queued (untraced table) ∷ noded (set_removed name) ∷ h) n
           ≡ (if not (table == n) && is_one_of (table_names h) (set_tables (node h)) n then triggers_into n (queue_of_set (queues h) (node h)) else [])
       now n = λ i.
           if (ap (λ names. is_one_of (table_names h) names n) (set-unlisted (node h) name) ∙ one-less (table_names h) (set_tables (node h)) name table there n) i
-          then triggers_into n ((same-node (unlisted name) refl (node h)).set (queues h) i) else []
+          then triggers_into n ((same-node (set_removed name) refl (node h)).set (queues h) i) else []
 
   -- what a leaf's marks leave of the triggers
   traced-still : (mark : NodeMark) (on : Bool) → IsSameNode (node h) (after_node mark (node h)) → set_tables (after_node mark (node h)) ≡ set_tables (node h)
@@ -280,7 +280,7 @@ stands-lists : (h : History) → NodeStands h → (name : List ℕ) (q table : �
 stands-lists h s name q table may set there = of (nat_le 8 (length (triggers_of table (triggers h)))) (least_writer (part_of h) table)
   where
     of : (full : Bool) (busy : Option ℕ)
-        → NodeStands (marked h (marks_of (refused_if full (TooMany Triggers) >> (refused_by (option_map TableBusy busy) >> does_marks Done (noded (listed name) ∷ queued (traced table None (set_trigger q)) ∷ [])))))
+        → NodeStands (marked h (marks_of (refused_if full (TooMany Triggers) >> (refused_by (option_map TableBusy busy) >> does_marks Done (noded (set_added name) ∷ queued (traced table None (set_trigger q)) ∷ [])))))
     of true busy = s
     of false (Some t) = s
     of false None = stands-listed h s name table there q may (sym (set-number (database_of h)) ∙ set)
@@ -302,8 +302,8 @@ single-consumers : (mark : Mark) → is_for_consumers mark ≡ true → is_singl
 single-consumers (queued (traced table name trigger)) e = absurd (cc)
 single-consumers (queued (untraced table)) e = absurd (cc)
 single-consumers (tabled (read_only table on)) e = absurd (cc)
-single-consumers (noded (listed table)) e = absurd (cc)
-single-consumers (noded (unlisted table)) e = absurd (cc)
+single-consumers (noded (set_added table)) e = absurd (cc)
+single-consumers (noded (set_removed table)) e = absurd (cc)
 single-consumers (noded (leaf_added table)) e = absurd (cc)
 single-consumers (noded (leaf_removed table)) e = absurd (cc)
 single-consumers _ e = refl
@@ -311,8 +311,8 @@ single-consumers _ e = refl
 single-copies : (mark : Mark) → is_for_copies mark ≡ true → is_single mark ≡ true
 single-copies (queued mark) e = absurd (cc)
 single-copies (tabled (read_only table on)) e = absurd (cc)
-single-copies (noded (listed table)) e = absurd (cc)
-single-copies (noded (unlisted table)) e = absurd (cc)
+single-copies (noded (set_added table)) e = absurd (cc)
+single-copies (noded (set_removed table)) e = absurd (cc)
 single-copies (noded (leaf_added table)) e = absurd (cc)
 single-copies (noded (leaf_removed table)) e = absurd (cc)
 single-copies _ e = refl
@@ -325,8 +325,8 @@ stands-copies h l s call copy chain =
 single-applying : (mark : Mark) → is_for_applying mark ≡ true → is_single mark ≡ true
 single-applying (queued mark) e = absurd (cc)
 single-applying (tabled (read_only table on)) e = absurd (cc)
-single-applying (noded (listed table)) e = absurd (cc)
-single-applying (noded (unlisted table)) e = absurd (cc)
+single-applying (noded (set_added table)) e = absurd (cc)
+single-applying (noded (set_removed table)) e = absurd (cc)
 single-applying (noded (leaf_added table)) e = absurd (cc)
 single-applying (noded (leaf_removed table)) e = absurd (cc)
 single-applying _ e = refl
@@ -382,8 +382,8 @@ single-if : (k : Kinds) (who : ℕ) (mark : Mark) → may_leave k who mark ≡ t
 single-if k who (queued (traced table name trigger)) e = (and_parts (is_some name) k.queues e).0
 single-if k who (queued (untraced table)) e = e
 single-if k who (tabled (read_only table on)) e = e
-single-if k who (noded (listed table)) e = e
-single-if k who (noded (unlisted table)) e = e
+single-if k who (noded (set_added table)) e = e
+single-if k who (noded (set_removed table)) e = e
 single-if k who (noded (leaf_added table)) e = e
 single-if k who (noded (leaf_removed table)) e = e
 single-if k who _ e = refl
@@ -402,7 +402,7 @@ single-statement : (h : History) (now : ℤ) (who : ℕ) (stmt : Stmt) → EachM
 single-statement h now who stmt =
     (given-runs AnyReply is_single (λ _. tt) (single-if no_more) (making database_by_history now who stmt) (where_of stmt) who h
     (allowed (is_waiting who (waiting h)) (has_open who h) (block who h) (where_of stmt))
-    (single-form (database_of h) (shown_in h) now who stmt) (single-form (database_of (looked who ∷ h)) (shown_in (looked who ∷ h)) now who stmt)).1
+    (single-form (database_of h) (shown_in h) now who stmt) (single-form (database_of (sight_taken who ∷ h)) (shown_in (sight_taken who ∷ h)) now who stmt)).1
 
 single-settling : (h : History) (now : ℤ) → EachMark is_single (settling (within_part database_by_history now) h).marks
 single-settling h now =

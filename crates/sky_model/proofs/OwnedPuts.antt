@@ -63,7 +63,7 @@ unowned-switch q t now who failed = tt
 pub unowned-switches : (d : Database) (now : ℤ) (t : ℕ) (qs : List NamedQueue) (marks : List Mark) → EachMark is_unowned marks → EachMark is_unowned (switches_by d now t qs ++ marks)
 unowned-switches d now t [] marks rest = rest
 unowned-switches d now t (q ∷ qs) marks rest =
-    by_test (λ b. EachMark is_unowned ((if b then queued (switched q.number now) ∷ switches_by d now t qs else switches_by d now t qs) ++ marks)) (is_pending t (d.queue q.number).tables)
+    by_test (λ b. EachMark is_unowned ((if b then queued (switched q.number now) ∷ switches_by d now t qs else switches_by d now t qs) ++ marks)) (is_pending t (d.queue q.number).event_tables)
     (λ _. unowned-switches d now t qs marks rest) (λ _. unowned-switches d now t qs marks rest)
 
 -- retries that come back

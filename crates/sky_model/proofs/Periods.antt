@@ -78,8 +78,8 @@ not-before a b e = omega (arith, ints, e)
 -- so the period of a queue of which nothing holds a switch back is over
 free-over : (now : ℤ) (q : Queue) → held_back now q ≡ None → period_ends q ≤ℤ now
 free-over now q free =
-    let first = or-none (option_map Pending q.tables.pending) (option_or (held_by_period now q) (held_by_second_step q q.tables.second_step)) free in
-    of (int_lt now (period_ends q)) refl (or-none (held_by_period now q) (held_by_second_step q q.tables.second_step) first.1).0
+    let first = or-none (option_map Pending q.event_tables.pending) (option_or (held_by_period now q) (held_by_second_step q q.event_tables.second_step)) free in
+    of (int_lt now (period_ends q)) refl (or-none (held_by_period now q) (held_by_second_step q q.event_tables.second_step) first.1).0
   where
     of : (b : Bool) → int_lt now (period_ends q) ≡ b → (if b then Some (Period (period_ends q)) else None) ≡ None → period_ends q ≤ℤ now
     of true is none = absurd (cc)
@@ -95,7 +95,7 @@ over-switch now g who q t failed over = (over, tt)
 none-switches : (d : Database) (now : ℤ) (t : ℕ) (qs : List NamedQueue) (marks : List Mark) → EachMark begins_none marks → EachMark begins_none (switches_by d now t qs ++ marks)
 none-switches d now t [] marks rest = rest
 none-switches d now t (q ∷ qs) marks rest =
-    by_test (λ b. EachMark begins_none ((if b then queued (switched q.number now) ∷ switches_by d now t qs else switches_by d now t qs) ++ marks)) (is_pending t (d.queue q.number).tables)
+    by_test (λ b. EachMark begins_none ((if b then queued (switched q.number now) ∷ switches_by d now t qs else switches_by d now t qs) ++ marks)) (is_pending t (d.queue q.number).event_tables)
     (λ _. none-switches d now t qs marks rest) (λ _. none-switches d now t qs marks rest)
 
 are-over : (now : ℤ) → IsOfCalls now (Over now)

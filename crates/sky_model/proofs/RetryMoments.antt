@@ -9,7 +9,7 @@ use Rattle.pgq_retry.specs.declared.retry.Retry.{Retry}
 use Rattle.pgq_retry.specs.Retries.{due_now}
 use Rattle.sky_model.specs.declared.stmt.Stmt.{Stmt}
 use Rattle.sky_model.specs.declared.stmt.Stmt.TheVariants.{Row, MaintRetryEvents, MaintRotateStep2}
-use Rattle.sky_model.specs.History.{Mark, QueueMark, looked, queued, returned, History}
+use Rattle.sky_model.specs.History.{Mark, QueueMark, sight_taken, queued, returned, History}
 use Rattle.sky_model.specs.Sessions.{session, has_open, block, own_txid}
 use Rattle.sky_model.specs.Locks.{waiting}
 use Rattle.sky_model.specs.State.{Database, part_of, database_of}
@@ -78,7 +78,7 @@ back-statement : (h : History) (now : ℤ) (who : ℕ) (stmt : Stmt) → EachMar
 back-statement h now who stmt =
     (given-runs AnyReply (is_back_at now) (λ refusal. tt) (back-if now no_more refl) (making database_by_history now who stmt) (where_of stmt) who h
     (allowed (is_waiting who (waiting h)) (has_open who h) (block who h) (where_of stmt)) (back-form (database_of h) (shown_in h) now who stmt)
-    (back-form (database_of (looked who ∷ h)) (shown_in (looked who ∷ h)) now who stmt)).1
+    (back-form (database_of (sight_taken who ∷ h)) (shown_in (sight_taken who ∷ h)) now who stmt)).1
 
 back-settling : (now : ℤ) (h : History) (turn : Turn) → EachMark (is_back_at now) turn.marks → EachMark (is_back_at now) (with_settling (within_part database_by_history now) h turn).marks
 back-settling now h turn all =
@@ -92,7 +92,7 @@ back-settling now h turn all =
 -- ---- calls
 
 back-enters : (who : ℕ) (sight : Bool) (may : Checked (Unit {0})) → All (IsBackAt None) (enters who (look_of who sight) may).marks
-back-enters who true (Ok _) = All-cons (IsBackAt None) (looked who) [] tt (All-nil (IsBackAt None))
+back-enters who true (Ok _) = All-cons (IsBackAt None) (sight_taken who) [] tt (All-nil (IsBackAt None))
 back-enters who false (Ok _) = All-nil (IsBackAt None)
 back-enters who sight (Err refusal) = All-nil (IsBackAt None)
 

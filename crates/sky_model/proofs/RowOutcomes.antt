@@ -7,7 +7,7 @@ use Rattle.sky_model.specs.declared.stmt.RowStmt.TheVariants.{OpenDb}
 use Rattle.sky_model.specs.declared.stmt.Attempt.{Attempt}
 use Rattle.sky_model.specs.declared.reply.Refusal.{Refusal}
 use Rattle.std.proofs.lemmas.Bool.{and_parts}
-use Rattle.sky_model.specs.History.{Mark, looked, tabled, wrote, read_only, queued, noded, root_made, returned, traced, untraced, of_worker, of_copy, began, ended}
+use Rattle.sky_model.specs.History.{Mark, sight_taken, tabled, wrote, read_only, queued, noded, root_made, returned, traced, untraced, of_worker, of_copy, began, ended}
 use Rattle.sky_model.specs.Sessions.{Block}
 use Rattle.sky_model.specs.State.{RowPart}
 use Rattle.sky_model.specs.ShownRows.{KeyShown, RowsShown}
@@ -100,7 +100,7 @@ row_turn-rows-by {P = P} r keeps p who stmt =
     then-gives is_of_rows r p (turn_of who (row_statement r p who stmt)) (settling r)
     (turn_of-gives is_of_rows who (row_statement r p who stmt)
     (given-runs ReplyHasMoments is_of_rows (λ _. tt) (rows-if no_more refl) (row_making r who stmt) (where_of_row stmt) who p
-    (allowed (is_waiting who (r.part p).waiting) ((r.part p).session who).is_open ((r.part p).session who).block (where_of_row stmt)) (at p) (at (r.behind p (looked who)))))
+    (allowed (is_waiting who (r.part p).waiting) ((r.part p).session who).is_open ((r.part p).session who).block (where_of_row stmt)) (at p) (at (r.behind p (sight_taken who)))))
     (settling-rows-by r keeps)
   where
     at : (q : P) → OfRows (r.tells q (row_form (r.part q) (r.rows q) who stmt))

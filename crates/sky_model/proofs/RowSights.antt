@@ -11,7 +11,7 @@ use Rattle.sky_keys.specs.declared.version.Version.{Version}
 use Rattle.sky_keys.specs.Versions.{newest_by, own_version, row_of, read, rows_read}
 use Rattle.sky_keys.proofs.VersionLemmas.{newest_with, newest_without}
 use Rattle.sky_keys.proofs.EntryLemmas.{versions_at-forgotten, at-rows_read, is_in_order-rows_read}
-use Rattle.sky_model.specs.History.{Mark, ended, repeats, looked, block_failed, block_ended, History, tabled, wrote}
+use Rattle.sky_model.specs.History.{Mark, ended, repeats, sight_taken, block_failed, block_ended, History, tabled, wrote}
 use Rattle.sky_model.specs.Transactions.{has_ended, has_committed, has_rolled_back, snapshot}
 use Rattle.sky_model.specs.Sessions.{own_txid, Sight, at_each, at_first, at_place, sight, sight_by, place_of_sight, session}
 use Rattle.sky_model.specs.Rows.{committed, writes as writes_of, rows, own_writes, rows_with_own, rows_shown, has_written, last_writer, unless, unseen_writer}
@@ -54,8 +54,8 @@ rolled_back-since (later {h = h} {mark = mark} since) t e = rolled_back-behind h
 -- a sight is the history as it was
 sight-since : (h : History) (who : ℕ) (k : History) → sight who h ≡ at_place k → Since k h
 sight-since [] who k is = absurd (cc)
-sight-since (looked w ∷ h) who k is =
-    by_test (λ b. (if b then at_place h else sight who h) ≡ at_place k → Since k (looked w ∷ h)) (w == who) (λ _ e. (let one : h ≡ k = cc in later (subst (λ x. Since x h) one here))) (λ _ e. later (sight-since h who k e)) is
+sight-since (sight_taken w ∷ h) who k is =
+    by_test (λ b. (if b then at_place h else sight who h) ≡ at_place k → Since k (sight_taken w ∷ h)) (w == who) (λ _ e. (let one : h ≡ k = cc in later (subst (λ x. Since x h) one here))) (λ _ e. later (sight-since h who k e)) is
 sight-since (repeats w ∷ h) who k is = by_test (λ b. (if b then at_first else sight who h) ≡ at_place k → Since k (repeats w ∷ h)) (w == who) (λ _ e. absurd (cc)) (λ _ e. later (sight-since h who k e)) is
 sight-since (block_failed w ∷ h) who k is = by_test (λ b. (if b then at_each else sight who h) ≡ at_place k → Since k (block_failed w ∷ h)) (w == who) (λ _ e. absurd (cc)) (λ _ e. later (sight-since h who k e)) is
 sight-since (block_ended w ∷ h) who k is = by_test (λ b. (if b then at_each else sight who h) ≡ at_place k → Since k (block_ended w ∷ h)) (w == who) (λ _ e. absurd (cc)) (λ _ e. later (sight-since h who k e)) is

@@ -14,7 +14,8 @@ use Rattle.sky_model.specs.declared.stmt.Stmt.TheVariants.{CreateRoot, Node, Clo
 use Rattle.sky_model.specs.declared.reply.Reply.TheVariants.{Moment}
 use Rattle.sky_model.specs.declared.reply.Refusal.TheVariants.{ClockSpent, NodeExists}
 use Rattle.sky_model.specs.Daemon.{is_due_at, next_due}
-use Rattle.sky_model.specs.Clock.{deed_in, part_works, daemon_works, daemons_work, at_moment, goes_to, through, last_moment, clock, waits_at}
+use Rattle.sky_model.specs.Moment.{last_moment}
+use Rattle.sky_model.specs.Clock.{deed_in, part_works, daemon_works, daemons_work, at_moment, goes_to, through, clock, waits_at}
 use Rattle.sky_model.specs.NodesOfWorld.{node_called}
 use Rattle.sky_model.specs.WorkersOfWorld.{node_form}
 use Rattle.sky_model.specs.Calls.{may_make, database_turn, opening, opens_in, opens, outside_does, beside, world_does, roots_in, does_at, session_does, turn, Call, called, does, after, world_part, past_of, answers_of}

@@ -15,7 +15,7 @@ use Rattle.sky_model.specs.declared.reply.Reply.{Reply}
 use Rattle.sky_model.specs.declared.reply.Reply.TheVariants.{Refused}
 use Rattle.sky_model.specs.declared.reply.Refusal.{Refusal}
 use Rattle.sky_model.specs.declared.reply.Refusal.TheVariants.{Canceled, IdsSpent}
-use Rattle.sky_model.specs.History.{Batch, Mark, QueueMark, of_session, of_worker, began, ended, connected, disconnected, looked, block_failed, tabled, wrote, waits, waited, read_only, queued, noded, root_made, raised, put, ticked, switching, switched, second_step, returned, traced, untraced, of_copy}
+use Rattle.sky_model.specs.History.{Batch, Mark, QueueMark, of_session, of_worker, began, ended, connected, disconnected, sight_taken, block_failed, tabled, wrote, waits, waited, read_only, queued, noded, root_made, raised, put, ticked, switching, switched, second_step, returned, traced, untraced, of_copy}
 use Rattle.sky_model.specs.declared.reply.HeldBack.{HeldBack}
 use Rattle.sky_model.specs.Queues.{NamedQueue, Tick, tick, is_pending}
 use Rattle.sky_model.specs.StepRotation.{held_back, switch_of, rotates, second_steps, lack_second_step, ends_switches, switches_by, switches_of, committed_by}
@@ -380,7 +380,7 @@ module _ (p : Mark → Bool) (of_queues : (mark : QueueMark) → is_common mark 
   pub each-switches_by : (d : Database) (now : ℤ) (t : ℕ) (queues : List NamedQueue) → EachMark p (switches_by d now t queues)
   each-switches_by d now t [] = tt
   each-switches_by d now t (q ∷ queues) =
-      by_test (λ b. EachMark p (if b then queued (switched q.number now) ∷ switches_by d now t queues else switches_by d now t queues)) (is_pending t (d.queue q.number).tables)
+      by_test (λ b. EachMark p (if b then queued (switched q.number now) ∷ switches_by d now t queues else switches_by d now t queues)) (is_pending t (d.queue q.number).event_tables)
       (λ _. each-front p (queued (switched q.number now)) (switches_by d now t queues) (of_queues (switched q.number now) refl) (each-switches_by d now t queues)) (λ _. each-switches_by d now t queues)
 
   each-switches_of : (d : Database) (now : ℤ) (txid : Option ℕ) → EachMark p (switches_of d now txid)
@@ -522,14 +522,14 @@ module _ (R : Reply → Type 0) (p : Mark → Bool) (refuses : (refusal : Refusa
   given-settled who s (Err refusal) given = (refuses refusal, each-abort who s.block s.txid refusal)
 
   -- a statement of a session, if it does so here and after the mark of its sight
-  pub given-runs : {P : Type 0} (m : Making P) (place : Where) (who : ℕ) (x : P) (may : Checked (Unit {0})) → Gives R p (m.outcome x) → Gives R p (m.outcome (m.behind x (looked who)))
+  pub given-runs : {P : Type 0} (m : Making P) (place : Where) (who : ℕ) (x : P) (may : Checked (Unit {0})) → Gives R p (m.outcome x) → Gives R p (m.outcome (m.behind x (sight_taken who)))
       → Given R p (runs_if m place who x may)
   given-runs m place who x (Err refusal) here behind = given-settled who (m.session x) (Err refusal) tt
   given-runs {P = P} m place who x (Ok _) here behind =
-      let y : P = m.behind x (looked who) in
+      let y : P = m.behind x (sight_taken who) in
       let given : Given R p (or_refused who (m.session y) (m.outcome y)) = given-settled who (m.session y) (m.outcome y) behind in
       cond_both (takes_sight place (m.session x).sight) (looking who (or_refused who (m.session y) (m.outcome y))) (or_refused who (m.session x) (m.outcome x)) (Given R p)
-      (λ _. (given.0, each-front p (looked who) (or_refused who (m.session y) (m.outcome y)).marks (plain who (looked who) refl) given.1)) (λ _. given-settled who (m.session x) (m.outcome x) here)
+      (λ _. (given.0, each-front p (sight_taken who) (or_refused who (m.session y) (m.outcome y)).marks (plain who (sight_taken who) refl) given.1)) (λ _. given-settled who (m.session x) (m.outcome x) here)
 
 -- a place whose statements leave such marks still, once their writes are recorded
 pub record KeepsMarks {P : Type 0} (p : Mark → Bool) (r : PartReader P) : Type 0 where

@@ -14,7 +14,7 @@ use Rattle.sky_model.specs.declared.stmt.Stmt.TheVariants.{Row, MaintRetryEvents
 use Rattle.sky_model.specs.declared.stmt.Where.TheVariants.{WhenReading}
 use Rattle.sky_model.specs.declared.daemon.DaemonPart.{DaemonPart}
 use Rattle.sky_model.specs.declared.daemon.DaemonPart.TheVariants as part
-use Rattle.sky_model.specs.History.{Mark, of_session, of_worker, began, ended, block_begun, repeats, block_ended, looked, tabled, waited, read_only, queued, registered, unregistered, opened, closed, traced, untraced, switching, switched, noded, History, of_copy, wrote}
+use Rattle.sky_model.specs.History.{Mark, of_session, of_worker, began, ended, block_begun, repeats, block_ended, sight_taken, tabled, waited, read_only, queued, registered, unregistered, opened, closed, traced, untraced, switching, switched, noded, History, of_copy, wrote}
 use Rattle.sky_model.specs.Transactions.{next_txid}
 use Rattle.sky_model.specs.Sessions.{Block, outside, inside, failed, session, has_open, block, own_txid}
 use Rattle.sky_model.specs.Locks.{waiting, attempt}
@@ -169,9 +169,9 @@ module _ (now : ℤ) (K : History → List Mark → Type 0) (is : IsOfCalls now 
       → K h (runs_if (making database_by_history now who stmt) (where_of stmt) who h may).marks
   of-runs h who stmt (Err refusal) same = of-abort h who refusal
   of-runs h who stmt (Ok _) same =
-      cond_both (takes_sight (where_of stmt) (session h who).sight) (looking who (or_refused who (session (looked who ∷ h) who) (form (database_of (looked who ∷ h)) (shown_in (looked who ∷ h)) now who stmt))) _ (λ o. K h o.marks)
-      (λ _. is.joined h (looked who ∷ []) (or_refused who (session (looked who ∷ h) who) (form (database_of (looked who ∷ h)) (shown_in (looked who ∷ h)) now who stmt)).marks (within h who (looked who ∷ []) tt)
-      (of-form (looked who ∷ h) who stmt (ap is_ok same))) (λ _. of-form h who stmt (ap is_ok same))
+      cond_both (takes_sight (where_of stmt) (session h who).sight) (looking who (or_refused who (session (sight_taken who ∷ h) who) (form (database_of (sight_taken who ∷ h)) (shown_in (sight_taken who ∷ h)) now who stmt))) _ (λ o. K h o.marks)
+      (λ _. is.joined h (sight_taken who ∷ []) (or_refused who (session (sight_taken who ∷ h) who) (form (database_of (sight_taken who ∷ h)) (shown_in (sight_taken who ∷ h)) now who stmt)).marks (within h who (sight_taken who ∷ []) tt)
+      (of-form (sight_taken who ∷ h) who stmt (ap is_ok same))) (λ _. of-form h who stmt (ap is_ok same))
 
   of-statement : (h : History) (who : ℕ) (stmt : Stmt) → K h (statement database_by_history h now who stmt).marks
   of-statement h who stmt = of-runs h who stmt (allowed (is_waiting who (waiting h)) (has_open who h) (block who h) (where_of stmt)) refl

@@ -7,7 +7,7 @@ use Rattle.sky_model.specs.declared.stmt.RowStmt.{RowStmt}
 use Rattle.sky_model.specs.declared.reply.Reply.TheVariants.{Refused}
 use Rattle.sky_model.specs.declared.reply.Refusal.{Refusal}
 use Rattle.sky_model.specs.declared.reply.Refusal.TheVariants.{EventIdsSpent}
-use Rattle.sky_model.specs.History.{Mark, Whose, ended, looked, of_session, tabled, wrote, waited, read_only, queued, noded, of_copy, began}
+use Rattle.sky_model.specs.History.{Mark, Whose, ended, sight_taken, of_session, tabled, wrote, waited, read_only, queued, noded, of_copy, began}
 use Rattle.sky_model.specs.Sessions.{Session}
 use Rattle.sky_model.specs.State.{RowPart, after_part, after_part_marks, Database, after_mark, after_marks}
 use Rattle.sky_model.specs.ShownRows.{rows_by}
@@ -202,10 +202,10 @@ module _ {G : Type 0} (gate : Gate G) (now : ℤ) (related : Database → RowPar
   told-runs who stmt (Err refusal) d g is = told-settled who (d.part.session who) (Err refusal) (Err refusal) d d.part g is refl
   told-runs who stmt (Ok _) d g is =
       by_test (λ b. Outcomes d d.part g (if b then looking who (here shown) else here d) (if b then looking who (there shown) else there d)) (takes_sight (where_of_row stmt) (d.part.session who).sight)
-      (λ _. let same = told shown (alike.other d d.part g (looked who) tt is) in record { reply = same.reply; inserted = kept (looked who) same.inserted; stands = same.stands }) (λ _. told d is)
+      (λ _. let same = told shown (alike.other d d.part g (sight_taken who) tt is) in record { reply = same.reply; inserted = kept (sight_taken who) same.inserted; stands = same.stands }) (λ _. told d is)
     where
       shown : Database
-      shown = after_mark d (looked who)
+      shown = after_mark d (sight_taken who)
 
       here : Database → Outcome
       here e = or_refused who (e.part.session who) (gated gate g (row_form e.part (rows_by e.part) who stmt))

@@ -3,7 +3,7 @@ use Rattle.std.proofs.Common.{◌≡◌, ℕ, ℤ, suc, zero, List, [], ◌∷�
 use Rattle.sky_keys.specs.Waits.{Waiting, is_waiting}
 use Rattle.sky_model.specs.declared.stmt.RowStmt.{RowStmt}
 use Rattle.sky_model.specs.declared.stmt.Stmt.{Stmt}
-use Rattle.sky_model.specs.History.{Mark, looked, tabled, waited}
+use Rattle.sky_model.specs.History.{Mark, sight_taken, tabled, waited}
 use Rattle.sky_model.specs.State.{RowPart, Database}
 use Rattle.sky_model.specs.Outcome.{or_refused}
 use Rattle.sky_model.specs.Allowed.{where_of_row, where_of}
@@ -81,7 +81,7 @@ module _ {P Q : Type 0} (r : PartReader P) (s : PartReader Q) (may : P → Mark 
       (λ p' q' is' each'. same-settles _ p' q' is' each' ∙ ap (λ d. settles s (length d.waiting) q') (alike.parts p' q' is')) each
 
   -- and so is a statement on rows, if the sight may be taken
-  pub alike-statement : (p : P) (q : Q) (who : ℕ) (stmt : RowStmt) → related p q → may p (looked who) → row_statement r p who stmt ≡ row_statement s q who stmt
+  pub alike-statement : (p : P) (q : Q) (who : ℕ) (stmt : RowStmt) → related p q → may p (sight_taken who) → row_statement r p who stmt ≡ row_statement s q who stmt
   alike-statement p q who stmt is may_look =
       same-made_by (row_making r who stmt) (row_making s who stmt) (where_of_row stmt) who p q (record {
         sessions = ap (λ (d : RowPart). d.session who) (alike.parts p q is);
@@ -91,11 +91,11 @@ module _ {P Q : Type 0} (r : PartReader P) (s : PartReader Q) (may : P → Mark 
         outcomes_behind = λ i. alike.tells _ _ behind i (row_form (alike.parts _ _ behind i) (alike.rows _ _ behind i) who stmt);
       })
     where
-      behind : related (r.behind p (looked who)) (s.behind q (looked who))
-      behind = alike.behind p q (looked who) is may_look
+      behind : related (r.behind p (sight_taken who)) (s.behind q (sight_taken who))
+      behind = alike.behind p q (sight_taken who) is may_look
 
   -- with those that it unblocks
-  pub alike-turn : (p : P) (q : Q) (who : ℕ) (stmt : RowStmt) → related p q → may p (looked who) → Each r may p (row_turn r p who stmt).marks → row_turn r p who stmt ≡ row_turn s q who stmt
+  pub alike-turn : (p : P) (q : Q) (who : ℕ) (stmt : RowStmt) → related p q → may p (sight_taken who) → Each r may p (row_turn r p who stmt).marks → row_turn r p who stmt ≡ row_turn s q who stmt
   alike-turn p q who stmt is may_look each =
       same-with_settling p q (turn_of who (row_statement r p who stmt)) (turn_of who (row_statement s q who stmt)) is
       (ap (turn_of who) (alike-statement p q who stmt is may_look)) each
@@ -128,6 +128,6 @@ same-turn_read r s at reads p now who stmt =
       sessions = ap (λ (d : Database). d.part.session who) (reads.database p);
       waiting = ap (λ (d : Database). is_waiting who d.part.waiting) (reads.database p);
       outcomes = λ i. form (reads.database p i) (reads.shown p i) now who stmt;
-      sessions_behind = ap (λ (d : Database). d.part.session who) (reads.database (r.behind p (looked who)) ∙ ap s.database (reads.behind p (looked who)));
-      outcomes_behind = λ i. form ((reads.database (r.behind p (looked who)) ∙ ap s.database (reads.behind p (looked who))) i) ((reads.shown (r.behind p (looked who)) ∙ ap s.shown (reads.behind p (looked who))) i) now who stmt;
+      sessions_behind = ap (λ (d : Database). d.part.session who) (reads.database (r.behind p (sight_taken who)) ∙ ap s.database (reads.behind p (sight_taken who)));
+      outcomes_behind = λ i. form ((reads.database (r.behind p (sight_taken who)) ∙ ap s.database (reads.behind p (sight_taken who))) i) ((reads.shown (r.behind p (sight_taken who)) ∙ ap s.shown (reads.behind p (sight_taken who))) i) now who stmt;
     }))) (each-any (within_part r now) p _)

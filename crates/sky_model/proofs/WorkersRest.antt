@@ -19,7 +19,7 @@ use Rattle.sky_model.specs.declared.daemon.DaemonPart.{DaemonPart}
 use Rattle.sky_model.specs.declared.daemon.DaemonPart.TheVariants as part
 use Rattle.sky_model.specs.declared.reply.Reply.TheVariants.{Number, Null}
 use Rattle.sky_model.specs.declared.reply.HeldBack.{HeldBack}
-use Rattle.sky_model.specs.History.{Mark, QueueMark, Pick, of_worker, tabled, wrote, noded, applied, began, ended, looked, queued, made, put, ticked, asked, returned, switching, switched, History}
+use Rattle.sky_model.specs.History.{Mark, QueueMark, Pick, of_worker, tabled, wrote, noded, applied, began, ended, sight_taken, queued, made, put, ticked, asked, returned, switching, switched, History}
 use Rattle.sky_model.specs.Transactions.{next_txid}
 use Rattle.sky_model.specs.Sessions.{Session, session, has_open, block, own_txid}
 use Rattle.sky_model.specs.Locks.{waiting}
@@ -321,8 +321,8 @@ rests-form h l r now who stmt = rests-plain h who (session h who) (form (databas
 rests-runs : (h : History) → Legal h → Rests h → (now : ℤ) (who : ℕ) (stmt : Stmt) (may : Checked (Unit {0})) → Rests (marked h (runs_if (making database_by_history now who stmt) (where_of stmt) who h may).marks)
 rests-runs h l r now who stmt (Err refusal) = rests-marks h (abort who (session h who).block (session h who).txid refusal) (no_work-abort who (session h who) refusal) r
 rests-runs h l r now who stmt (Ok _) =
-    cond_both (takes_sight (where_of stmt) (session h who).sight) (looking who (or_refused who (session (looked who ∷ h) who) (form (database_of (looked who ∷ h)) (shown_in (looked who ∷ h)) now who stmt))) _ (λ o. Rests (marked h o.marks))
-    (λ _. rests-form (looked who ∷ h) (next l (looks who)) (rests-mark h (looked who) tt r) now who stmt) (λ _. rests-form h l r now who stmt)
+    cond_both (takes_sight (where_of stmt) (session h who).sight) (looking who (or_refused who (session (sight_taken who ∷ h) who) (form (database_of (sight_taken who ∷ h)) (shown_in (sight_taken who ∷ h)) now who stmt))) _ (λ o. Rests (marked h o.marks))
+    (λ _. rests-form (sight_taken who ∷ h) (next l (looks who)) (rests-mark h (sight_taken who) tt r) now who stmt) (λ _. rests-form h l r now who stmt)
 
 rests-statement : (h : History) → Legal h → Rests h → (now : ℤ) (who : ℕ) (stmt : Stmt) → Rests (marked h (statement database_by_history h now who stmt).marks)
 rests-statement h l r now who stmt = rests-runs h l r now who stmt (allowed (is_waiting who (waiting h)) (has_open who h) (block who h) (where_of stmt))
@@ -385,7 +385,7 @@ rests-daemon h l r part.Maintain now =
 -- ---- calls
 
 rests-enters : (h : History) → Rests h → (who : ℕ) (sight : Bool) (may : Checked (Unit {0})) → Rests (marked h (enters who (look_of who sight) may).marks)
-rests-enters h r who true (Ok _) = rests-mark h (looked who) tt r
+rests-enters h r who true (Ok _) = rests-mark h (sight_taken who) tt r
 rests-enters h r who false (Ok _) = r
 rests-enters h r who sight (Err refusal) = r
 

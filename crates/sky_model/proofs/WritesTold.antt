@@ -5,7 +5,7 @@ use Rattle.sky_keys.specs.Waits.{Waiting, is_waiting}
 use Rattle.sky_model.specs.declared.stmt.Stmt.{Stmt}
 use Rattle.sky_model.specs.declared.stmt.Stmt.TheVariants.{Row}
 use Rattle.sky_model.specs.declared.stmt.RowStmt.TheVariants.{Commit}
-use Rattle.sky_model.specs.History.{Mark, Whose, of_session, of_worker, looked, tabled, wrote, waited, History, of_copy}
+use Rattle.sky_model.specs.History.{Mark, Whose, of_session, of_worker, sight_taken, tabled, wrote, waited, History, of_copy}
 use Rattle.sky_model.specs.Sessions.{Session, session, has_open, block, own_txid}
 use Rattle.sky_model.specs.Locks.{waiting}
 use Rattle.sky_model.specs.State.{part_of, database_of, after_mark, after_marks}
@@ -149,8 +149,8 @@ form-told h told now who stmt = form-plain h told now who stmt refl
 runs-told : (h : History) → AllTold h → (now : ℤ) (who : ℕ) (stmt : Stmt) (may : Checked (Unit {0})) → AllTold (marked h (runs_if (making database_by_history now who stmt) (where_of stmt) who h may).marks)
 runs-told h told now who stmt (Err refusal) = plain-told h (abort who (session h who).block (session h who).txid refusal) (plain-abort who (session h who).block (session h who).txid refusal) told
 runs-told h told now who stmt (Ok _) =
-    cond_both (takes_sight (where_of stmt) (session h who).sight) (looking who (or_refused who (session (looked who ∷ h) who) (form (database_of (looked who ∷ h)) (shown_in (looked who ∷ h)) now who stmt))) _ (λ o. AllTold (marked h o.marks))
-    (λ _. form-told (looked who ∷ h) (plain-told h (looked who ∷ []) tt told) now who stmt) (λ _. form-told h told now who stmt)
+    cond_both (takes_sight (where_of stmt) (session h who).sight) (looking who (or_refused who (session (sight_taken who ∷ h) who) (form (database_of (sight_taken who ∷ h)) (shown_in (sight_taken who ∷ h)) now who stmt))) _ (λ o. AllTold (marked h o.marks))
+    (λ _. form-told (sight_taken who ∷ h) (plain-told h (sight_taken who ∷ []) tt told) now who stmt) (λ _. form-told h told now who stmt)
 
 statement-told : (h : History) → AllTold h → (now : ℤ) (who : ℕ) (stmt : Stmt) → AllTold (marked h (statement database_by_history h now who stmt).marks)
 statement-told h told now who stmt = runs-told h told now who stmt (allowed (is_waiting who (waiting h)) (has_open who h) (block who h) (where_of stmt))
@@ -187,7 +187,7 @@ with_settling-told now h turn all = then-told now h turn (settling (within_part 
 -- ---- calls
 
 enters-told : (h : History) → AllTold h → (who : ℕ) (sight : Bool) (may : Checked (Unit {0})) → AllTold (marked h (enters who (look_of who sight) may).marks)
-enters-told h told who true (Ok _) = plain-told h (looked who ∷ []) tt told
+enters-told h told who true (Ok _) = plain-told h (sight_taken who ∷ []) tt told
 enters-told h told who false (Ok _) = told
 enters-told h told who sight (Err refusal) = told
 

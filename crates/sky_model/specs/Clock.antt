@@ -1,11 +1,12 @@
 -- What `clock` does in the world: the clock moves from one moment to the next at which a daemon is due, and then to its new moment.
-use Rattle.std.specs.Prelude.{ℕ, zero, suc, ◌+◌, ℤ, pos, ◌+ℤ◌, ◌-ℤ◌, int_lt, unsigned_abs, Bool, true, false, if◌then◌else◌, List, [], ◌∷◌, ◌++◌, map, length, Option, Some, None}
+use Rattle.std.specs.Prelude.{ℕ, zero, suc, ◌+◌, ℤ, ◌+ℤ◌, ◌-ℤ◌, int_lt, unsigned_abs, Bool, true, false, if◌then◌else◌, List, [], ◌∷◌, ◌++◌, map, length, Option, Some, None}
 use Rattle.sky_keys.specs.Waits.{is_waiting}
 use Rattle.sky_model.specs.declared.daemon.DaemonPart.{DaemonPart}
 use Rattle.sky_model.specs.declared.daemon.DaemonPart.TheVariants.{Tick, Retry, Maintain}
 use Rattle.sky_model.specs.declared.reply.Reply.TheVariants.{Moment}
 use Rattle.sky_model.specs.declared.reply.Refusal.TheVariants.{Busy, ClockSpent}
 use Rattle.sky_model.specs.History.{Fact, within, clock_at}
+use Rattle.sky_model.specs.Moment.{last_moment}
 use Rattle.sky_model.specs.Settling.{Turn}
 use Rattle.sky_model.specs.World.{World}
 use Rattle.sky_model.specs.Reader.{Reader, within_database, Deed, answers_with, refuses, idles, followed}
@@ -44,10 +45,6 @@ goes_to r last rest p (Some moment) = if int_lt last moment then idles else foll
 abbrev pub through : {P : Type 0} → Reader P → ℤ → ℕ → P → Deed
 through r last zero p = idles
 through r last (suc n) p = goes_to r last (through r last n) p (next_due (r.world p).now (r.world p).daemons (length (r.world p).databases))
-
--- the last moment of the clock
-abbrev pub last_moment : ℤ
-last_moment = pos 1_000_000_000_000_000
 
 -- the clock moves to a moment: there are at most as many moments before it at which a daemon is due as there are microseconds
 abbrev pub clock_goes : {P : Type 0} → Reader P → P → ℕ → ℤ → Deed

@@ -101,12 +101,12 @@ abbrev pub under_way : Database → Option CopyHand → Option (CopyHand × Snap
 under_way p None = None
 under_way p (Some hand) = option_map (λ snapshot. (hand, snapshot)) (held_snapshot p hand.hold)
 
--- a copy that runs goes on with the next rows; if it isn't in hand, it is waited for
+-- a copy that runs continues with the next rows; if it isn't in hand, it is waited for
 abbrev pub continues : Database → List ℕ → Option CopyHand → Option (CopyHand × SnapshotView) → Checked (Move CopyHand)
 continues p table hand None = only_prints (AwaitsTable table) hand
 continues p table hand (Some x) = Ok (next_piece p table x.1 x.0)
 
--- a copy begins, unless one of the table runs, by this transaction: then it goes on
+-- a copy begins, unless one of the table runs, by this transaction: then that one continues
 abbrev pub starts_or_continues : (p r : Database) → List ℕ → Option CopyHand → (running : Option ℕ) → Checked (Move CopyHand)
 starts_or_continues p r table hand None = starts_copy p r table
 starts_or_continues p r table hand (Some t) = continues p table hand (under_way p hand)
@@ -115,7 +115,7 @@ starts_or_continues p r table hand (Some t) = continues p table hand (under_way 
 abbrev pub copier : Option Node → LeafTable → Follower
 copier n t = record { consumer = copy_consumer n; tick = t.tick; pick = copy_of t.name }
 
--- what is done with the batch in hand, or else by itself
+-- what is done with a batch in hand, or, with none, another move
 abbrev pub goes_through_or : (p r : Database) → LeafTable → Option BatchHand → Checked (Move BatchHand) → Checked (Move BatchHand)
 goes_through_or p r t (Some batch) other = goes_through p r (copier r.node t) batch
 goes_through_or p r t None other = other

@@ -90,8 +90,8 @@ pub data NodeMark : Type 0 where
   -- the root of a set was made, with the set's queue
   root_made : (name queue : List ℕ) → NodeMark
   -- a table joined the set; it left
-  listed : (table : List ℕ) → NodeMark
-  unlisted : (table : List ℕ) → NodeMark
+  set_added : (table : List ℕ) → NodeMark
+  set_removed : (table : List ℕ) → NodeMark
   -- a consumer of the set's queue is a leaf's from now on; it isn't any more
   joined : (consumer : List ℕ) → NodeMark
   parted : (consumer : List ℕ) → NodeMark
@@ -123,7 +123,7 @@ pub data Mark : Type 0 where
   -- which is repeatable read
   repeats : (who : ℕ) → Mark
   -- the place at which it reads is here
-  looked : (who : ℕ) → Mark
+  sight_taken : (who : ℕ) → Mark
   -- a refusal aborted it
   block_failed : (who : ℕ) → Mark
   -- the session ended it

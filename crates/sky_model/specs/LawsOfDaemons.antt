@@ -7,7 +7,8 @@ use Rattle.sky_model.specs.History.{clock_at, Past}
 use Rattle.sky_model.specs.World.{database_names, clock, daemon}
 use Rattle.sky_model.specs.Reader.{Reader, by_past, Deed, answers_with, idles, followed}
 use Rattle.sky_model.specs.Daemon.{is_due_at, next_due}
-use Rattle.sky_model.specs.Clock.{at_moment, last_moment, clock_goes}
+use Rattle.sky_model.specs.Moment.{last_moment}
+use Rattle.sky_model.specs.Clock.{at_moment, clock_goes}
 use Rattle.sky_model.specs.Calls.{Call, past_of}
 use Rattle.sky_model.specs.Steps.{IsCallInForm}
 

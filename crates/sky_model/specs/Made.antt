@@ -2,7 +2,7 @@
 use Rattle.std.specs.Prelude.{ℕ, Bool, true, false, ◌∷◌, Ok, Err, if◌then◌else◌}
 use Rattle.sky_model.specs.declared.stmt.Where.{Where}
 use Rattle.sky_model.specs.declared.stmt.Where.TheVariants.{WhenReading}
-use Rattle.sky_model.specs.History.{Mark, looked}
+use Rattle.sky_model.specs.History.{Mark, sight_taken}
 use Rattle.sky_model.specs.Sessions.{Sight, at_first, Session}
 use Rattle.sky_model.specs.Outcome.{Outcome, Checked, or_refused}
 use Rattle.sky_model.specs.Allowed.{allowed}
@@ -26,12 +26,12 @@ runs m who p = or_refused who (m.session p) (m.outcome p)
 
 -- with the sight taken before
 abbrev pub looking : ℕ → Outcome → Outcome
-looking who outcome = record outcome { marks = looked who ∷ outcome.marks }
+looking who outcome = record outcome { marks = sight_taken who ∷ outcome.marks }
 
 abbrev pub runs_if : {P : Type 0} → Making P → Where → ℕ → P → Checked (Unit {0}) → Outcome
 runs_if m place who p (Err refusal) = or_refused who (m.session p) (Err refusal)
 runs_if m place who p (Ok _) =
-    if takes_sight place (m.session p).sight then looking who (runs m who (m.behind p (looked who)))
+    if takes_sight place (m.session p).sight then looking who (runs m who (m.behind p (sight_taken who)))
     else runs m who p
 
 -- a statement of a session: it is refused if it isn't allowed there, and otherwise a repeatable read block takes its sight before the first one that

@@ -54,6 +54,10 @@ moment now =
 abbrev pub HasMoment : ℤ → Type 0
 HasMoment now = (pos 0 ≤ℤ now) × (now ≤ℤ pos 2_000_000_000_000_000)
 
+-- the last moment of the clock
+abbrev pub last_moment : ℤ
+last_moment = pos 1_000_000_000_000_000
+
 -- a moment that the clock may have
 abbrev pub IsTime : ℤ → Type 0
-IsTime now = (pos 0 ≤ℤ now) × (now ≤ℤ pos 1_000_000_000_000_000)
+IsTime now = (pos 0 ≤ℤ now) × (now ≤ℤ last_moment)

@@ -1,7 +1,7 @@
 -- The node of a database, as the marks of the database's history leave it.
 use Rattle.std.specs.Prelude.{List, ℕ, [], ◌∷◌, ◌&&◌, Bool, true, false, Option, Some, None, option_map, bytes_eq}
 use Rattle.londiste_state.specs.Nodes.{Root, Leaf, Node, of_root, of_leaf, is_among, tables_of, changed_in, with_root_table, without_root_table, with_consumer, without_consumer, with_leaf_table, without_leaf_table, with_state, with_tick, with_copied}
-use Rattle.sky_model.specs.History.{noded, Pick, of_synced, copy_of, NodeMark, root_made, listed, unlisted, joined, parted, leaf_made, leaf_added, leaf_removed, state_set, copied, applied, restarted, hold_begun, hold_ended, History}
+use Rattle.sky_model.specs.History.{noded, Pick, of_synced, copy_of, NodeMark, root_made, set_added, set_removed, joined, parted, leaf_made, leaf_added, leaf_removed, state_set, copied, applied, restarted, hold_begun, hold_ended, History}
 
 -- a node changed if it is a root; a node changed if it is a leaf
 abbrev pub at_root : (Root → Root) → Node → Node
@@ -20,8 +20,8 @@ with_applied (copy_of table) tick l = record l { tables = changed_in table (with
 -- a database's node after something happened to it
 abbrev pub after_node : NodeMark → Option Node → Option Node
 after_node (root_made name queue) n = Some (of_root (record { name = name; queue = queue; tables = []; consumers = [] }))
-after_node (listed table) n = option_map (at_root (with_root_table table)) n
-after_node (unlisted table) n = option_map (at_root (without_root_table table)) n
+after_node (set_added table) n = option_map (at_root (with_root_table table)) n
+after_node (set_removed table) n = option_map (at_root (without_root_table table)) n
 after_node (joined consumer) n = option_map (at_root (with_consumer consumer)) n
 after_node (parted consumer) n = option_map (at_root (without_consumer consumer)) n
 after_node (leaf_made name provider tick) n = Some (of_leaf (record { name = name; provider = provider; tick = tick; tables = [] }))

@@ -28,7 +28,7 @@ listed_between _ _ sub ts = []
 
 -- of those that a queue keeps
 abbrev pub selected_in : Queue → Batch → List Event
-selected_in q b = listed_between (tick b.prev q.tick_list) (tick b.cur q.tick_list) b.sub q.tables
+selected_in q b = listed_between (tick b.prev q.tick_list) (tick b.cur q.tick_list) b.sub q.event_tables
 
 abbrev pub selected : Database → Batch → List Event
 selected d b = selected_in (d.queue b.queue) b

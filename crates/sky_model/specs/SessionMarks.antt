@@ -5,7 +5,7 @@ use Rattle.sky_model.specs.declared.reply.Reply.TheVariants.{Number, Refused}
 use Rattle.sky_model.specs.declared.reply.Refusal.{Refusal}
 use Rattle.sky_model.specs.declared.stmt.Where.{Where}
 use Rattle.sky_model.specs.declared.stmt.Where.TheVariants.{WhenReading, WhenOutside}
-use Rattle.sky_model.specs.History.{Mark, of_session, ended, looked, block_failed}
+use Rattle.sky_model.specs.History.{Mark, of_session, ended, sight_taken, block_failed}
 use Rattle.sky_model.specs.Sessions.{Block, outside, inside}
 use Rattle.sky_model.specs.State.{RowPart, after_part_marks}
 use Rattle.sky_model.specs.Outcome.{Checked, end_of}
@@ -16,7 +16,7 @@ use Rattle.sky_model.specs.Settling.{Turn}
 
 -- a session takes its sight, or doesn't
 abbrev pub look_of : ℕ → Bool → List Mark
-look_of who true = looked who ∷ []
+look_of who true = sight_taken who ∷ []
 look_of who false = []
 
 -- the marks of taking a session's sight, if a statement takes it

@@ -1,7 +1,7 @@
 -- The sessions that have a database open, their transaction blocks, and the places at which they read.
 use Rattle.std.specs.Prelude.{ℕ, Bool, true, false, [], ◌∷◌, Option, Some, None, ◌==◌, if◌then◌else◌}
 use Rattle.sky_txid.specs.Snapshot.{SnapshotView}
-use Rattle.sky_model.specs.History.{of_session, began, ended, block_begun, repeats, looked, block_failed, block_ended, connected, disconnected, History}
+use Rattle.sky_model.specs.History.{of_session, began, ended, block_begun, repeats, sight_taken, block_failed, block_ended, connected, disconnected, History}
 use Rattle.sky_model.specs.Transactions.{snapshot}
 
 -- whether a session has the database open
@@ -41,7 +41,7 @@ pub data Sight (P : Type 0) : Type 0 where
 abbrev pub sight : ℕ → History → Sight History
 sight who [] = at_each
 sight who (repeats w ∷ h) = if w == who then at_first else sight who h
-sight who (looked w ∷ h) = if w == who then at_place h else sight who h
+sight who (sight_taken w ∷ h) = if w == who then at_place h else sight who h
 sight who (block_failed w ∷ h) = if w == who then at_each else sight who h
 sight who (block_ended w ∷ h) = if w == who then at_each else sight who h
 sight who (_ ∷ h) = sight who h

@@ -8,7 +8,7 @@ use Rattle.sky_txid.specs.Snapshot.{SnapshotView, snapshot_of}
 use Rattle.sky_keys.specs.Versions.{written, forgotten}
 use Rattle.sky_model.specs.declared.stmt.Attempt.{Attempt}
 use Rattle.sky_model.specs.declared.stmt.Attempt.TheVariants.{Deletion}
-use Rattle.sky_model.specs.History.{Batch, Mark, Whose, of_session, of_worker, of_copy, began, ended, block_begun, repeats, looked, block_failed, block_ended, connected, disconnected, tabled, TableMark, table_made, wrote, waits, waited, read_only, noded, NodeMark, hold_begun, hold_ended, queued, QueueMark, made, raised, put, ticked, registered, moved, unregistered, opened, closed, asked, returned, switching, switched, second_step, configured, dropped, traced, untraced, History}
+use Rattle.sky_model.specs.History.{Batch, Mark, Whose, of_session, of_worker, of_copy, began, ended, block_begun, repeats, sight_taken, block_failed, block_ended, connected, disconnected, tabled, TableMark, table_made, wrote, waits, waited, read_only, noded, NodeMark, hold_begun, hold_ended, queued, QueueMark, made, raised, put, ticked, registered, moved, unregistered, opened, closed, asked, returned, switching, switched, second_step, configured, dropped, traced, untraced, History}
 use Rattle.sky_model.specs.Transactions.{next_txid, running, workers}
 use Rattle.pgq_tables.specs.Tables as tables_of
 use Rattle.pgq_tables.specs.Tables.{Tables, no_tables, new_tables, with_stored, with_pending, with_second_step}
@@ -31,7 +31,7 @@ use Rattle.sky_model.specs.Consumers.{all_but, consumers, Subscription, subscrip
 pub record Queue : Type 0 where
   pub config : Config
   pub seq : ℕ
-  pub tables : Tables
+  pub event_tables : Tables
   pub tick_list : List Tick
   pub members : List (List ℕ)
   pub sub : List ℕ → Option Subscription
@@ -70,7 +70,7 @@ abbrev pub queue_of : History → ℕ → Queue
 queue_of h q = record {
   config = config q h;
   seq = sequence q h;
-  tables = event_tables q h;
+  event_tables = event_tables q h;
   tick_list = kept_ticks q h;
   members = consumers q h;
   sub = λ name. subscription q name h;
@@ -126,15 +126,15 @@ at_position tick s = record s { position = tick; active = None }
 
 -- a queue of which nothing is kept but who has registered
 abbrev pub emptied : Queue → Queue
-emptied q = record q { config = default_config; seq = 0; tables = no_tables; tick_list = [] }
+emptied q = record q { config = default_config; seq = 0; event_tables = no_tables; tick_list = [] }
 
 -- a queue with its event tables changed
 abbrev pub with_tables : (Tables → Tables) → Queue → Queue
-with_tables change q = record q { tables = change q.tables }
+with_tables change q = record q { event_tables = change q.event_tables }
 
 -- a queue after the switch of its event tables
 abbrev pub after_switch : ℤ → Queue → Queue
-after_switch time q = record q { tables = tables_of.with_switch time q.tables; tick_list = ticks_above (second_step_of q.tables) q.tick_list }
+after_switch time q = record q { event_tables = tables_of.with_switch time q.event_tables; tick_list = ticks_above (second_step_of q.event_tables) q.tick_list }
 
 -- a database after something happened to its queues
 abbrev pub after_queue_mark : Database → QueueMark → Database
@@ -142,7 +142,7 @@ after_queue_mark d (made name t time) = record d {
   queues_made = d.queues_made + 1;
   queues = d.queues ++ record { number = d.queues_made; name = name } ∷ [];
   queue = changed_at d.queues_made (λ x. record x {
-    tables = new_tables t time;
+    event_tables = new_tables t time;
     tick_list = x.tick_list ++ record { id = 1; time = time; snapshot = snapshot_of d.part.next d.part.running_ids; seq = 0 } ∷ [];
   }) d.queue;
 }
@@ -277,7 +277,7 @@ after_part d (ended whose t false) = record d {
 }
 after_part d (block_begun who) = record d { session = changed_at who (with_block inside) d.session }
 after_part d (repeats who) = record d { session = changed_at who (with_sight at_first) d.session }
-after_part d (looked who) = record d { session = changed_at who (with_sight (at_place (snapshot_of d.next d.running_ids))) d.session }
+after_part d (sight_taken who) = record d { session = changed_at who (with_sight (at_place (snapshot_of d.next d.running_ids))) d.session }
 after_part d (block_failed who) = record d { session = changed_at who (without_sight failed) d.session }
 after_part d (block_ended who) = record d { session = changed_at who (without_sight outside) d.session }
 after_part d (connected who) = record d { session = changed_at who (with_open true) d.session }
@@ -312,7 +312,7 @@ after_mark d (began whose t) = record d {
 }
 after_mark d (block_begun who) = record d { part = after_part d.part (block_begun who) }
 after_mark d (repeats who) = record d { part = after_part d.part (repeats who) }
-after_mark d (looked who) = record d { part = after_part d.part (looked who) }
+after_mark d (sight_taken who) = record d { part = after_part d.part (sight_taken who) }
 after_mark d (block_failed who) = record d { part = after_part d.part (block_failed who) }
 after_mark d (block_ended who) = record d { part = after_part d.part (block_ended who) }
 after_mark d (connected who) = record d { part = after_part d.part (connected who) }

@@ -46,7 +46,7 @@ register_consumer d name consumer = do
 -- the least tick at which a consumer may register: the oldest that is kept, and while a switch is pending, which drops older ones, the oldest that
 -- is above its second step
 abbrev pub floor : Queue → ℕ
-floor q = id_of (find (λ t. is_above (if is_some q.tables.pending then second_step_of q.tables else 0) t) q.tick_list)
+floor q = id_of (find (λ t. is_above (if is_some q.event_tables.pending then second_step_of q.event_tables else 0) t) q.tick_list)
 
 -- `register_consumer_at NAME CONSUMER N`: the same at the tick of this id; one that is registered is moved there
 abbrev pub register_consumer_at : Database → (name consumer : List ℕ) → ℕ → Checked Outcome

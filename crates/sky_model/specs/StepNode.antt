@@ -13,7 +13,7 @@ use Rattle.sky_model.specs.declared.reply.Reply.TheVariants.{Done, Number, Null}
 use Rattle.sky_model.specs.declared.reply.Limit.TheVariants.{Consumers, Queues, Triggers}
 use Rattle.sky_model.specs.declared.reply.Refusal.TheVariants.{ConsumerExists, NodeExists, QueueExists, TableBusy, TooMany}
 use Rattle.sky_model.specs.Limits.{most_of}
-use Rattle.sky_model.specs.History.{Batch, Pick, tabled, read_only, queued, made, unregistered, closed, traced, untraced, noded, root_made, listed, unlisted, joined, parted, leaf_made, leaf_added, leaf_removed, state_set}
+use Rattle.sky_model.specs.History.{Batch, Pick, tabled, read_only, queued, made, unregistered, closed, traced, untraced, noded, root_made, set_added, set_removed, joined, parted, leaf_made, leaf_added, leaf_removed, state_set}
 use Rattle.sky_model.specs.Queues.{queue_number, Tick, tick}
 use Rattle.sky_model.specs.Nodes.{is_root, is_leaf, set_tables, leaf_tables}
 use Rattle.sky_model.specs.Triggers.{triggers_of}
@@ -80,11 +80,11 @@ abbrev pub lists : Database → (queue table : ℕ) → List ℕ → Checked Out
 lists d queue table name = do
   refused_if (nat_le (most_of Triggers) (length (triggers_of table d.triggers))) (TooMany Triggers)
   refused_by (option_map TableBusy (least_writer d.part table))
-  does_marks Done (noded (listed name) ∷ queued (traced table None (set_trigger queue)) ∷ [])
+  does_marks Done (noded (set_added name) ∷ queued (traced table None (set_trigger queue)) ∷ [])
 
 -- it leaves
 abbrev pub unlists : (table : ℕ) → List ℕ → Checked Outcome
-unlists table name = does_marks Done (noded (unlisted name) ∷ queued (untraced table) ∷ [])
+unlists table name = does_marks Done (noded (set_removed name) ∷ queued (untraced table) ∷ [])
 
 -- a table joins a leaf: sessions may not write it from now on
 abbrev pub adds : Database → (table : ℕ) → List ℕ → Checked Outcome

@@ -36,7 +36,7 @@ has_part_in ts t = list_any (λ s. s.event.ev_txid == t) (by_age ts) || is_pendi
 
 -- the least running transaction that has put an event into a queue, or makes its pending switch
 abbrev pub least_producer : Database → ℕ → Option ℕ
-least_producer d queue = find (has_part_in (d.queue queue).tables) d.part.running_ids
+least_producer d queue = find (has_part_in (d.queue queue).event_tables) d.part.running_ids
 
 -- the first trigger that puts events into a queue
 abbrev pub first_trigger_into : ℕ → List TableTrigger → Option TableTrigger
@@ -171,7 +171,7 @@ set_queue_config d name param value = do
 
 -- what is shown of a queue: of its event tables the number of the current one, and how many events each has, dead ones among them
 abbrev pub info_of : Queue → reply.QueueInfo
-info_of q = record { current = q.tables.current; last_tick = newest_id q; seq = q.seq; stored = map length q.tables.lists }
+info_of q = record { current = q.event_tables.current; last_tick = newest_id q; seq = q.seq; stored = map length q.event_tables.lists }
 
 -- `queue_info NAME`
 abbrev pub queue_info : Database → List ℕ → Checked Outcome

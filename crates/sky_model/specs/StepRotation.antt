@@ -19,7 +19,7 @@ use Rattle.sky_model.specs.StepQueue.{queue_called}
 
 -- the moment at which the rotation period of a queue ends
 abbrev pub period_ends : Queue → ℤ
-period_ends q = q.tables.switched_at +ℤ q.config.rotation_period
+period_ends q = q.event_tables.switched_at +ℤ q.config.rotation_period
 
 -- the period isn't over
 abbrev pub held_by_period : ℤ → Queue → Option held.HeldBack
@@ -47,13 +47,13 @@ held_by_newest t q = option_and_then (held_by_tick_of (λ newest. held_by.Tick n
 -- the second step of the last switch is missing; or, of the consumers in the order of registering, the position of one isn't above it; or the newest
 -- tick isn't
 abbrev pub held_by_second_step : Queue → Option ℕ → Option held.HeldBack
-held_by_second_step q None = Some (SecondStep q.tables.first_step)
+held_by_second_step q None = Some (SecondStep q.event_tables.first_step)
 held_by_second_step q (Some t) = option_or (held_by_consumers t q q.members) (held_by_newest t q)
 
 -- what holds a switch of a queue back, the first that does: one that is pending, the period, or what the last switch needs
 abbrev pub held_back : ℤ → Queue → Option held.HeldBack
 held_back now q =
-    option_or (option_map Pending q.tables.pending) (option_or (held_by_period now q) (held_by_second_step q q.tables.second_step))
+    option_or (option_map Pending q.event_tables.pending) (option_or (held_by_period now q) (held_by_second_step q q.event_tables.second_step))
 
 -- ---- the first step
 
@@ -88,7 +88,7 @@ rotates_by_itself d now queue = rotates_alone d now queue (held_back now (d.queu
 
 -- the queues whose last switch lacks its second step
 abbrev pub lack_second_step : Database → List NamedQueue
-lack_second_step d = filter (λ q. is_none (d.queue q.number).tables.second_step) d.queues
+lack_second_step d = filter (λ q. is_none (d.queue q.number).event_tables.second_step) d.queues
 
 -- a worker's transaction makes it for each
 abbrev pub second_steps : ℕ → List NamedQueue → List Mark
@@ -111,7 +111,7 @@ maint_rotate_step2 d = ends_switches d (lack_second_step d)
 abbrev pub switches_by : Database → ℤ → ℕ → List NamedQueue → List Mark
 switches_by d now t [] = []
 switches_by d now t (q ∷ queues) =
-    if is_pending t (d.queue q.number).tables then queued (switched q.number now) ∷ switches_by d now t queues else switches_by d now t queues
+    if is_pending t (d.queue q.number).event_tables then queued (switched q.number now) ∷ switches_by d now t queues else switches_by d now t queues
 
 -- the transaction of a session's block that `commit` makes permanent, if it has an id
 abbrev pub committed_by : Block → Option ℕ → Option ℕ

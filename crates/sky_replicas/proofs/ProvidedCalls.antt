@@ -19,7 +19,7 @@ use Rattle.sky_model.specs.declared.reply.Refusal.{Refusal}
 use Rattle.sky_model.specs.declared.reply.Limit.TheVariants.{Consumers}
 use Rattle.sky_model.specs.declared.reply.Refusal.TheVariants.{AlreadyInSet, IdsSpent, NodeExists, NoNode, NoTable, NotInSet, NotProvider, SchemaDiffers, TableBusy, TableInUse, TooMany}
 use Rattle.sky_val.specs.declared.event.Event.{Event}
-use Rattle.sky_model.specs.History.{Mark, noded, leaf_made, leaf_added, unlisted, root_made, tabled, read_only, Batch, Pick, Fact, within, node_made, in_hand, batch_in_hand, Past}
+use Rattle.sky_model.specs.History.{Mark, noded, leaf_made, leaf_added, set_removed, root_made, tabled, read_only, Batch, Pick, Fact, within, node_made, in_hand, batch_in_hand, Past}
 use Rattle.sky_model.specs.Hands.{CopyHand, BatchHand, Hand, of_copy, of_batch, copy_in, batch_in}
 use Rattle.sky_model.specs.Copies.{copy_txid}
 use Rattle.sky_model.specs.Rows.{table_names, columns_of}
@@ -64,13 +64,13 @@ use Rattle.sky_replicas.proofs.ProvidedTables.{IsOffered, HasProvider, AllProvid
 abbrev is_settled : Mark → Bool
 is_settled (noded (leaf_made name provider tick)) = false
 is_settled (noded (leaf_added name)) = false
-is_settled (noded (unlisted name)) = false
+is_settled (noded (set_removed name)) = false
 is_settled mark = true
 
 settled-suits : (past : Past) (e : ℕ) (mark : Mark) → is_settled mark ≡ true → MarkSuits past e mark
 settled-suits past e (noded (leaf_made name provider tick)) is = absurd (cc is)
 settled-suits past e (noded (leaf_added name)) is = absurd (cc is)
-settled-suits past e (noded (unlisted name)) is = absurd (cc is)
+settled-suits past e (noded (set_removed name)) is = absurd (cc is)
 settled-suits past e mark is = tt
 
 sessions-too : (mark : Mark) → is_sessions mark ≡ true → is_settled mark ≡ true
@@ -98,19 +98,19 @@ Settled c = Gives AnyReply is_settled c
 settled-consumers : (mark : Mark) → is_for_consumers mark ≡ true → is_settled mark ≡ true
 settled-consumers (noded (leaf_made name provider tick)) e = absurd (cc e)
 settled-consumers (noded (leaf_added name)) e = absurd (cc e)
-settled-consumers (noded (unlisted name)) e = absurd (cc e)
+settled-consumers (noded (set_removed name)) e = absurd (cc e)
 settled-consumers mark e = refl
 
 settled-copies : (mark : Mark) → is_for_copies mark ≡ true → is_settled mark ≡ true
 settled-copies (noded (leaf_made name provider tick)) e = absurd (cc e)
 settled-copies (noded (leaf_added name)) e = absurd (cc e)
-settled-copies (noded (unlisted name)) e = absurd (cc e)
+settled-copies (noded (set_removed name)) e = absurd (cc e)
 settled-copies mark e = refl
 
 settled-applying : (mark : Mark) → is_for_applying mark ≡ true → is_settled mark ≡ true
 settled-applying (noded (leaf_made name provider tick)) e = absurd (cc e)
 settled-applying (noded (leaf_added name)) e = absurd (cc e)
-settled-applying (noded (unlisted name)) e = absurd (cc e)
+settled-applying (noded (set_removed name)) e = absurd (cc e)
 settled-applying mark e = refl
 
 settled-consumer : (d : Database) (call : NodeCall) → is_consumers call ≡ true → Settled (call_form d call)

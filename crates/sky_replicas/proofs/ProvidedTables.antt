@@ -7,7 +7,7 @@ use Rattle.sky_names.specs.Places.{place_of}
 use Rattle.sky_names.proofs.PlaceLemmas.{same_name, place_of_within}
 use Rattle.sky_txid.specs.Ids.{contains}
 use Rattle.londiste_state.specs.Nodes.{Root, Node, of_root, of_leaf, node_name, is_among, all_but}
-use Rattle.sky_model.specs.History.{Mark, NodeMark, tabled, table_made, noded, root_made, listed, unlisted, leaf_made, leaf_added, leaf_removed, History, Fact, within, node_made, Past}
+use Rattle.sky_model.specs.History.{Mark, NodeMark, tabled, table_made, noded, root_made, set_added, set_removed, leaf_made, leaf_added, leaf_removed, History, Fact, within, node_made, Past}
 use Rattle.sky_model.specs.Rows.{table_names, columns_of}
 use Rattle.sky_model.specs.Nodes.{at_root, after_node, node, is_root, is_leaf, set_tables, leaf_tables}
 use Rattle.sky_model.specs.World.{history_in, nodes, on_top}
@@ -61,7 +61,7 @@ root-stays h _ _ is = is
 
 -- whether the table of a name leaves its set by a mark
 abbrev unlists : List ℕ → Mark → Bool
-unlists name (noded (unlisted other)) = bytes_eq other name
+unlists name (noded (set_removed other)) = bytes_eq other name
 unlists name mark = false
 
 root-changed : (name : List ℕ) (f : Root → Root) (n : Option Node) → ((r : Root) → is_among name r.tables ≡ true → is_among name (f r).tables ≡ true) → is_among name (set_tables n) ≡ true
@@ -73,8 +73,8 @@ root-changed name f (Some (of_leaf l)) keeps is = is
 set-mark : (h : History) (mark : NodeMark) → NodeFits h mark → (name : List ℕ) → unlists name (noded mark) ≡ false → is_among name (set_tables (node h)) ≡ true → is_among name (set_tables (after_node mark (node h))) ≡ true
 set-mark h (root_made other queue) fits name kept is = absurd (cc (sym is ∙ ap (λ n. is_among name (set_tables n)) fits.0))
 set-mark h (leaf_made other provider tick) fits name kept is = absurd (cc (sym is ∙ ap (λ n. is_among name (set_tables n)) fits.0))
-set-mark h (listed other) fits name kept is = root-changed name _ (node h) (λ r among. among-push name other r.tables among) is
-set-mark h (unlisted other) fits name kept is = root-changed name _ (node h) (λ r among. among-less name other r.tables kept among) is
+set-mark h (set_added other) fits name kept is = root-changed name _ (node h) (λ r among. among-push name other r.tables among) is
+set-mark h (set_removed other) fits name kept is = root-changed name _ (node h) (λ r among. among-less name other r.tables kept among) is
 set-mark h (leaf_added other) fits name kept is = ap (is_among name) (set-other _ (node h)) ∙ is
 set-mark h (leaf_removed other) fits name kept is = ap (is_among name) (set-other _ (node h)) ∙ is
 set-mark h mark fits name kept is = ap (is_among name) (same-tables mark refl (node h)).set ∙ is
@@ -90,8 +90,8 @@ WasLeafs h mark name = (is_among name (leaf_tables (node h)) ≡ true) ⊎ (mark
 was-mark : (h : History) (mark : NodeMark) → NodeFits h mark → (name : List ℕ) → is_among name (leaf_tables (after_node mark (node h))) ≡ true → WasLeafs h (noded mark) name
 was-mark h (root_made other queue) fits name is = absurd (cc is)
 was-mark h (leaf_made other provider tick) fits name is = absurd (cc is)
-was-mark h (listed other) fits name is = inl (sym (ap (is_among name) (leaf-other _ (node h))) ∙ is)
-was-mark h (unlisted other) fits name is = inl (sym (ap (is_among name) (leaf-other _ (node h))) ∙ is)
+was-mark h (set_added other) fits name is = inl (sym (ap (is_among name) (leaf-other _ (node h))) ∙ is)
+was-mark h (set_removed other) fits name is = inl (sym (ap (is_among name) (leaf-other _ (node h))) ∙ is)
 was-mark h (leaf_removed other) fits name is = inl (among-all name other (leaf_tables (node h)) (sym (ap (is_among name) (leaf-removed (node h) other)) ∙ is))
 was-mark h (leaf_added other) fits name is =
     by_test (λ b. bytes_eq name other ≡ b → (is_among name (leaf_tables (node h)) || (b || false)) ≡ true → WasLeafs h (noded (leaf_added other)) name) (bytes_eq name other)
@@ -156,7 +156,7 @@ IsUnused past e name = (d : ℕ) → source_of past d ≡ Some e → is_among na
 abbrev pub MarkSuits : Past → ℕ → Mark → Type 0
 MarkSuits past e (noded (leaf_made name provider tick)) = IsRootCalled past provider
 MarkSuits past e (noded (leaf_added name)) = (p : ℕ) → source_of past e ≡ Some p → IsOffered past e p name
-MarkSuits past e (noded (unlisted name)) = IsUnused past e name
+MarkSuits past e (noded (set_removed name)) = IsUnused past e name
 MarkSuits past e mark = Unit {0}
 
 -- ---- mark by mark
@@ -202,10 +202,10 @@ called-within past e mark name all fine r = record { p = r.p; found = found-with
 
 -- a table in use leaves no set
 in-use : (past : Past) (e : ℕ) (mark : Mark) (d : ℕ) (name : List ℕ) → MarkSuits past e mark → source_of past d ≡ Some e → WasLeafs (history_in past d) mark name → unlists name mark ≡ false
-in-use past e (noded (unlisted other)) d name suits from (inl was) =
+in-use past e (noded (set_removed other)) d name suits from (inl was) =
     by_test (λ b. bytes_eq other name ≡ b → b ≡ false) (bytes_eq other name)
     (λ _ same. absurd (cc (sym (suits d from) ∙ ap (λ x. is_among x (leaf_tables (node (history_in past d)))) (same_name other name same) ∙ was))) (λ _ _. refl) refl
-in-use past e (noded (unlisted other)) d name suits from (inr just) = absurd (cc just)
+in-use past e (noded (set_removed other)) d name suits from (inr just) = absurd (cc just)
 in-use past e mark d name suits from was = refl
 
 -- a leaf that was one

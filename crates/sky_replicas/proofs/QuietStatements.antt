@@ -9,7 +9,7 @@ use Rattle.sky_model.specs.declared.stmt.RowStmt.TheVariants.{Insert, Update, De
 use Rattle.sky_model.specs.declared.stmt.Stmt.{Stmt}
 use Rattle.sky_model.specs.declared.stmt.Stmt.TheVariants.{Row}
 use Rattle.sky_model.specs.declared.daemon.DaemonPart.{DaemonPart}
-use Rattle.sky_model.specs.History.{Mark, of_session, of_worker, of_copy, began, ended, looked, tabled, wrote, waited, noded, copied, leaf_removed, state_set, hold_begun, hold_ended, History}
+use Rattle.sky_model.specs.History.{Mark, of_session, of_worker, of_copy, began, ended, sight_taken, tabled, wrote, waited, noded, copied, leaf_removed, state_set, hold_begun, hold_ended, History}
 use Rattle.sky_model.specs.Sessions.{Session, session, has_open, block}
 use Rattle.sky_model.specs.Locks.{waiting}
 use Rattle.sky_model.specs.State.{RowPart, part_of, Database, database_of}
@@ -88,7 +88,7 @@ quiet-statement : (h : History) (now : ℤ) (who : ℕ) (stmt : Stmt) → EachMa
 quiet-statement h now who stmt =
     (given-runs AnyReply is_quiet (λ _. tt) (quiet-if no_more refl) (making database_by_history now who stmt) (where_of stmt) who h
     (allowed (is_waiting who (waiting h)) (has_open who h) (block who h) (where_of stmt))
-    (quiet-form who (database_of h) (shown_in h) now stmt) (quiet-form who (database_of (looked who ∷ h)) (shown_in (looked who ∷ h)) now stmt)).1
+    (quiet-form who (database_of h) (shown_in h) now stmt) (quiet-form who (database_of (sight_taken who ∷ h)) (shown_in (sight_taken who ∷ h)) now stmt)).1
 
 -- ---- those that resume
 

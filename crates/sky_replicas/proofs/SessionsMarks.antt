@@ -3,7 +3,7 @@ use Rattle.std.proofs.Common.{◌≡◌, ℕ, ℤ, Bool, true, false, ◌∷◌,
 use Rattle.sky_keys.specs.Waits.{is_waiting}
 use Rattle.sky_model.specs.declared.stmt.Stmt.{Stmt}
 use Rattle.sky_model.specs.declared.daemon.DaemonPart.{DaemonPart}
-use Rattle.sky_model.specs.History.{Mark, of_worker, of_copy, began, ended, looked, tabled, wrote, noded, root_made, History}
+use Rattle.sky_model.specs.History.{Mark, of_worker, of_copy, began, ended, sight_taken, tabled, wrote, noded, root_made, History}
 use Rattle.sky_model.specs.Sessions.{has_open, block, own_txid}
 use Rattle.sky_model.specs.Locks.{waiting}
 use Rattle.sky_model.specs.State.{Database, part_of, database_of}
@@ -43,7 +43,7 @@ sessions-statement : (h : History) (now : ℤ) (who : ℕ) (stmt : Stmt) → Eac
 sessions-statement h now who stmt =
     (given-runs AnyReply is_sessions (λ _. tt) (sessions-if no_more) (making database_by_history now who stmt) (where_of stmt) who h
     (allowed (is_waiting who (waiting h)) (has_open who h) (block who h) (where_of stmt))
-    (sessions-form (database_of h) (shown_in h) now who stmt) (sessions-form (database_of (looked who ∷ h)) (shown_in (looked who ∷ h)) now who stmt)).1
+    (sessions-form (database_of h) (shown_in h) now who stmt) (sessions-form (database_of (sight_taken who ∷ h)) (shown_in (sight_taken who ∷ h)) now who stmt)).1
 
 sessions-settling : (h : History) (now : ℤ) → EachMark is_sessions (settling (within_part database_by_history now) h).marks
 sessions-settling h now =

@@ -1,4 +1,4 @@
--- Steps through the entries of a table, of which the keys with rows are listed.
+-- Steps through the entries of a table, of which the keys with rows are indexed.
 use Rattle.std.proofs.Common.{◌≡◌, ℕ, Bool, true, false, List, [], ◌∷◌, ◌++◌, map, Option, Some, None, is_some, refl, sym, subst, ap, ◌∙◌, append_assoc, append-nil, Bor}
 use Rattle.std.specs.Option.{option_copied}
 use Rattle.sky_val.specs.declared.val.Val.{Val}

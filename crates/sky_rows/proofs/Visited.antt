@@ -58,7 +58,7 @@ all_listed t m end slots older above room (e ∷ es) there kept =
     let tied = among slots e.0 e.1 there.0 m 0 (omega arith) (omega arith) in (
       record {
         some = kept.0.some;
-        listed = λ u none. let both : true ≡ false = sym (or_yes (not (u == t))) ∙ ap (λ b. not (u == t) || b) (sym tied) ∙ none in absurd (cc both);
+        indexed = λ u none. let both : true ≡ false = sym (or_yes (not (u == t))) ∙ ap (λ b. not (u == t) || b) (sym tied) ∙ none in absurd (cc both);
       },
       all_listed t m end slots older above room es there.2 kept.1,
     )

@@ -16,8 +16,8 @@ pub record TableView : Type 0 where
   pub places : Places
 
 -- where a key is found, if it has a version
-abbrev pub found : TableView → List Val → Option ℕ
-found table key = place_at table.places key
+abbrev pub place_in : TableView → List Val → Option ℕ
+place_in table key = place_at table.places key
 
 -- without a transaction's versions at one key, which is removed if it has no others
 abbrev pub forgotten_at : ℕ → List Val → Entries (List Version) → Entries (List Version)

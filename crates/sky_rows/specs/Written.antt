@@ -13,17 +13,17 @@ use Rattle.sky_keys.specs.Versions.{version_of, unless_empty}
 use Rattle.sky_rows.specs.declared.written.Written.{Written}
 use Rattle.sky_rows.specs.declared.log.Log.{Log}
 
--- whether a key is listed among those that a transaction wrote
-abbrev pub listed : BTreeMap ℕ (BTreeSet (List Val)) → ℕ → List Val → Bool
-listed keys t key = option_map_or (λ of_it. contains key_cmp of_it key) (get nat_cmp keys t) false
+-- whether a key is indexed among those that a transaction wrote
+abbrev pub indexed : BTreeMap ℕ (BTreeSet (List Val)) → ℕ → List Val → Bool
+indexed keys t key = option_map_or (λ of_it. contains key_cmp of_it key) (get nat_cmp keys t) false
 
--- whether it is the transaction whose keys aren't listed
-abbrev pub is_unlisted : Option ℕ → ℕ → Bool
-is_unlisted unlisted t = option_map_or (λ u. t == u) unlisted false
+-- whether it is the transaction whose keys aren't indexed
+abbrev pub is_unindexed : Option ℕ → ℕ → Bool
+is_unindexed unindexed t = option_map_or (λ u. t == u) unindexed false
 
--- whether a transaction may have written a key, which is known of those from one on but for the one whose keys aren't listed
+-- whether a transaction may have written a key, which is known of those from one on but for the one whose keys aren't indexed
 abbrev pub wrote : Written → ℕ → List Val → Bool
-wrote index t key = (nat_lt t index.from || is_unlisted index.unlisted t) || listed index.keys t key
+wrote index t key = (nat_lt t index.from || is_unindexed index.unindexed t) || indexed index.keys t key
 
 -- the transaction that reads, if it wrote the key
 abbrev pub writer : (ℕ → List Val → Bool) → Option ℕ → List Val → Option ℕ
@@ -33,7 +33,7 @@ writer wrote (Some t) key = if wrote t key then Some t else None
 -- a key has versions, and each is of a transaction that may have written the key
 pub record IsKept (wrote : ℕ → List Val → Bool) (key : List Val) (vs : List Version) : Type 0 where
   pub some : unless_empty vs ≡ Some vs
-  pub listed : (t : ℕ) → wrote t key ≡ false → version_of t vs ≡ None
+  pub indexed : (t : ℕ) → wrote t key ≡ false → version_of t vs ≡ None
 
 -- the same, of each key
 abbrev pub AllKept : (ℕ → List Val → Bool) → Entries (List Version) → Type 0

@@ -1,5 +1,5 @@
-//! The keys that one transaction wrote, in the order of its writes. One more takes no search, but to look for one takes a
-//! walk through all, so no key is looked for: they serve to forget them all.
+//! The keys that one transaction wrote, in the order of its writes. They are read only to roll it back: adding a key
+//! takes no search, and none is looked up here.
 
 ghost use Rattle.std.specs.Prelude.{◌≡◌, ◌&&◌, ◌||◌, ◌==◌, not, ℕ, true, false, None, Some, List, OnOk, IfNone, IfSome};
 ghost use Rattle.std.specs.List.{list_any};
@@ -47,7 +47,7 @@ pub(crate) fn list_or_log(
     txid: u64,
     key: Key,
 ) -> Result<(), NoMemory>
-    ensures listed { OnOk result (wrote written.new txid key ≡ true) }
+    ensures indexed { OnOk result (wrote written.new txid key ≡ true) }
     ensures logged { OnOk result (logged log.new txid key ≡ true) }
     ensures kept { (t : ℕ) (q : List Val) → wrote written.new t q ≡ false → wrote written.old t q ≡ false }
     ensures kept_log { (t : ℕ) (q : List Val) → logged log.new t q ≡ false → (wrote written.old t q && logged log.old t q) ≡ false }

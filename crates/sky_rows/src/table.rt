@@ -8,7 +8,7 @@ ghost use Rattle.sky_val.specs.Entries.{at, is_in_order};
 ghost use Rattle.sky_txid.specs.Snapshot.{sees};
 ghost use Rattle.sky_keys.specs.Versions.{version_of, newest_by, newest_but, read, versions_at, written, forgotten, rows_read, above};
 ghost use Rattle.sky_val.specs.declared.val.Val.{Val};
-ghost use Rattle.sky_rows.specs.Table.{found, forgotten_at};
+ghost use Rattle.sky_rows.specs.Table.{place_in, forgotten_at};
 ghost use Rattle.sky_rows.specs.Written.{AllKept};
 ghost use Rattle.sky_rows.specs.Kept.{all_versions, AreOwn};
 ghost use Rattle.sky_rows.specs.Rows.{rows_in};
@@ -36,8 +36,8 @@ pub struct Table {
     older: Older,
 
     // By it a transaction that has no version at a key need not look through all versions there, and `forget` visits no
-    // key but its own. Of a transaction that was pruned it knows nothing: its version is looked for at the key, and
-    // `forget` visits all keys.
+    // key but its own. Of a transaction that was pruned or is unindexed it knows nothing: its version is looked for at the
+    // key, and `forget` visits the keys in the log if it has that transaction's, else all.
     written: Written,
 
     // The keys of the one transaction that `written` doesn't list.
@@ -91,7 +91,7 @@ impl Table {
 
     /// The place of the key, if it has a version. It is found there until the table changes.
     pub fn find(&self, key: &Key) -> Option<usize>
-        ensures place { result ≡ found self.now key.now }
+        ensures place { result ≡ place_in self.now key.now }
         ensures known { is_some result ≡ is_some (at key.now self.now.versions) }
     {
         self.rows.place(key)
@@ -116,7 +116,7 @@ impl Table {
         snapshot: &Snapshot,
         own: Option<u64>,
     ) -> Option<&Row>
-        requires { place ≡ found self.now key.now }
+        requires { place ≡ place_in self.now key.now }
         ensures { option_copied result
             ≡ read snapshot.now own (versions_at key.now self.now.versions) }
     {
@@ -133,7 +133,7 @@ impl Table {
 
     /// The newest version that the snapshot sees at the key that was found.
     pub fn newest_seen_at(&self, place: Option<usize>, snapshot: &Snapshot) -> Option<&Version>
-        ensures { (key : List Val) → place ≡ found self.now key
+        ensures { (key : List Val) → place ≡ place_in self.now key
             → option_copied result ≡ newest_by (sees snapshot.now) (versions_at key self.now.versions) }
     {
         self.rows.found(place)?.newest_seen(&self.older, snapshot)
@@ -141,7 +141,7 @@ impl Table {
 
     /// Whether the transaction has a version at the key, which was found.
     pub fn has_own_at(&self, place: Option<usize>, key: &Key, txid: u64) -> bool
-        requires { place ≡ found self.now key.now }
+        requires { place ≡ place_in self.now key.now }
         ensures { result ≡ is_some (version_of txid (versions_at key.now self.now.versions)) }
     {
         if !self.written.has(txid, key) {
@@ -222,7 +222,7 @@ impl Table {
         key: Key,
         row: Option<Row>,
     ) -> Result<(), NoMemory>
-        requires { place ≡ found self.old key }
+        requires { place ≡ place_in self.old key }
         ensures ok { OnOk result
             (self.new ≡ record self.old { versions = written txid key row self.old.versions; places = self.new.places }) }
         ensures err { OnErr result (self.new ≡ self.old) }
@@ -243,7 +243,7 @@ impl Table {
         key: Key,
         row: Option<Row>,
     ) -> Result<(), NoMemory>
-        requires { place ≡ found self.old key }
+        requires { place ≡ place_in self.old key }
         ensures ok { OnOk result
             (self.new ≡ record self.old { versions = written txid key row self.old.versions; places = self.new.places }) }
         ensures err { OnErr result (self.new ≡ self.old) }
@@ -259,8 +259,8 @@ impl Table {
     }
 
     /// The same as `write`, but only if the key has a row before, as `read` gives it to the transaction, or, if `needs_row`
-    /// is false, only if it has none. Answers whether it was written. The key is found once, and isn't looked for among
-    /// those that the transaction wrote.
+    /// is false, only if it has none. Answers whether it was written. The key is found once, and if the transaction's keys
+    /// are logged, it isn't looked for among them.
     pub fn write_if(
         &mut self,
         txid: u64,
@@ -295,7 +295,7 @@ impl Table {
     fn standing(&self, key: &Key, snapshot: &Snapshot, txid: u64) -> Standing
         requires last { let versions = versions_at key.now self.now.versions in
             IsSome (version_of txid versions) → newest_but None versions ≡ version_of txid versions }
-        ensures place { result.place ≡ found self.now key.now }
+        ensures place { result.place ≡ place_in self.now key.now }
         ensures own { result.has_own ≡ is_some (version_of txid (versions_at key.now self.now.versions)) }
         ensures row { result.has_row ≡ is_some (read snapshot.now (Some txid) (versions_at key.now self.now.versions)) }
     {

@@ -2,19 +2,19 @@ ghost use Rattle.std.specs.Prelude.{◌≡◌, ℕ, ◌<◌, true, false, not, n
 ghost use Rattle.std.specs.Ordering.{nat_cmp};
 ghost use Rattle.std.specs.Option.{option_map_or};
 ghost use Rattle.std.specs.BTreeMap.{get};
-ghost use Rattle.sky_rows.specs.Written.{is_unlisted, wrote, writer};
+ghost use Rattle.sky_rows.specs.Written.{is_unindexed, wrote, writer};
 ghost use Rattle.sky_val.specs.declared.val.Val.{Val};
 
 use sky_val::{Key, NoMemory};
 use std::alloc::Global;
 use std::collections::{BTreeMap, BTreeSet};
 
-/// Which keys each transaction wrote, of those from `from` on. The keys of one of them, the unlisted one, aren't known.
+/// Which keys each transaction wrote, of those from `from` on. The keys of one of them, the unindexed one, aren't known.
 /// So this one, and any before `from`, may have written every key.
 #[derive(Debug, Drop)]
 pub(crate) struct Written {
     from: u64,
-    unlisted: Option<u64>,
+    unindexed: Option<u64>,
     keys: BTreeMap<u64, BTreeSet<Key>>,
 }
 
@@ -25,38 +25,38 @@ impl Written {
     {
         Written {
             from: 0,
-            unlisted: None,
+            unindexed: None,
             keys: BTreeMap::new(alloc),
         }
     }
 
     /// Whether it is known which keys the transaction wrote.
     pub(crate) fn tells(&self, txid: u64) -> bool
-        ensures { result ≡ not (nat_lt txid self.now.from || is_unlisted self.now.unlisted txid) }
+        ensures { result ≡ not (nat_lt txid self.now.from || is_unindexed self.now.unindexed txid) }
     {
-        self.from <= txid && self.unlisted != Some(txid)
+        self.from <= txid && self.unindexed != Some(txid)
     }
 
-    /// From now on the transaction's keys aren't listed, unless some are already, or another transaction that wasn't pruned
-    /// is unlisted. Answers whether this begins here.
+    /// From now on the transaction's keys aren't indexed, unless some are already, or another transaction that wasn't pruned
+    /// is unindexed. Answers whether this begins here.
     pub(crate) fn unlist(&mut self, txid: u64) -> bool
         ensures none { (q : List Val) → result ≡ true → wrote self.old txid q ≡ false }
-        ensures unlisted { (q : List Val) → result ≡ true → wrote self.new txid q ≡ true }
+        ensures unindexed { (q : List Val) → result ≡ true → wrote self.new txid q ≡ true }
         ensures kept { (t : ℕ) (q : List Val)
             → wrote self.new t q ≡ false → wrote self.old t q ≡ false }
     {
-        if !self.tells(txid) || self.keys.get(&txid).is_some() || self.has_unlisted() {
+        if !self.tells(txid) || self.keys.get(&txid).is_some() || self.has_unindexed() {
             return false;
         }
-        self.unlisted = Some(txid);
+        self.unindexed = Some(txid);
         true
     }
 
-    /// Whether a transaction that wasn't pruned is unlisted.
-    fn has_unlisted(&self) -> bool
-        ensures { result ≡ option_map_or (λ t. not (nat_lt t self.now.from)) self.now.unlisted false }
+    /// Whether a transaction that wasn't pruned is unindexed.
+    fn has_unindexed(&self) -> bool
+        ensures { result ≡ option_map_or (λ t. not (nat_lt t self.now.from)) self.now.unindexed false }
     {
-        match self.unlisted {
+        match self.unindexed {
             Some(txid) => self.from <= txid,
             None => false,
         }
@@ -89,7 +89,7 @@ impl Written {
     /// Nothing is forgotten, not after an error either.
     pub(crate) fn add(&mut self, alloc: Global, txid: u64, key: &Key) -> Result<bool, NoMemory>
         ensures again { IfOk result (λ again. again ≡ wrote self.old txid key.now) }
-        ensures listed { OnOk result (wrote self.new txid key.now ≡ true) }
+        ensures indexed { OnOk result (wrote self.new txid key.now ≡ true) }
         ensures kept { (t : ℕ) (q : List Val)
             → wrote self.new t q ≡ false → wrote self.old t q ≡ false }
     {
@@ -134,7 +134,7 @@ impl Written {
         }
     }
 
-    /// The first transaction of which keys are listed.
+    /// The first transaction of which keys are indexed.
     fn first(&self) -> Option<u64>
         ensures { result ≡ option_map (λ e. e.0) (slice_get self.now.keys.entries 0) }
     {

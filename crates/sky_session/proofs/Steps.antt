@@ -7,7 +7,7 @@ use Rattle.sky_model.specs.declared.stmt.Where.{Where}
 use Rattle.sky_model.specs.declared.stmt.Where.TheVariants.{WhenReading}
 use Rattle.sky_urlenc.specs.RowEvents.{op_of}
 use Rattle.sky_keys.specs.Waits.{is_waiting}
-use Rattle.sky_model.specs.History.{Mark, ended, looked, tabled, wrote}
+use Rattle.sky_model.specs.History.{Mark, ended, sight_taken, tabled, wrote}
 use Rattle.sky_model.specs.State.{RowPart, with_txid, after_part, after_part_marks}
 use Rattle.sky_val.specs.declared.val.Val.{Val}
 use Rattle.sky_val.specs.Schemas.{key_columns}
@@ -199,8 +199,8 @@ adds-made {G} gate g d mid new before after who stmt is look adds =
     there p = Adds gate (p, g) new before after (turn_of who (runs making who (p, g)))
 
     by : (b : Bool) → mid ≡ after_part_marks d (look_of who b)
-        → Adds gate (d, g) new before after (turn_of who (if b then looking who (runs making who (after_part d (looked who), g)) else runs making who (d, g)))
-    by true e = let behind : there (after_part d (looked who)) = subst there e adds in record { replied = behind.replied; told = behind.told; changed = behind.changed; passed = behind.passed }
+        → Adds gate (d, g) new before after (turn_of who (if b then looking who (runs making who (after_part d (sight_taken who), g)) else runs making who (d, g)))
+    by true e = let behind : there (after_part d (sight_taken who)) = subst there e adds in record { replied = behind.replied; told = behind.told; changed = behind.changed; passed = behind.passed }
     by false e = subst there e adds
 
 -- a statement that writes nothing is done as without the gate

@@ -61,7 +61,7 @@ pub(crate) fn admit(
         return Ok(Some(refusal));
     }
     if place == Where::WhenReading && state.is_first(who) {
-        state.looked(who)?;
+        state.sight_taken(who)?;
     }
     Ok(None)
 }

@@ -10,7 +10,7 @@ use Rattle.sky_val.specs.declared.column.Column.{Column}
 use Rattle.sky_val.specs.Entries.{Entries}
 use Rattle.sky_keys.specs.declared.version.Version.{Version}
 use Rattle.sky_txid.specs.Snapshot.{SnapshotView}
-use Rattle.sky_rows.specs.Table.{TableView, found}
+use Rattle.sky_rows.specs.Table.{TableView, place_in}
 use Rattle.sky_locks.specs.Locks.{holder}
 use Rattle.sky_model.specs.declared.stmt.Attempt.{Attempt}
 use Rattle.sky_model.specs.declared.stmt.Attempt.TheVariants.{Deletion}
@@ -55,7 +55,7 @@ versions_of tables n = (table_of tables n).versions
 
 -- where a key of a table is found, if it has a version
 abbrev pub found_in : RowStateView → ℕ → List Val → Option ℕ
-found_in d table key = found (table_of d.tables.values table) key
+found_in d table key = place_in (table_of d.tables.values table) key
 
 -- whether a transaction has written in a table: its bit for the table is set
 abbrev pub wrote_in : List (ℕ × ℕ) → (table t : ℕ) → Bool

@@ -4,10 +4,10 @@
 ghost use Rattle.std.specs.Prelude.{◌≡◌, ◌+◌, ◌-◌, ◌<◌, ◌^◌, [], ◌∷◌, true, false, None, Some, IfOk, OnOk, OnErr, length};
 ghost use Rattle.sky_keys.specs.Waits.{other_holder, is_waiting};
 ghost use Rattle.sky_names.specs.Places.{place_of};
-ghost use Rattle.sky_model.specs.History.{of_session, began, ended, block_begun, repeats, looked, block_failed, block_ended, connected, disconnected, tabled, table_made, wrote, waited, read_only};
+ghost use Rattle.sky_model.specs.History.{of_session, began, ended, block_begun, repeats, sight_taken, block_failed, block_ended, connected, disconnected, tabled, table_made, wrote, waited, read_only};
 ghost use Rattle.sky_model.specs.State.{after_part, after_part_marks};
 ghost use Rattle.sky_keys.specs.Versions.{written, forgotten};
-ghost use Rattle.sky_rows.specs.Table.{found};
+ghost use Rattle.sky_rows.specs.Table.{place_in};
 ghost use Rattle.sky_state.specs.Seen.{seen, found_in, columns_of, versions_of};
 
 use crate::row_state::RowState;
@@ -89,8 +89,8 @@ impl RowState {
     }
 
     /// Its block takes its snapshot now.
-    pub fn looked(&mut self, who: SessionId) -> Result<(), NoMemory>
-        ensures ok { OnOk result (seen self.new ≡ after_part (seen self.old) (looked who)) }
+    pub fn sight_taken(&mut self, who: SessionId) -> Result<(), NoMemory>
+        ensures ok { OnOk result (seen self.new ≡ after_part (seen self.old) (sight_taken who)) }
         ensures err { OnErr result (seen self.new ≡ seen self.old) }
     {
         let snapshot = self.trans.snapshot()?;
@@ -226,7 +226,7 @@ fn put_row(
     place: Option<usize>,
     row: Option<Row>,
 ) -> Result<(), NoMemory>
-    requires { place ≡ found table.old key }
+    requires { place ≡ place_in table.old key }
     ensures { OnOk result (table.new ≡ record table.old { versions = written txid key row table.old.versions; places = table.new.places }) }
 {
     match least {

@@ -9,7 +9,7 @@ ghost use Rattle.sky_model.specs.State.{part_of};
 ghost use Rattle.sky_model.specs.ShownRows.{snapshot_now, snapshot_for, least_writer};
 ghost use Rattle.sky_model.specs.Made.{takes_sight};
 ghost use Rattle.sky_val.specs.declared.val.Val.{Val};
-ghost use Rattle.sky_rows.specs.Table.{found};
+ghost use Rattle.sky_rows.specs.Table.{place_in};
 ghost use Rattle.sky_state.specs.Seen.{seen, found_in};
 
 use crate::attempts::Attempts;
@@ -171,7 +171,7 @@ impl RowState {
         requires { number < length (seen self.now).tables }
         ensures columns { result.now.columns ≡ (seen self.now).columns number }
         ensures versions { result.now.versions ≡ (seen self.now).versions number }
-        ensures found { (key : List Val) → found result.now key ≡ found_in self.now number key }
+        ensures found { (key : List Val) → place_in result.now key ≡ found_in self.now number key }
     {
         self.tables.get(number as usize)
     }

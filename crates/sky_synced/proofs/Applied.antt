@@ -7,7 +7,7 @@ use Rattle.sky_urlenc.specs.Changes.{put}
 use Rattle.londiste_state.specs.declared.state.TableState.TheVariants.{DoSync}
 use Rattle.londiste_state.specs.Nodes.{LeafTable, with_tick}
 use Rattle.sky_model.specs.declared.reply.Reply.TheVariants.{Null}
-use Rattle.sky_model.specs.History.{Batch, Mark, Pick, of_synced, copy_of, of_worker, began, ended, applied, noded, unlisted, leaf_added, History, within, Past}
+use Rattle.sky_model.specs.History.{Batch, Mark, Pick, of_synced, copy_of, of_worker, began, ended, applied, noded, set_removed, leaf_added, History, within, Past}
 use Rattle.sky_model.specs.Transactions.{next_txid}
 use Rattle.sky_model.specs.Rows.{table_names, columns_of, rows}
 use Rattle.sky_model.specs.Queues.{at_tick}
@@ -55,7 +55,7 @@ use Rattle.sky_synced.proofs.FollowPasts.{batches-marks}
 -- ---- the marks of it
 
 applying-based : (past : Past) (e : ℕ) (mark : Mark) → is_for_applying mark ≡ true → BaseSuits past e mark
-applying-based past e (noded (unlisted name)) is = absurd (cc is)
+applying-based past e (noded (set_removed name)) is = absurd (cc is)
 applying-based past e (noded (leaf_added name)) is = absurd (cc is)
 applying-based past e mark is = tt
 

@@ -4,7 +4,7 @@ use Rattle.std.specs.Option.{option_or}
 use Rattle.sky_names.proofs.PlaceLemmas.{same_name}
 use Rattle.sky_txid.specs.Snapshot.{SnapshotView}
 use Rattle.londiste_state.specs.Nodes.{Root, Leaf, LeafTable, Node, of_root, of_leaf, new_table, in_state, with_copy, with_tick}
-use Rattle.sky_model.specs.History.{of_synced, copy_of, NodeMark, root_made, listed, unlisted, joined, parted, leaf_made, leaf_added, leaf_removed, state_set, copied, applied, restarted, hold_begun, hold_ended, History}
+use Rattle.sky_model.specs.History.{of_synced, copy_of, NodeMark, root_made, set_added, set_removed, joined, parted, leaf_made, leaf_added, leaf_removed, state_set, copied, applied, restarted, hold_begun, hold_ended, History}
 use Rattle.sky_model.specs.Nodes.{after_node, at_root, at_leaf, node}
 use Rattle.sky_model.proofs.InCopyTables.{leaf_table, found, found-push, found-less, found-gone, found-changed, changed_by, map-same, table-root, table-leaf, table-named as has-name, is_past_copy}
 use Rattle.sky_model.proofs.Legal.{NodeFits}
@@ -71,8 +71,8 @@ pub record IsNew (t : LeafTable) : Type 0 where
 pub was-or-new : (h : History) (mark : NodeMark) → NodeFits h mark → (name : List ℕ) (now : LeafTable) → leaf_table name (after_node mark (node h)) ≡ Some now → Was (node h) mark name now ⊎ IsNew now
 was-or-new h (root_made other queue) fits name now is = absurd (cc is)
 was-or-new h (leaf_made other provider tick) fits name now is = absurd (cc is)
-was-or-new h (listed other) fits name now is = inl (was-mapped (node h) (listed other) name now (root-tick _ (node h)) refl (table-root _ name (node h) ∙ map-same (leaf_table name (node h))) is)
-was-or-new h (unlisted other) fits name now is = inl (was-mapped (node h) (unlisted other) name now (root-tick _ (node h)) refl (table-root _ name (node h) ∙ map-same (leaf_table name (node h))) is)
+was-or-new h (set_added other) fits name now is = inl (was-mapped (node h) (set_added other) name now (root-tick _ (node h)) refl (table-root _ name (node h) ∙ map-same (leaf_table name (node h))) is)
+was-or-new h (set_removed other) fits name now is = inl (was-mapped (node h) (set_removed other) name now (root-tick _ (node h)) refl (table-root _ name (node h) ∙ map-same (leaf_table name (node h))) is)
 was-or-new h (joined consumer) fits name now is = inl (was-mapped (node h) (joined consumer) name now (root-tick _ (node h)) refl (table-root _ name (node h) ∙ map-same (leaf_table name (node h))) is)
 was-or-new h (parted consumer) fits name now is = inl (was-mapped (node h) (parted consumer) name now (root-tick _ (node h)) refl (table-root _ name (node h) ∙ map-same (leaf_table name (node h))) is)
 was-or-new h (leaf_added other) fits name now is = of (node h) is

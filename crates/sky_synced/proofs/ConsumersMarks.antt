@@ -22,7 +22,7 @@ use Rattle.sky_model.specs.declared.reply.Reply.TheVariants.{Number}
 use Rattle.sky_model.specs.declared.reply.HeldBack.{HeldBack}
 use Rattle.sky_model.specs.declared.reply.Refusal.{Refusal}
 use Rattle.sky_model.specs.declared.reply.Refusal.TheVariants.{NodeConsumer, NoQueue}
-use Rattle.sky_model.specs.History.{Batch, Mark, of_session, of_worker, ended, looked, tabled, wrote, queued, registered, moved, unregistered, closed, asked, switched, noded, root_made, History}
+use Rattle.sky_model.specs.History.{Batch, Mark, of_session, of_worker, ended, sight_taken, tabled, wrote, queued, registered, moved, unregistered, closed, asked, switched, noded, root_made, History}
 use Rattle.sky_model.specs.Queues.{NamedQueue, queues, queue_number, queue_name, Tick, tick, is_pending}
 use Rattle.sky_model.specs.Consumers.{Subscription}
 use Rattle.sky_model.specs.Sessions.{Block, has_open, block, Session}
@@ -122,7 +122,7 @@ apart-tells R d now (Ok o) given = of (with_told d now o.marks) (apart-with_told
 apart-switches_by : (d : Database) (now : ℤ) (t : ℕ) (qs : List NamedQueue) → EachMark is_apart (switches_by d now t qs)
 apart-switches_by d now t [] = tt
 apart-switches_by d now t (q ∷ qs) =
-    by_test (λ b. EachMark is_apart (if b then queued (switched q.number now) ∷ switches_by d now t qs else switches_by d now t qs)) (is_pending t (d.queue q.number).tables)
+    by_test (λ b. EachMark is_apart (if b then queued (switched q.number now) ∷ switches_by d now t qs else switches_by d now t qs)) (is_pending t (d.queue q.number).event_tables)
     (λ _. apart-switches_by d now t qs) (λ _. apart-switches_by d now t qs)
 
 apart-switches_of : (d : Database) (now : ℤ) (o : Option ℕ) → EachMark is_apart (switches_of d now o)
@@ -356,7 +356,7 @@ spares-statement : (h : History) (q : ℕ) (c : List ℕ) → queue_of_set (queu
     → EachMark (spares q c) (statement database_by_history h now who stmt).marks
 spares-statement h q c set nodes now who stmt =
     (given-runs AnyReply (spares q c) (λ _. tt) (spares-plain q c) (making database_by_history now who stmt) (where_of stmt) who h (allowed (is_waiting who (waiting h)) (has_open who h) (block who h) (where_of stmt))
-    (spares-form h q c set nodes (shown_in h) now who stmt) (spares-form (looked who ∷ h) q c set nodes (shown_in (looked who ∷ h)) now who stmt)).1
+    (spares-form h q c set nodes (shown_in h) now who stmt) (spares-form (sight_taken who ∷ h) q c set nodes (shown_in (sight_taken who ∷ h)) now who stmt)).1
 
 -- ---- what is unblocked, and daemons
 

@@ -14,7 +14,7 @@ use Rattle.sky_model.specs.declared.reply.Refusal.TheVariants.{AlreadyInSet, Nod
 use Rattle.sky_model.specs.Kinds.{is_name, is_identifier, begins_name, continues_name}
 use Rattle.sky_model.specs.InForm.{IsNodeInForm}
 use Rattle.sky_model.specs.Steps.{IsCallInForm}
-use Rattle.sky_model.specs.History.{queued, traced, noded, listed, tabled, read_only, leaf_added, leaf_made, within, node_made, Past}
+use Rattle.sky_model.specs.History.{queued, traced, noded, set_added, tabled, read_only, leaf_added, leaf_made, within, node_made, Past}
 use Rattle.sky_model.specs.Nodes.{node}
 use Rattle.sky_model.specs.Triggers.{triggers_of}
 use Rattle.sky_model.specs.ShownRows.{least_writer}
@@ -94,7 +94,7 @@ module _ (past : Past) (kept : KeptFollow past) (made : AllMade past) where
   kept-lists d queue table r name root = of (nat_le 8 (length (triggers_of table (w.database d).triggers))) (least_writer (w.database d).part table)
     where
       of : (full : Bool) (o : Option ℕ)
-          → KeptIfOk (done_in d Done (refused_if full (TooMany Triggers) >> (refused_by (option_map TableBusy o) >> does_marks Done (noded (listed name) ∷ queued (traced table None (set_trigger queue)) ∷ []))))
+          → KeptIfOk (done_in d Done (refused_if full (TooMany Triggers) >> (refused_by (option_map TableBusy o) >> does_marks Done (noded (set_added name) ∷ queued (traced table None (set_trigger queue)) ∷ []))))
       of true o = tt
       of false (Some t) = tt
       of false None = follow-listed past d r name table (set_trigger queue) root kept

@@ -5,7 +5,7 @@ use Rattle.sky_names.proofs.PlaceLemmas.{bytes_eq_refl}
 use Rattle.londiste_state.specs.Nodes.{Node, of_root, of_leaf, Root, Leaf, LeafTable, new_table, with_leaf_table, with_root_table, without_root_table}
 use Rattle.sky_model.specs.declared.reply.Reply.TheVariants.{Number}
 use Rattle.sky_model.specs.declared.reply.Refusal.TheVariants.{ConsumerExists}
-use Rattle.sky_model.specs.History.{Mark, queued, traced, untraced, tabled, read_only, noded, listed, unlisted, joined, leaf_made, leaf_added, History, within, node_made, Past}
+use Rattle.sky_model.specs.History.{Mark, queued, traced, untraced, tabled, read_only, noded, set_added, set_removed, joined, leaf_made, leaf_added, History, within, node_made, Past}
 use Rattle.sky_urlenc.specs.RowEvents.{Trigger}
 use Rattle.sky_model.specs.Hands.{BatchHand, Hand, batch_in}
 use Rattle.sky_model.specs.Queues.{queues}
@@ -46,16 +46,16 @@ listed-marks past e r marks next root there spared =
     follow-marked past e marks (λ q c _ _. spared q c) (λ l is. absurd (cc (sym there ∙ is))) (λ is. absurd (cc (sym there ∙ is)))
 
 pub follow-listed : (past : Past) (e : ℕ) (r : Root) (name : List ℕ) (table : ℕ) (trigger : Trigger) → node (history_in past e) ≡ Some (of_root r) → KeptFollow past
-    → KeptFollow (on_top past (map (within e) (noded (listed name) ∷ queued (traced table None trigger) ∷ [])))
+    → KeptFollow (on_top past (map (within e) (noded (set_added name) ∷ queued (traced table None trigger) ∷ [])))
 follow-listed past e r name table trigger root =
-    listed-marks past e r (noded (listed name) ∷ queued (traced table None trigger) ∷ []) (with_root_table name r) root
-    (ap (after_node (listed name)) root) (λ q c. tt)
+    listed-marks past e r (noded (set_added name) ∷ queued (traced table None trigger) ∷ []) (with_root_table name r) root
+    (ap (after_node (set_added name)) root) (λ q c. tt)
 
 pub follow-unlisted : (past : Past) (e : ℕ) (r : Root) (name : List ℕ) (table : ℕ) → node (history_in past e) ≡ Some (of_root r) → KeptFollow past
-    → KeptFollow (on_top past (map (within e) (noded (unlisted name) ∷ queued (untraced table) ∷ [])))
+    → KeptFollow (on_top past (map (within e) (noded (set_removed name) ∷ queued (untraced table) ∷ [])))
 follow-unlisted past e r name table root =
-    listed-marks past e r (noded (unlisted name) ∷ queued (untraced table) ∷ []) (without_root_table name r) root
-    (ap (after_node (unlisted name)) root) (λ q c. tt)
+    listed-marks past e r (noded (set_removed name) ∷ queued (untraced table) ∷ []) (without_root_table name r) root
+    (ap (after_node (set_removed name)) root) (λ q c. tt)
 
 -- ---- a table joins a leaf
 

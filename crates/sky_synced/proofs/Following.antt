@@ -3,7 +3,7 @@ use Rattle.std.proofs.Common.{arith, ◌≡◌, ℕ, ◌==◌, ◌+◌, ◌≤�
 use Rattle.std.proofs.lemmas.Bool.{not-true}
 use Rattle.londiste_state.specs.Nodes.{Root, Leaf, Node, of_root, of_leaf, is_among}
 use Rattle.sky_names.proofs.PlaceLemmas.{bytes_eq_refl}
-use Rattle.sky_model.specs.History.{Batch, Mark, queued, registered, moved, unregistered, closed, noded, NodeMark, root_made, leaf_made, listed, unlisted, joined, parted, leaf_added, leaf_removed, state_set, copied, applied, restarted, hold_begun, hold_ended, History}
+use Rattle.sky_model.specs.History.{Batch, Mark, queued, registered, moved, unregistered, closed, noded, NodeMark, root_made, leaf_made, set_added, set_removed, joined, parted, leaf_added, leaf_removed, state_set, copied, applied, restarted, hold_begun, hold_ended, History}
 use Rattle.sky_model.specs.Hands.{BatchHand}
 use Rattle.sky_model.specs.Queues.{queues_made, queues}
 use Rattle.sky_model.specs.Consumers.{subscription_id, position, last_batch, active_batch, of_another}
@@ -115,8 +115,8 @@ leaf-keeps c f (Some (of_leaf l)) is = absurd (cc is)
 node-noded : (h : History) (mark : NodeMark) → NodeFits h mark → (q : ℕ) (c : List ℕ) → spares q c (noded mark) ≡ true → is_of_node c (node h) ≡ true → is_of_node c (after_node mark (node h)) ≡ true
 node-noded h (root_made name queue) fits q c e is = absurd (cc (sym is ∙ ap (is_of_node c) fits.0))
 node-noded h (leaf_made name provider tick) fits q c e is = absurd (cc (sym is ∙ ap (is_of_node c) fits.0))
-node-noded h (listed table) fits q c e is = root-keeps c _ (node h) (λ r among. among) is
-node-noded h (unlisted table) fits q c e is = root-keeps c _ (node h) (λ r among. among) is
+node-noded h (set_added table) fits q c e is = root-keeps c _ (node h) (λ r among. among) is
+node-noded h (set_removed table) fits q c e is = root-keeps c _ (node h) (λ r among. among) is
 node-noded h (joined name) fits q c e is = root-keeps c _ (node h) (λ r among. among-push c name r.consumers among) is
 node-noded h (parted name) fits q c e is = root-keeps c _ (node h) (λ r among. among-less c name r.consumers (not-true (bytes_eq name c) e) among) is
 node-noded h (leaf_added table) fits q c e is = leaf-keeps c _ (node h) is

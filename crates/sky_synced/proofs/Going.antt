@@ -9,7 +9,7 @@ use Rattle.londiste_state.specs.declared.state.TableState.{TableState}
 use Rattle.londiste_state.specs.declared.state.TableState.TheVariants.{Absent, InCopy, CatchingUp, WannaSync, DoSync, Synced}
 use Rattle.londiste_state.specs.Moves.{is_allowed}
 use Rattle.londiste_state.specs.Nodes.{Node, of_root, of_leaf, Leaf, LeafTable, is_among, table_of, in_state, with_copy}
-use Rattle.sky_model.specs.History.{Mark, of_copy, of_worker, began, ended, tabled, wrote, noded, NodeMark, root_made, leaf_made, listed, unlisted, leaf_added, leaf_removed, state_set, copied, applied, History, Fact, within, node_made, batch_in_hand, Past}
+use Rattle.sky_model.specs.History.{Mark, of_copy, of_worker, began, ended, tabled, wrote, noded, NodeMark, root_made, leaf_made, set_added, set_removed, leaf_added, leaf_removed, state_set, copied, applied, History, Fact, within, node_made, batch_in_hand, Past}
 use Rattle.sky_model.specs.Transactions.{snapshot}
 use Rattle.sky_model.specs.Copies.{copies, is_copied_by}
 use Rattle.sky_model.specs.Rows.{table_names, columns_of, rows}
@@ -167,7 +167,7 @@ MayGo past e name Synced = (t : LeafTable) → leaf_table name (node (history_in
 MayGo past e name state = Unit {0}
 
 abbrev pub MarkSuits : Past → ℕ → Mark → Type 0
-MarkSuits past e (noded (unlisted name)) = IsUnused past e name
+MarkSuits past e (noded (set_removed name)) = IsUnused past e name
 MarkSuits past e (noded (leaf_added name)) = IsOffered (within e (noded (leaf_added name)) ∷ past) e name
 MarkSuits past e (noded (state_set name state)) = MayGo past e name state
 MarkSuits past e (noded (copied name under tick)) = CopyLeft (within e (noded (copied name under tick)) ∷ past) e name under tick
@@ -177,12 +177,12 @@ MarkSuits past e mark = Unit {0}
 
 -- so much is asked for the base alone
 abbrev pub BaseSuits : Past → ℕ → Mark → Type 0
-BaseSuits past e (noded (unlisted name)) = IsUnused past e name
+BaseSuits past e (noded (set_removed name)) = IsUnused past e name
 BaseSuits past e (noded (leaf_added name)) = IsOffered (within e (noded (leaf_added name)) ∷ past) e name
 BaseSuits past e mark = Unit {0}
 
 base-suits : (past : Past) (e : ℕ) (mark : Mark) → MarkSuits past e mark → BaseSuits past e mark
-base-suits past e (noded (unlisted name)) suits = suits
+base-suits past e (noded (set_removed name)) suits = suits
 base-suits past e (noded (leaf_added name)) suits = suits
 base-suits past e mark suits = tt
 
@@ -210,8 +210,8 @@ among-copied name h may = let f : Found name h = found-copied name h may in amon
 was-among : (h : History) (m : NodeMark) → NodeFits h m → (name : List ℕ) → is_among name (leaf_tables (after_node m (node h))) ≡ true → (is_among name (leaf_tables (node h)) ≡ true) ⊎ (m ≡ leaf_added name)
 was-among h (root_made other queue) fits name is = absurd (cc is)
 was-among h (leaf_made other provider tick) fits name is = absurd (cc is)
-was-among h (listed other) fits name is = inl (sym (ap (is_among name) (leaf-other _ (node h))) ∙ is)
-was-among h (unlisted other) fits name is = inl (sym (ap (is_among name) (leaf-other _ (node h))) ∙ is)
+was-among h (set_added other) fits name is = inl (sym (ap (is_among name) (leaf-other _ (node h))) ∙ is)
+was-among h (set_removed other) fits name is = inl (sym (ap (is_among name) (leaf-other _ (node h))) ∙ is)
 was-among h (leaf_removed other) fits name is = inl (among-all name other (leaf_tables (node h)) (sym (ap (is_among name) (leaf-removed (node h) other)) ∙ is))
 was-among h (leaf_added other) fits name is =
     by_test (λ b. bytes_eq name other ≡ b → (is_among name (leaf_tables (node h)) || (b || false)) ≡ true → (is_among name (leaf_tables (node h)) ≡ true) ⊎ (leaf_added other ≡ leaf_added name)) (bytes_eq name other)
@@ -252,7 +252,7 @@ module _ (past : Past) (e : ℕ) (mark : Mark) (all : AllPlaces (within e mark �
   unused-stays d name from among = of mark suits
     where
       of : (m : Mark) → BaseSuits past e m → is_unlisting name m ≡ false
-      of (noded (unlisted other)) none =
+      of (noded (set_removed other)) none =
           by_test (λ b. bytes_eq name other ≡ b → b ≡ false) (bytes_eq name other)
           (λ _ same. absurd (cc (sym (none d from) ∙ ap (λ x. is_among x (leaf_tables (node (history_in past d)))) (sym (same_name name other same)) ∙ among))) (λ _ _. refl) refl
       of _ none = refl

@@ -10,7 +10,7 @@ use Rattle.sky_model.specs.declared.reply.Refusal.TheVariants.{NoBatch, NodeCons
 use Rattle.sky_model.specs.declared.reply.Reply.TheVariants.{Number}
 use Rattle.sky_model.specs.declared.stmt.Stmt.{Stmt}
 use Rattle.sky_model.specs.declared.stmt.Stmt.TheVariants.{RegisterConsumer, RegisterConsumerAt, UnregisterConsumer, FinishBatch, EventRetry}
-use Rattle.sky_model.specs.History.{Batch, Mark, queued, asked, looked, History}
+use Rattle.sky_model.specs.History.{Batch, Mark, queued, asked, sight_taken, History}
 use Rattle.sky_model.specs.Queues.{queues}
 use Rattle.sky_model.specs.Consumers.{subscription_id, Subscription, active_batch}
 use Rattle.sky_model.specs.Sessions.{has_open, block}
@@ -89,7 +89,7 @@ unasks-statement : (h : History) → Legal h → Distinct h → (q : ℕ) (c : L
 unasks-statement h l distinct q c sub set nodes has now who stmt =
     (given-runs AnyReply (unasks sub) (λ _. tt) (λ v mark may. apart-unasks sub mark (row-apart no_more refl v mark may)) (making database_by_history now who stmt) (where_of stmt) who h
     (allowed (is_waiting who (waiting h)) (has_open who h) (block who h) (where_of stmt))
-    (unasks-form h l distinct q c sub set nodes has now who stmt) (unasks-form (looked who ∷ h) (next l (looks who)) distinct q c sub set nodes has now who stmt)).1
+    (unasks-form h l distinct q c sub set nodes has now who stmt) (unasks-form (sight_taken who ∷ h) (next l (looks who)) distinct q c sub set nodes has now who stmt)).1
 
 pub unasks-turn : (h : History) → Legal h → Distinct h → (q : ℕ) (c : List ℕ) (sub : ℕ) → queue_of_set (queues h) (node h) ≡ Some q → is_of_node c (node h) ≡ true → subscription_id q c h ≡ Some sub → (now : ℤ) (who : ℕ) (stmt : Stmt)
     → EachMark (unasks sub) (database_turn database_by_history h now who stmt).marks

@@ -6,7 +6,7 @@ use Rattle.std.proofs.lemmas.Bool.Decides.{nat_tests}
 use Rattle.sky_model.specs.declared.reply.Limit.TheVariants.{Consumers}
 use Rattle.sky_model.specs.declared.reply.Reply.TheVariants.{Number}
 use Rattle.sky_model.specs.declared.reply.Refusal.TheVariants.{ConsumerExists, IdsSpent, TooMany}
-use Rattle.sky_model.specs.History.{Mark, queued, registered, unregistered, put, asked, noded, root_made, leaf_made, listed, unlisted, joined, parted, leaf_added, leaf_removed, state_set, copied, applied, restarted, hold_begun, hold_ended, History}
+use Rattle.sky_model.specs.History.{Mark, queued, registered, unregistered, put, asked, noded, root_made, leaf_made, set_added, set_removed, joined, parted, leaf_added, leaf_removed, state_set, copied, applied, restarted, hold_begun, hold_ended, History}
 use Rattle.sky_model.specs.Queues.{queues}
 use Rattle.sky_model.specs.Consumers.{subscription_id, last_subscription}
 use Rattle.sky_model.specs.Nodes.{at_root, at_leaf, node, is_root}
@@ -150,8 +150,8 @@ among-back : (h : History) (mark : Mark) (c : List ℕ) → is_unjoined mark ≡
 among-back h (noded (joined d)) c e is = absurd (cc e)
 among-back h (noded (root_made name queue)) c e is = absurd (cc e)
 among-back h (noded (leaf_made name provider tick)) c e is = absurd (cc is)
-among-back h (noded (listed table)) c e is = root-back c _ (node h) (λ r there. there) is
-among-back h (noded (unlisted table)) c e is = root-back c _ (node h) (λ r there. there) is
+among-back h (noded (set_added table)) c e is = root-back c _ (node h) (λ r there. there) is
+among-back h (noded (set_removed table)) c e is = root-back c _ (node h) (λ r there. there) is
 among-back h (noded (parted name)) c e is = root-back c _ (node h) (λ r there. among-all c name r.consumers there) is
 among-back h (noded (leaf_added table)) c e is = leaf-back c _ (node h) is
 among-back h (noded (leaf_removed table)) c e is = leaf-back c _ (node h) is

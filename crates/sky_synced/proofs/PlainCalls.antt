@@ -2,7 +2,7 @@
 use Rattle.std.proofs.Common.{◌≡◌, ℕ, List, [], ◌∷◌, ◌++◌, map, Bool, true, false, refl}
 use Rattle.londiste_state.specs.declared.state.TableState.TheVariants.{Absent, InCopy}
 use Rattle.sky_model.specs.declared.reply.Reply.TheVariants.{Null}
-use Rattle.sky_model.specs.History.{Mark, of_worker, tabled, wrote, noded, unlisted, leaf_added, state_set, copied, applied, within, Past}
+use Rattle.sky_model.specs.History.{Mark, of_worker, tabled, wrote, noded, set_removed, leaf_added, state_set, copied, applied, within, Past}
 use Rattle.sky_model.specs.Copies.{copy_txid}
 use Rattle.sky_model.specs.State.{Database, database_of}
 use Rattle.sky_model.specs.Outcome.{Outcome, Checked, answers}
@@ -18,7 +18,7 @@ use Rattle.sky_synced.proofs.CopyingCalls.{is_copying, gives-copying, given_up-t
 
 -- whether a mark is such a one: no table leaves a set or joins a leaf by it, goes on from a copy, or is copied or written by a worker
 abbrev pub is_plain : Mark → Bool
-is_plain (noded (unlisted name)) = false
+is_plain (noded (set_removed name)) = false
 is_plain (noded (leaf_added name)) = false
 is_plain (noded (state_set name Absent)) = true
 is_plain (noded (state_set name InCopy)) = true
@@ -29,7 +29,7 @@ is_plain (tabled (wrote of_worker t table key old new)) = false
 is_plain mark = true
 
 plain-suits : (past : Past) (e : ℕ) (mark : Mark) → is_plain mark ≡ true → MarkSuits past e mark
-plain-suits past e (noded (unlisted name)) is = absurd (cc is)
+plain-suits past e (noded (set_removed name)) is = absurd (cc is)
 plain-suits past e (noded (leaf_added name)) is = absurd (cc is)
 plain-suits past e (noded (state_set name Absent)) is = tt
 plain-suits past e (noded (state_set name InCopy)) is = tt
@@ -49,7 +49,7 @@ kept-marks past e (mark ∷ marks) each kept =
 
 -- so are those of sessions
 pub sessions-plain : (mark : Mark) → is_sessions mark ≡ true → is_plain mark ≡ true
-sessions-plain (noded (unlisted name)) is = absurd (cc is)
+sessions-plain (noded (set_removed name)) is = absurd (cc is)
 sessions-plain (noded (leaf_added name)) is = absurd (cc is)
 sessions-plain (noded (state_set name state)) is = absurd (cc is)
 sessions-plain (noded (copied name under tick)) is = absurd (cc is)
@@ -63,7 +63,7 @@ abbrev pub Plain : Checked Outcome → Type 0
 Plain c = Gives AnyReply is_plain c
 
 consumers-plain : (mark : Mark) → is_for_consumers mark ≡ true → is_plain mark ≡ true
-consumers-plain (noded (unlisted name)) e = absurd (cc e)
+consumers-plain (noded (set_removed name)) e = absurd (cc e)
 consumers-plain (noded (leaf_added name)) e = absurd (cc e)
 consumers-plain (noded (state_set name state)) e = absurd (cc e)
 consumers-plain (noded (copied name under tick)) e = absurd (cc e)
@@ -75,7 +75,7 @@ plain-consumers : (d : Database) (call : NodeCall) → is_consumers call ≡ tru
 plain-consumers d call e = gives-map AnyReply AnyReply is_for_consumers is_plain (λ reply any. any) consumers-plain (call_form d call) (gives-consumers d call e)
 
 copying-plain : (mark : Mark) → is_copying mark ≡ true → is_plain mark ≡ true
-copying-plain (noded (unlisted name)) e = absurd (cc e)
+copying-plain (noded (set_removed name)) e = absurd (cc e)
 copying-plain (noded (leaf_added name)) e = absurd (cc e)
 copying-plain (noded (state_set name state)) e = absurd (cc e)
 copying-plain (noded (copied name under tick)) e = absurd (cc e)

@@ -11,7 +11,7 @@ use Rattle.sky_model.specs.declared.stmt.Where.TheVariants.{WhenReading}
 use Rattle.sky_model.specs.declared.reply.Reply.{Reply}
 use Rattle.sky_model.specs.declared.reply.Reply.TheVariants as replies
 use Rattle.sky_model.specs.declared.reply.Refusal.TheVariants.{NoTable}
-use Rattle.sky_model.specs.History.{looked, History, Past}
+use Rattle.sky_model.specs.History.{sight_taken, History, Past}
 use Rattle.sky_model.specs.Transactions.{snapshot}
 use Rattle.sky_model.specs.Sessions.{has_open, block, own_txid, Sight, at_each, at_first, at_place, sight, sight_by, place_of_sight}
 use Rattle.sky_model.specs.Rows.{table_names, columns_of, rows, put_all, own_writes, rows_shown}
@@ -33,13 +33,13 @@ use Rattle.sky_synced.specs.LawsOfSeen.{ScansPrintRowsShown, row_reply, GetsPrin
 
 -- ---- rows where a sight is just taken
 
-own-looked : (n who : ℕ) (own : Option ℕ) (h : History) → own_writes n own (looked who ∷ h) ≡ own_writes n own h
+own-looked : (n who : ℕ) (own : Option ℕ) (h : History) → own_writes n own (sight_taken who ∷ h) ≡ own_writes n own h
 own-looked n who None h = refl
 own-looked n who (Some t) h = refl
 
-rows-looked : (n who : ℕ) (h : History) → sight who h ≡ at_first → rows_shown who n (looked who ∷ h) ≡ rows_shown who n h
+rows-looked : (n who : ℕ) (h : History) → sight who h ≡ at_first → rows_shown who n (sight_taken who ∷ h) ≡ rows_shown who n h
 rows-looked n who h is =
-    ap (λ b. put_all (own_writes n (own_txid who h) (looked who ∷ h)) (rows n (place_of_sight (looked who ∷ h) (if b then at_place h else sight who h)))) (same-session who)
+    ap (λ b. put_all (own_writes n (own_txid who h) (sight_taken who ∷ h)) (rows n (place_of_sight (sight_taken who ∷ h) (if b then at_place h else sight who h)))) (same-session who)
     ∙ ap (λ ws. put_all ws (rows n h)) (own-looked n who (own_txid who h) h)
     ∙ sym (ap (λ s. put_all (own_writes n (own_txid who h) h) (rows n (place_of_sight h s))) is)
 
@@ -47,16 +47,16 @@ rows-looked n who h is =
 
 -- it answers, and leaves no mark but that of its sight
 abbrev Answers : ℕ → Reply → Outcome → Type 0
-Answers who reply o = (o ≡ record { reply = reply; marks = [] }) ⊎ (o ≡ record { reply = reply; marks = looked who ∷ [] })
+Answers who reply o = (o ≡ record { reply = reply; marks = [] }) ⊎ (o ≡ record { reply = reply; marks = sight_taken who ∷ [] })
 
 module _ (h : History) (who : ℕ) (reply : Reply) where
-  runs-reads : (m : Making History) → (m.session h).sight ≡ sight_by snapshot (sight who h) → m.outcome h ≡ answers reply → (sight who h ≡ at_first → m.outcome (m.behind h (looked who)) ≡ answers reply)
+  runs-reads : (m : Making History) → (m.session h).sight ≡ sight_by snapshot (sight who h) → m.outcome h ≡ answers reply → (sight who h ≡ at_first → m.outcome (m.behind h (sight_taken who)) ≡ answers reply)
       → (may : Checked (Unit {0})) → is_ok may ≡ true → Answers who reply (runs_if m WhenReading who h may)
   runs-reads m sights soon late (Err refusal) ok = absurd (cc ok)
   runs-reads m sights soon late (Ok _) ok = of (sight who h) refl
     where
       g : History
-      g = m.behind h (looked who)
+      g = m.behind h (sight_taken who)
 
       either : Bool → Outcome
       either b = if b then looking who (runs m who g) else runs m who h
@@ -80,7 +80,7 @@ turn-reads h who reply now none o (inl is) =
     ap (λ x. (with_settling (within_part database_by_history now) h (turn_of who x)).answers) is ∙ ap (λ (x : Turn). (who, reply) ∷ x.answers) (settles-none now (length (waiting h)) h none)
 turn-reads h who reply now none o (inr is) =
     ap (λ x. (with_settling (within_part database_by_history now) h (turn_of who x)).answers) is
-    ∙ ap (λ (x : Turn). (who, reply) ∷ x.answers) (settles-none now (length (waiting h)) (looked who ∷ h) none)
+    ∙ ap (λ (x : Turn). (who, reply) ∷ x.answers) (settles-none now (length (waiting h)) (sight_taken who ∷ h) none)
 
 -- ---- a call
 
@@ -111,7 +111,7 @@ module _ (calls : List Call) (name : List ℕ) (who d : ℕ) where
       ∙ ap (λ (x : Turn). x.answers) (same-turn-within past d now who (Row (Scan table)))
       ∙ turn-reads h who reply now idle (statement database_by_history h now who (Row (Scan table)))
       (runs-reads h who reply (making database_by_history now who (Row (Scan table))) refl (scan-form table n h there)
-      (λ is. scan-form table n (looked who ∷ h) there ∙ ap (λ rs. answers (replies.Rows (map (λ e. e.1) rs))) (rows-looked n who h is))
+      (λ is. scan-form table n (sight_taken who ∷ h) there ∙ ap (λ rs. answers (replies.Rows (map (λ e. e.1) rs))) (rows-looked n who h is))
       (allowed (is_waiting who (waiting h)) (has_open who h) (block who h) WhenReading) may)
     where
       reply : Reply
@@ -139,7 +139,7 @@ module _ (calls : List Call) (name : List ℕ) (who d : ℕ) where
       ∙ ap (λ (x : Turn). x.answers) (same-turn-within past d now who (Row (Get table key)))
       ∙ turn-reads h who reply now idle (statement database_by_history h now who (Row (Get table key)))
       (runs-reads h who reply (making database_by_history now who (Row (Get table key))) refl (get-form table key n h there fit)
-      (λ is. get-form table key n (looked who ∷ h) there fit ∙ ap (λ rs. answers (row_reply (at key rs))) (rows-looked n who h is))
+      (λ is. get-form table key n (sight_taken who ∷ h) there fit ∙ ap (λ rs. answers (row_reply (at key rs))) (rows-looked n who h is))
       (allowed (is_waiting who (waiting h)) (has_open who h) (block who h) WhenReading) may)
     where
       reply : Reply

@@ -15,7 +15,7 @@ use Rattle.sky_model.specs.declared.reply.HeldBack.{HeldBack}
 use Rattle.sky_model.specs.declared.reply.Refusal.{Refusal}
 use Rattle.sky_model.specs.declared.reply.Refusal.TheVariants.{Canceled}
 use Rattle.pgq_retry.specs.declared.retry.Retry.{Retry}
-use Rattle.sky_model.specs.History.{Batch, Mark, of_session, of_worker, ended, block_failed, looked, tabled, wrote, waited, History}
+use Rattle.sky_model.specs.History.{Batch, Mark, of_session, of_worker, ended, block_failed, sight_taken, tabled, wrote, waited, History}
 use Rattle.sky_model.specs.Queues.{NamedQueue, Tick, tick}
 use Rattle.sky_model.specs.Consumers.{Subscription}
 use Rattle.sky_model.specs.Sessions.{Block, outside, inside, failed, has_open, block, Session, session}
@@ -45,7 +45,7 @@ use Rattle.sky_model.proofs.Cases.{by_test, by_block}
 
 -- whether a mark isn't one by which a session takes its sight
 abbrev pub takes_none : Mark → Bool
-takes_none (looked who) = false
+takes_none (sight_taken who) = false
 takes_none mark = true
 
 abbrev NoneGives : Checked Outcome → Type 0
@@ -218,7 +218,7 @@ none-settles now (suc n) h = of (ready (part_of h)) (none-settles now n)
 
 -- marks of which none takes a sight, but that the first may
 pub data LooksFirst : List Mark → Type 0 where
-  with_look : (who : ℕ) (marks : List Mark) → EachMark takes_none marks → LooksFirst (looked who ∷ marks)
+  with_look : (who : ℕ) (marks : List Mark) → EachMark takes_none marks → LooksFirst (sight_taken who ∷ marks)
   without_look : (marks : List Mark) → EachMark takes_none marks → LooksFirst marks
 
 looks-append : (xs ys : List Mark) → LooksFirst xs → EachMark takes_none ys → LooksFirst (xs ++ ys)
@@ -228,7 +228,7 @@ looks-append _ ys (without_look marks each) also = without_look (marks ++ ys) (e
 looks-runs : (h : History) (now : ℤ) (who : ℕ) (stmt : Stmt) (may : Checked (Unit {0})) → LooksFirst (runs_if (making database_by_history now who stmt) (where_of stmt) who h may).marks
 looks-runs h now who stmt (Err refusal) = without_look (or_refused who (session h who) (Err refusal)).marks (none-abort who (session h who).block (session h who).txid refusal)
 looks-runs h now who stmt (Ok _) =
-    let g : History = looked who ∷ h in
+    let g : History = sight_taken who ∷ h in
     let late : Outcome = or_refused who (session g who) (form (database_of g) (shown_in g) now who stmt) in
     let soon : Outcome = or_refused who (session h who) (form (database_of h) (shown_in h) now who stmt) in
     cond_both (takes_sight (where_of stmt) (session h who).sight) (looking who late) soon (λ o. LooksFirst o.marks)
@@ -248,7 +248,7 @@ pub none-daemon : (h : History) (part : DaemonPart) (now : ℤ) → EachMark tak
 none-daemon h part now = each-daemon_does takes_none now (λ mark _. refl) (λ r. refl) (λ t. refl) (λ t. refl) database_by_history h part
 
 for-nodes : (mark : Mark) → is_for_nodes mark ≡ true → takes_none mark ≡ true
-for-nodes (looked who) e = absurd (cc e)
+for-nodes (sight_taken who) e = absurd (cc e)
 for-nodes mark e = refl
 
 pub none-node : (d : Database) (call : NodeCall) → EachMark takes_none (marks_of (node_does d call))

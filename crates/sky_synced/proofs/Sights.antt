@@ -4,7 +4,7 @@ use Rattle.sky_names.specs.Places.{place_of}
 use Rattle.sky_model.specs.declared.stmt.Stmt.{Stmt}
 use Rattle.sky_model.specs.declared.stmt.Stmt.TheVariants.{CreateRoot, Node as OnNodes, Clock}
 use Rattle.sky_model.specs.declared.daemon.DaemonPart.{DaemonPart}
-use Rattle.sky_model.specs.History.{Mark, repeats, looked, block_failed, block_ended, History, Fact, appeared, founded, entered, within, Past}
+use Rattle.sky_model.specs.History.{Mark, repeats, sight_taken, block_failed, block_ended, History, Fact, appeared, founded, entered, within, Past}
 use Rattle.sky_model.specs.Sessions.{Sight, at_each, at_first, at_place, sight, place_of_sight}
 use Rattle.sky_model.specs.State.{database_of}
 use Rattle.sky_model.specs.Outcome.{marks_of}
@@ -28,7 +28,7 @@ use Rattle.sky_synced.proofs.SightMarks.{takes_none, LooksFirst, with_look, with
 -- ---- marks
 
 sight-kept : (v : ℕ) (k h : History) (mark : Mark) → takes_none mark ≡ true → sight v (mark ∷ h) ≡ at_place k → sight v h ≡ at_place k
-sight-kept v k h (looked w) none is = absurd (cc none)
+sight-kept v k h (sight_taken w) none is = absurd (cc none)
 sight-kept v k h (repeats w) none is = by_test (λ b. (if b then at_first else sight v h) ≡ at_place k → sight v h ≡ at_place k) (w == v) (λ _ e. absurd (cc e)) (λ _ e. e) is
 sight-kept v k h (block_failed w) none is = by_test (λ b. (if b then at_each else sight v h) ≡ at_place k → sight v h ≡ at_place k) (w == v) (λ _ e. absurd (cc e)) (λ _ e. e) is
 sight-kept v k h (block_ended w) none is = by_test (λ b. (if b then at_each else sight v h) ≡ at_place k → sight v h ≡ at_place k) (w == v) (λ _ e. absurd (cc e)) (λ _ e. e) is
@@ -43,7 +43,7 @@ sight-first : (v : ℕ) (k h : History) (marks : List Mark) → LooksFirst marks
 sight-first v k h _ (without_look marks each) is = inl (sight-marks v k marks h each is)
 sight-first v k h _ (with_look w marks each) is =
     by_test (λ b. (if b then at_place h else sight v h) ≡ at_place k → (sight v h ≡ at_place k) ⊎ (h ≡ k)) (w == v) (λ _ e. inr (let same : h ≡ k = cc e in same)) (λ _ e. inl e)
-    (sight-marks v k marks (looked w ∷ h) each is)
+    (sight-marks v k marks (sight_taken w ∷ h) each is)
 
 -- ---- one call
 

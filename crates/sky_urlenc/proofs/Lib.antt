@@ -2,6 +2,7 @@ pub mod RowTexts
 pub mod Ignored
 pub mod Cutting
 pub mod Decoding
+pub mod Escaping
 pub mod InOrder
 pub mod Fitting
 pub mod NumberBack

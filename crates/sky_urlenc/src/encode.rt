@@ -3,9 +3,10 @@
 ghost use Rattle.std.specs.Prelude.{◌≡◌, ◌<◌, ◌++◌, All, None, Ok, IfOk, OnOk, FitsSigned, string_bytes};
 ghost use Rattle.std.specs.Fmt.{signed_decimal};
 ghost use Rattle.std.specs.Int.{w64};
-ghost use Rattle.form_urlencoded.specs.Form.{byte_serialize};
+ghost use Rattle.std.specs.List.{list_all};
+ghost use Rattle.form_urlencoded.specs.Form.{byte_serialize, is_unchanged};
 ghost use Rattle.sky_val.specs.Schemas.{row_fault};
-ghost use Rattle.sky_urlenc.specs.Held.{HoldsOne};
+ghost use Rattle.sky_urlenc.specs.Held.{HoldsOne, IsWord};
 ghost use Rattle.sky_urlenc.specs.ReadRow.{read_row};
 ghost use Rattle.sky_urlenc.specs.RowText.{column_text, row_text};
 
@@ -42,7 +43,7 @@ fn append_column(column: &Column, value: &Val, into: &mut String) -> Result<(), 
         (string_bytes into.new ≡ string_bytes into.old ++ column_text column.now value.now) }
     ensures holds { OnOk result (HoldsOne column.now value.now) }
 {
-    append_escaped(column.name.bytes(), into)?;
+    append_text(&column.name, into)?;
     match value {
         Val::Null => Ok(()),
         Val::Int(number) => {
@@ -51,7 +52,7 @@ fn append_column(column: &Column, value: &Val, into: &mut String) -> Result<(), 
         }
         Val::Text(text) => {
             into.push('=')?;
-            append_escaped(text.as_text().bytes(), into)
+            append_text(text.as_text(), into)
         }
     }
 }
@@ -62,6 +63,27 @@ fn append_number(number: i64, into: &mut String) -> Result<(), NoMemory>
     ensures fits { FitsSigned w64 number }
 {
     into.push_str(Buffer::new().format(number))
+}
+
+/// Appends a text, escaped.
+fn append_text(text: &Text, into: &mut String) -> Result<(), NoMemory>
+    ensures text { OnOk result
+        (string_bytes into.new ≡ string_bytes into.old ++ byte_serialize text.now) }
+    ensures word { OnOk result (IsWord text.now) }
+{
+    if is_unchanged(text.bytes()) {
+        into.push_str(text.as_str())
+    } else {
+        append_escaped(text.bytes(), into)
+    }
+}
+
+/// Whether the bytes are written as they stand.
+fn is_unchanged(bytes: &[u8]) -> bool
+    ensures { result ≡ list_all is_unchanged bytes.now }
+{
+    bytes.iter().all(|byte| byte.is_ascii_alphanumeric()
+        || matches!(byte, b'*' | b'-' | b'.' | b'_'))
 }
 
 /// Appends bytes, escaped.

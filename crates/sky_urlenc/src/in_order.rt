@@ -13,8 +13,8 @@ use crate::pieces::{Piece, Pieces};
 use sky_val::{BoxedText, ColKind, Column, NoMemory, Row, Val, int_of};
 use std::alloc::Global;
 
-/// The row that a text writes, if it has a piece for each column, in order, which names the column without an escape.
-/// Another text may write a row too.
+/// The row that a text writes, if it is found in one go: a piece for each column, in order, with no escape in a name or a
+/// number. Another text may write a row too.
 pub(crate) fn row_in_order(
     alloc: Global,
     columns: &[Column],
@@ -40,7 +40,7 @@ pub(crate) fn row_in_order(
     }
 }
 
-/// The value that a piece gives to a column, if the piece names the column without an escape.
+/// The value that a piece gives to a column, if it has no escape in the column's name or a number.
 fn value_in(alloc: Global, column: &Column, piece: &Piece<'_>) -> Result<Option<Val>, NoMemory>
     ensures name { IfOk result (λ value. OnSome value (name_in (piece_view piece.now) ≡ column.now.name)) }
     ensures text { IfOk result (λ value. OnSome value (is_text (piece_view piece.now) ≡ true)) }
@@ -66,7 +66,7 @@ fn is_name(column: &Column, side: &[u8]) -> bool
     side == column.name.bytes() && is_plain(side)
 }
 
-/// The value that a side writes for a column of a kind, if it writes one.
+/// The value that a side writes for a column of a kind, if it writes one, without an escape in a number.
 fn value_of(alloc: Global, kind: ColKind, side: &[u8]) -> Result<Option<Val>, NoMemory>
     ensures text { IfOk result (λ value. OnSome value (is_utf8 (decode side.now) ≡ true)) }
     ensures value { IfOk result (λ value. IfSome value (λ value.

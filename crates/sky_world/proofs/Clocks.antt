@@ -8,7 +8,7 @@ use Rattle.sky_model.specs.declared.reply.Reply.{Reply}
 use Rattle.sky_model.specs.declared.reply.Reply.TheVariants.{Moment, Refused}
 use Rattle.sky_model.specs.declared.reply.Refusal.TheVariants.{ClockSpent}
 use Rattle.sky_model.specs.History.{Fact, clock_at}
-use Rattle.sky_model.specs.Moment.{HasMoment}
+use Rattle.sky_model.specs.Moment.{HasMoment, last_moment}
 use Rattle.sky_model.specs.Printed.{HaveMoments, ReplyHasMoments}
 use Rattle.sky_model.specs.Queues.{NamedQueue}
 use Rattle.sky_model.specs.World.{World, after_fact, after_facts}
@@ -19,7 +19,7 @@ use Rattle.sky_model.specs.StepRetry.{most_back, maint_retry_events}
 use Rattle.sky_model.specs.StepRotation.{rotates_by_itself}
 use Rattle.sky_model.specs.StepQueue.{next_tick}
 use Rattle.sky_model.specs.Daemon.{quietly, ticks_of, moved_by, again_if, retries_of, first_steps_of, daemon_does, is_due_at, first_after, earlier, next_due}
-use Rattle.sky_model.specs.Clock.{deed_in, part_works, daemon_works, daemons_work, at_moment, goes_to, through, last_moment, clock_goes, clock}
+use Rattle.sky_model.specs.Clock.{deed_in, part_works, daemon_works, daemons_work, at_moment, goes_to, through, clock_goes, clock}
 use Rattle.sky_world.specs.Views.{WorldView}
 use Rattle.sky_world.specs.Seen.{seen_world}
 use Rattle.sky_world.specs.Adds.{AddsDeed}

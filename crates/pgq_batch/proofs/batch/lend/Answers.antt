@@ -6,7 +6,7 @@ use Rattle.pgq_tables.specs.ById.{by_id}
 use Rattle.pgq_tables.specs.Listed.{is_listed}
 use Rattle.pgq_tables.specs.Views.{LookedView}
 use Rattle.pgq_batch.specs.Placed.{with_place, by_place}
-use Rattle.pgq_batch.specs.Looked.{ages, events_of, placed_events}
+use Rattle.pgq_batch.specs.Looked.{ages, lent_events, placed_events}
 use Rattle.pgq_batch.proofs.Ages.{passing_of, length-ages, sorted_out, one_more_table, all_tables}
 use Rattle.pgq_batch.proofs.Lent.{next-left, some-left, next-looked}
 use Rattle.pgq_batch.proofs.batch.lend.Goals as goal
@@ -37,12 +37,12 @@ loop-looked-preserved c =
     let inv = c.loop-looked.invariant in
     let there = next-left c.args.prev.now c.args.cur.now ts c.args.looks.items lent _ _ looked c.requires inv.0 c.in-Some.ensures.steps.0 in
     let next : drop turn (ages ts) ≡ list ∷ drop (turn + 1) (ages ts) = next-looked c.args.prev.now c.args.cur.now ts c.args.looks.items turn looked c.requires there (some-left c.args.looks.items lent _ _ looked inv.0 c.in-Some.ensures.steps.0) in
-    let events : events_of c.move_to.new.events.items ≡ events_of c.loop-looked.events.items ++ map Stored.event (filter q list) =
+    let events : lent_events c.move_to.new.events.items ≡ lent_events c.loop-looked.events.items ++ map Stored.event (filter q list) =
     c.in_ok-move_to.ensures
-    ∙ ap (λ xs. events_of c.loop-looked.events.items ++ map (λ x. x.1) xs) (c.in_ok-sort_by_place.ensures ∙ ap by_place c.in_ok-found.ensures)
-    ∙ ap (λ xs. events_of c.loop-looked.events.items ++ xs) (sorted_out q list) in (
+    ∙ ap (λ xs. lent_events c.loop-looked.events.items ++ map (λ x. x.1) xs) (c.in_ok-sort_by_place.ensures ∙ ap by_place c.in_ok-found.ensures)
+    ∙ ap (λ xs. lent_events c.loop-looked.events.items ++ xs) (sorted_out q list) in (
       inv.0 ∙ ap (λ xs. lent ++ xs) c.in-Some.ensures.steps.0 ∙ sym (append_assoc lent (looked ∷ []) c.next.new.self.rest.items),
-      ap (λ n. events_of c.move_to.new.events.items ++ passing_of q (drop n (ages ts))) (length_push lent looked)
+      ap (λ n. lent_events c.move_to.new.events.items ++ passing_of q (drop n (ages ts))) (length_push lent looked)
           ∙ one_more_table q list (drop turn (ages ts)) (drop (turn + 1) (ages ts)) _ _ (passing_of q (ages ts)) next events inv.1,
     )
 
@@ -54,4 +54,4 @@ returns c =
     let none : length c.loop-looked.looked-iterator.rest.items ≡ 0 = search rules in
     let all = ap length c.loop-looked.invariant.0 ∙ length-append lent c.loop-looked.looked-iterator.rest.items in
     let past : length (ages ts) ≤ length lent = let count = c.requires.count in let aged = length-ages ts in omega arith in
-    c.in_ok-sort_by_id.ensures ∙ ap by_id (all_tables q (ages ts) (length lent) (events_of c.loop-looked.events.items) past c.loop-looked.invariant.1)
+    c.in_ok-sort_by_id.ensures ∙ ap by_id (all_tables q (ages ts) (length lent) (lent_events c.loop-looked.events.items) past c.loop-looked.invariant.1)

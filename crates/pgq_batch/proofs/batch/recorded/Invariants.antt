@@ -1,8 +1,8 @@
 use Rattle.std.proofs.Common.{◌≡◌, ◌++◌, drop, map}
 use Rattle.pgq_tables.specs.Tables.{recorded_part}
-use Rattle.pgq_batch.specs.Looked.{events_of}
+use Rattle.pgq_batch.specs.Looked.{lent_events}
 use Rattle.pgq_batch.proofs.batch.recorded.Given as goal
 
 -- those so far, and those that are left
 abbrev pub invariant-loop-stored : goal.invariant-loop-stored
-invariant-loop-stored l = l.events.items ++ map recorded_part (events_of (drop l.stored-index l.found)) ≡ map recorded_part (events_of l.found)
+invariant-loop-stored l = l.events.items ++ map recorded_part (lent_events (drop l.stored-index l.found)) ≡ map recorded_part (lent_events l.found)

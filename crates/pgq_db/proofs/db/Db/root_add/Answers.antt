@@ -1,5 +1,5 @@
 use Rattle.std.proofs.Common.{◌≡◌, ◌<◌, ◌≤◌, Some, true, length, refl, sym, ap, ◌∙◌, subst, arith}
-use Rattle.sky_model.specs.History.{queued, traced, listed, unlisted}
+use Rattle.sky_model.specs.History.{queued, traced, set_added, set_removed}
 use Rattle.sky_model.specs.Nodes.{after_node}
 use Rattle.sky_model.specs.ShownRows.{least_writer}
 use Rattle.sky_model.specs.State.{after_mark}
@@ -89,7 +89,7 @@ returns-clause-serves c =
     (c.in_default-least_writer.ensures ∙ ap (λ (v : DbView). least_writer (seen v.rows) number) c.self.view_is))
     (listed-as _ _ c.trace.new.self c.add_root_table.new.node c.in-Some.queue number name c.self.view_is
     (λ beside. c.in_default-trace.ensures.ok beside ∙ ap (λ (t : TableTrigger). after_mark (seen_with beside c.self.inside.queues) (queued (traced t.table t.name t.trigger))) c.set_trigger-trigger.ensures)
-    (c.in_ok-add_root_table.ensures.ok ∙ ap (λ n. after_node (listed n) c.self.inside.node.own) c.in_ok-name.ensures))
+    (c.in_ok-add_root_table.ensures.ok ∙ ap (λ n. after_node (set_added n) c.self.inside.node.own) c.in_ok-name.ensures))
 
 pub returns-clause-steps : goal.returns-clause-steps
 returns-clause-steps c =
@@ -105,7 +105,7 @@ returns-clause-steps c =
     (c.in_default-least_writer.ensures ∙ ap (λ (v : DbView). least_writer (seen v.rows) number) c.self.view_is))
     (listed-as _ _ c.trace.new.self c.add_root_table.new.node c.in-Some.queue number name c.self.view_is
     (λ beside. c.in_default-trace.ensures.ok beside ∙ ap (λ (t : TableTrigger). after_mark (seen_with beside c.self.inside.queues) (queued (traced t.table t.name t.trigger))) c.set_trigger-trigger.ensures)
-    (c.in_ok-add_root_table.ensures.ok ∙ ap (λ n. after_node (listed n) c.self.inside.node.own) c.in_ok-name.ensures)))
+    (c.in_ok-add_root_table.ensures.ok ∙ ap (λ n. after_node (set_added n) c.self.inside.node.own) c.in_ok-name.ensures)))
 
 pub returns-in-Err-clause-fault : goal.returns-in-Err-clause-fault
 returns-in-Err-clause-fault c =
@@ -113,5 +113,5 @@ returns-in-Err-clause-fault c =
     let v = c.self.inside in
     subst (λ fault. RootRefused fault (seen_database c.args.self.now) (seen_database (record { rows = v.rows; queues = c.trace.new.self; node = record v.node { own = c.remove_root_table.new.node } })) name) (sym c.from.ensures)
     (back-as _ _ c.trace.new.self c.remove_root_table.new.node c.self.view_is c.in-Err.ensures.err
-    (c.remove_root_table.ensures ∙ ap (after_node (unlisted name)) (c.in_ok-add_root_table.ensures.ok ∙ ap (λ n. after_node (listed n) v.node.own) c.in_ok-name.ensures)
+    (c.remove_root_table.ensures ∙ ap (after_node (set_removed name)) (c.in_ok-add_root_table.ensures.ok ∙ ap (λ n. after_node (set_added n) v.node.own) c.in_ok-name.ensures)
     ∙ listed-back v.node.own name (subst (λ (w : DbView). may_serve (listing name) w.node.own ≡ true) (sym c.self.view_is) c.requires.may)))

@@ -6,5 +6,5 @@ use Rattle.pgq_queues.proofs.queue.Queue.take_back.Goals as goal
 pub invariant_of-self : goal.invariant_of-self
 invariant_of-self c =
     let (now, t, e, q, was) = c.requires in
-    let told = ap (λ (v : QueueView). v.tables.tables) (c.self.view_is ∙ was) in
-    timed-less c.self.inside.tables c.take_back.new.self _ q.tables.tables told (c.take_back.ensures _ q.tables.tables told) c.self.invariant
+    let told = ap (λ (v : QueueView). v.event_tables.tables) (c.self.view_is ∙ was) in
+    timed-less c.self.inside.event_tables c.take_back.new.self _ q.event_tables.tables told (c.take_back.ensures _ q.event_tables.tables told) c.self.invariant

@@ -29,7 +29,7 @@ invariant_of-self-in_err-put t c =
         c.self.invariant.0.0,
         within-left r.sub r.event.ev_id (slice_set c.self.inside.slots r.queue new) c.self.inside.retries c.take_first.new.self c.in-Some.ensures.others
             (retried-stays c.self.inside.slots r.queue old new c.self.inside.retries waits.owner.stands c.get_mut.ensures.within c.get_mut.ensures.value stays
-            (same-events _ _ (ap QueueView.tables c.in_err-put.ensures.err)) c.self.invariant.0.1),
+            (same-events _ _ (ap QueueView.event_tables c.in_err-put.ensures.err)) c.self.invariant.0.1),
       ),
       within-still c.self.inside.names c.self.inside.slots (slice_set c.self.inside.slots r.queue new) c.self.inside.batches.entries c.self.inside.triggers.items c.self.inside.traced_tables.entries
           (stand-set c.self.inside.slots r.queue old new waits.owner.stands c.get_mut.ensures.within c.get_mut.ensures.value stays) c.self.invariant.1,
@@ -49,7 +49,7 @@ invariant_of-self-2 t c =
         c.self.invariant.0.0,
         within-left r.sub r.event.ev_id (slice_set c.self.inside.slots r.queue new) c.self.inside.retries c.take_first.new.self c.in-Some.ensures.others
             (retried-stays c.self.inside.slots r.queue old new c.self.inside.retries waits.owner.stands c.get_mut.ensures.within c.get_mut.ensures.value stays
-            (one-event _ _ (brought_by c.args.txid r.event) (ap (λ (q : QueueView). q.tables.tables) c.in_ok-put.ensures.ok) most) c.self.invariant.0.1),
+            (one-event _ _ (brought_by c.args.txid r.event) (ap (λ (q : QueueView). q.event_tables.tables) c.in_ok-put.ensures.ok) most) c.self.invariant.0.1),
       ),
       within-still c.self.inside.names c.self.inside.slots (slice_set c.self.inside.slots r.queue new) c.self.inside.batches.entries c.self.inside.triggers.items c.self.inside.traced_tables.entries
           (stand-set c.self.inside.slots r.queue old new waits.owner.stands c.get_mut.ensures.within c.get_mut.ensures.value stays) c.self.invariant.1,

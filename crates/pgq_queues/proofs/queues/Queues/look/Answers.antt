@@ -12,7 +12,7 @@ invariant_of-self c =
       (
         c.self.invariant.0.0,
         retried-stays c.self.inside.slots c.args.span.queue c.get_mut.result.now c.look.new.self c.self.inside.retries stands c.get_mut.ensures.within c.get_mut.ensures.value (stays-alike _ _ ticks subs)
-            (same-tables _ _ (ap (λ (q : QueueView). q.tables.tables) c.look.ensures.but)) c.self.invariant.0.1,
+            (same-tables _ _ (ap (λ (q : QueueView). q.event_tables.tables) c.look.ensures.but)) c.self.invariant.0.1,
       ),
       within-still c.self.inside.names c.self.inside.slots (slice_set c.self.inside.slots c.args.span.queue c.look.new.self) c.self.inside.batches.entries c.self.inside.triggers.items c.self.inside.traced_tables.entries
           (stand-set c.self.inside.slots c.args.span.queue c.get_mut.result.now c.look.new.self stands c.get_mut.ensures.within c.get_mut.ensures.value (stays-alike _ _ ticks subs)) c.self.invariant.1,

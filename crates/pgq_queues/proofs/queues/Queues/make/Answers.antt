@@ -26,7 +26,7 @@ add-requires-2-clause-room c = let same = length-shown _ _ c.self.view_is c.self
 
 pub invariant_of-self-in-Ok : goal.invariant_of-self-in-Ok
 invariant_of-self-in-Ok c = (
-  (c.self.invariant.0.0, retried-made _ _ c.in_ok-queue.queue c.self.inside.retries c.in_ok-add.ensures.ok (subst (λ (q : QueueView). AllStored (RetriedAtMost c.self.inside.rounds) q.tables.tables) (sym c.in_ok-queue.ensures) (stored-new (RetriedAtMost c.self.inside.rounds) c.args.txid c.args.now)) (ap QueueView.subs c.in_ok-queue.ensures) c.self.invariant.0.1),
+  (c.self.invariant.0.0, retried-made _ _ c.in_ok-queue.queue c.self.inside.retries c.in_ok-add.ensures.ok (subst (λ (q : QueueView). AllStored (RetriedAtMost c.self.inside.rounds) q.event_tables.tables) (sym c.in_ok-queue.ensures) (stored-new (RetriedAtMost c.self.inside.rounds) c.args.txid c.args.now)) (ap QueueView.subs c.in_ok-queue.ensures) c.self.invariant.0.1),
   within-made c.self.inside.names _ c.len-number.result c.self.inside.slots c.in_ok-queue.queue c.add-2.new.self c.add.new.self c.self.inside.batches.entries c.self.inside.triggers.items c.self.inside.traced_tables.entries
       c.in-Ok.ensures.added c.len-number.ensures c.in_ok-add.ensures.ok (let one = ap (λ (q : QueueView). length q.ticks) c.in_ok-queue.ensures in omega (arith, one)) (ap QueueView.subs c.in_ok-queue.ensures) c.self.invariant.1,
 )
@@ -40,5 +40,5 @@ pub returns-in-Ok-clause-mark : goal.returns-in-Ok-clause-mark
 returns-in-Ok-clause-mark c =
     made-as _ _ c.add-2.new.self c.add.new.self c.in_ok-queue.queue _ c.len-number.result c.args.txid (record { id = 1; time = c.args.now; snapshot = c.args.snapshot; seq = 0 }) c.self.view_is c.in-Ok.ensures.added c.len-number.ensures
     c.in_ok-add.ensures.ok
-    (c.in_ok-queue.ensures ∙ ap (λ (t : ℤ). record { config = default_config; seq = 0; tables = record { tables = new_tables c.args.txid t; reads = 0 }; ticks = record { id = 1; time = t; snapshot = c.args.snapshot; seq = 0 } ∷ []; subs = no_subs }) (to_z-of_z w64 c.args.now c.ranges.now))
+    (c.in_ok-queue.ensures ∙ ap (λ (t : ℤ). record { config = default_config; seq = 0; event_tables = record { tables = new_tables c.args.txid t; reads = 0 }; ticks = record { id = 1; time = t; snapshot = c.args.snapshot; seq = 0 } ∷ []; subs = no_subs }) (to_z-of_z w64 c.args.now c.ranges.now))
     c.self.invariant.1.0.each refl refl

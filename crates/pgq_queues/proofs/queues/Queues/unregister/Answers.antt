@@ -11,7 +11,7 @@ use Rattle.pgq_queues.proofs.queues.Queues.unregister.Goals as goal
 
 pub invariant_of-self : goal.invariant_of-self
 invariant_of-self c = (
-  (c.self.invariant.0.0, retried-stays c.self.inside.slots c.args.queue c.get_mut.result.now c.unregister.new.self c.self.inside.retries (stands-kept _ _ c.args.queue c.self.view_is c.requires) c.get_mut.ensures.within c.get_mut.ensures.value (stays-alike _ _ (ap QueueView.ticks c.in_err-sub.ensures.none) (ap QueueView.subs c.in_err-sub.ensures.none)) (same-events _ _ (ap QueueView.tables c.in_err-sub.ensures.none)) c.self.invariant.0.1),
+  (c.self.invariant.0.0, retried-stays c.self.inside.slots c.args.queue c.get_mut.result.now c.unregister.new.self c.self.inside.retries (stands-kept _ _ c.args.queue c.self.view_is c.requires) c.get_mut.ensures.within c.get_mut.ensures.value (stays-alike _ _ (ap QueueView.ticks c.in_err-sub.ensures.none) (ap QueueView.subs c.in_err-sub.ensures.none)) (same-events _ _ (ap QueueView.event_tables c.in_err-sub.ensures.none)) c.self.invariant.0.1),
   within-still c.self.inside.names c.self.inside.slots (slice_set c.self.inside.slots c.args.queue c.unregister.new.self) c.self.inside.batches.entries c.self.inside.triggers.items c.self.inside.traced_tables.entries
       (stand-set c.self.inside.slots c.args.queue c.get_mut.result.now c.unregister.new.self (stands-kept _ _ c.args.queue c.self.view_is c.requires) c.get_mut.ensures.within c.get_mut.ensures.value
       (stays-alike _ _ (ap QueueView.ticks c.in_err-sub.ensures.none) (ap QueueView.subs c.in_err-sub.ensures.none))) c.self.invariant.1,

@@ -5,7 +5,7 @@ use Rattle.sky_rows.specs.Table.{TableView}
 use Rattle.sky_rows.specs.Kept.{all_versions}
 use Rattle.sky_rows.specs.Written.{AllKept, wrote, logged}
 use Rattle.sky_rows.proofs.TableLemmas.{all_kept_more}
-use Rattle.sky_rows.proofs.ForgetLemmas.{may_have, wrote-listed, may_have-wrote, kept_forgotten, kept_unlisted, forgotten-none}
+use Rattle.sky_rows.proofs.ForgetLemmas.{may_have, wrote-indexed, may_have-wrote, kept_forgotten, kept_unlisted, forgotten-none}
 use Rattle.sky_rows.proofs.table.Table.forget.Goals as goal
 
 pub forget_logged-requires-clause-kept : goal.forget_logged-requires-clause-kept
@@ -43,7 +43,7 @@ invariant_of-self-then-not-tells c = (
 pub forget_all-requires-clause-kept : goal.forget_all-requires-clause-kept
 forget_all-requires-clause-kept c =
     may_have-wrote (wrote c.self.inside.written) c.args.txid c.in-Some-take.keys.keys (all_versions c.self.inside.older (rows_in c.self.inside.rows))
-    (λ q. wrote-listed c.self.inside.written c.args.txid q (Some c.in-Some-take.keys) (sym c.tells.ensures ∙ c.if-not-tells.false) c.in-Some-take.ensures.taken) c.self.invariant.1
+    (λ q. wrote-indexed c.self.inside.written c.args.txid q (Some c.in-Some-take.keys) (sym c.tells.ensures ∙ c.if-not-tells.false) c.in-Some-take.ensures.taken) c.self.invariant.1
 
 pub forget_all-requires-clause-own : goal.forget_all-requires-clause-own
 forget_all-requires-clause-own c = c.self.invariant.0
@@ -62,7 +62,7 @@ pub invariant_of-self-in_default-take : goal.invariant_of-self-in_default-take
 invariant_of-self-in_default-take c = (
   c.self.invariant.0,
   kept_unlisted (wrote c.self.inside.written) (wrote c.take.new.self) c.args.txid (all_versions c.self.inside.older (rows_in c.self.inside.rows)) c.in_default-take.ensures.others
-      (λ q. wrote-listed c.self.inside.written c.args.txid q None (sym c.tells.ensures ∙ c.if-not-tells.false) c.in_default-take.ensures.taken) c.self.invariant.1,
+      (λ q. wrote-indexed c.self.inside.written c.args.txid q None (sym c.tells.ensures ∙ c.if-not-tells.false) c.in_default-take.ensures.taken) c.self.invariant.1,
   subst (λ log. AllKept (logged log) (all_versions c.self.inside.older (rows_in c.self.inside.rows))) (sym c.in_default.ensures.none) c.self.invariant.2,
 )
 
@@ -70,6 +70,6 @@ pub returns-in_default-take : goal.returns-in_default-take
 returns-in_default-take c =
     let before = all_versions c.self.inside.older (rows_in c.self.inside.rows) in
     let none : forgotten c.args.txid before ≡ before = forgotten-none (wrote c.self.inside.written) c.args.txid before
-    (λ q. wrote-listed c.self.inside.written c.args.txid q None (sym c.tells.ensures ∙ c.if-not-tells.false) c.in_default-take.ensures.taken) c.self.invariant.1 in
+    (λ q. wrote-indexed c.self.inside.written c.args.txid q None (sym c.tells.ensures ∙ c.if-not-tells.false) c.in_default-take.ensures.taken) c.self.invariant.1 in
     ap (λ es. record { columns = c.self.inside.schema; versions = es; places = c.self.inside.rows.places }) (sym none)
     ∙ ap (λ (t : TableView). record t { versions = forgotten c.args.txid t.versions; places = c.self.inside.rows.places }) c.self.view_is

@@ -25,7 +25,7 @@ pub invariant_of-self-2 : goal.invariant_of-self-2
 invariant_of-self-2 c = (
   c.put.ensures.own,
   kept_either (wrote c.self.inside.written) (wrote c.add.new.self) c.args.txid c.args.key c.args.row (all_versions c.self.inside.older (rows_in c.self.inside.rows)) (all_versions c.put.new.older (rows_in c.put.new.self)) c.put.result
-      c.in_ok-again.ensures.listed c.in_ok-again.ensures.kept c.put.ensures.ok c.put.ensures.err c.self.invariant.1,
+      c.in_ok-again.ensures.indexed c.in_ok-again.ensures.kept c.put.ensures.ok c.put.ensures.err c.self.invariant.1,
   kept_either (logged c.self.inside.log) (logged c.log_own.new.log) c.args.txid c.args.key c.args.row (all_versions c.self.inside.older (rows_in c.self.inside.rows)) (all_versions c.put.new.older (rows_in c.put.new.self)) c.put.result
       c.in_ok-log_own.ensures.logged c.log_own.ensures.kept c.put.ensures.ok c.put.ensures.err c.self.invariant.2,
 )
