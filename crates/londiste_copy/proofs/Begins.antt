@@ -6,7 +6,7 @@ use Rattle.sky_names.specs.Places.{place_of}
 use Rattle.sky_names.proofs.PlaceLemmas.{bytes_eq_refl}
 use Rattle.sky_txid.specs.Ids.{contains}
 use Rattle.sky_txid.specs.Snapshot.{SnapshotView}
-use Rattle.londiste_state.specs.Nodes.{Node, of_root, of_leaf}
+use Rattle.londiste_state.specs.Nodes.{Node, of_root, of_leaf, all_but}
 use Rattle.sky_model.specs.declared.reply.Limit.TheVariants.{Consumers}
 use Rattle.sky_model.specs.declared.reply.Refusal.{Refusal}
 use Rattle.sky_model.specs.declared.reply.Refusal.TheVariants.{ConsumerExists, IdsSpent, TooMany}
@@ -15,7 +15,7 @@ use Rattle.sky_model.specs.History.{of_copy, began, queued, registered, noded, j
 use Rattle.sky_model.specs.Rows.{Write}
 use Rattle.sky_model.specs.Nodes.{after_node}
 use Rattle.sky_model.specs.Queues.{queue_number}
-use Rattle.sky_model.specs.Consumers.{all_but, Subscription}
+use Rattle.sky_model.specs.Consumers.{Subscription}
 use Rattle.sky_model.specs.Copies.{copy_txid, Hold, least_free}
 use Rattle.sky_model.specs.State.{Queue, RowPart, after_part, after_part_marks, Database, changed_at, changed_for, after_mark, after_marks}
 use Rattle.sky_model.specs.ShownRows.{snapshot_now}

@@ -5,6 +5,7 @@ ghost use Rattle.sky_val.specs.declared.val.Val.{Val};
 ghost use Rattle.std.specs.Result.{result_ok};
 ghost use Rattle.sky_urlenc.specs.Changes.{op_named, change_of};
 ghost use Rattle.sky_urlenc.specs.ReadRow.{read_row};
+ghost use Rattle.sky_model.specs.StepQueue.{tells_of_rows};
 ghost use Rattle.sky_model.specs.StepApply.{is_change, may_meet, row_left};
 
 use pgq_tables::Recorded;
@@ -72,7 +73,14 @@ impl Change {
 pub(crate) fn is_change(event: &Recorded<'_>) -> bool
     ensures { result ≡ is_change event.now }
 {
-    op_in(event.ev_type).is_some()
+    tells_of_rows(event.ev_type)
+}
+
+/// Whether events of a type record changes of rows.
+pub(crate) fn tells_of_rows(ev_type: Option<&Text>) -> bool
+    ensures { result ≡ tells_of_rows (option_copied ev_type.entry) }
+{
+    op_in(ev_type).is_some()
 }
 
 /// What was done to a row, as the type of an event says.

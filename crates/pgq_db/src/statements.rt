@@ -10,7 +10,7 @@ ghost use Rattle.sky_model.specs.State.{after_mark, after_marks};
 ghost use Rattle.sky_model.specs.Outcome.{reply_of, or_refused};
 ghost use Rattle.sky_model.specs.Printed.{HaveMoments};
 ghost use Rattle.sky_model.specs.OwnTransaction.{txid_for, in_own};
-ghost use Rattle.sky_model.specs.StepQueue.{queue_called, create_queue, drop_queue, shown_name, set_queue_config, queue_info, insert_event, ticker, force_tick, begins_with, tells_of_rows, made_event};
+ghost use Rattle.sky_model.specs.StepQueue.{queue_called, create_queue, drop_queue, shown_name, set_queue_config, queue_info, insert_event, ticker, force_tick, tells_of_rows, made_event};
 ghost use Rattle.sky_model.specs.StepTrigger.{may_ignore, add_trigger};
 ghost use Rattle.sky_model.specs.InForm.{IsInForm};
 ghost use Rattle.sky_model.specs.Allowed.{where_of};
@@ -27,6 +27,7 @@ ghost use Rattle.pgq_db.specs.Looks.{LooksWithin, RanWithin, ListsLooked, ReadsN
 ghost use Rattle.pgq_db.specs.Gives.{is_worlds, is_on_queues, Gives, Adds, Answers, Ran};
 ghost use Rattle.sky_model.specs.Stops.{StopsAs};
 
+use crate::change::tells_of_rows;
 use crate::db::Db;
 use crate::node::is_set_queue;
 use pgq_queues::{EVENT_ID_END, Queues, TableTrigger};
@@ -418,7 +419,7 @@ impl Db {
     fn is_reserved(&self, queue: &Text, ev_type: &Option<Text>) -> bool
         ensures { result ≡ (is_set_queue queue.now (seen_database self.now).node && tells_of_rows ev_type.now) }
     {
-        self.is_set_queue(queue) && tells_of_rows(ev_type)
+        self.is_set_queue(queue) && tells_of_rows(ev_type.as_ref())
     }
 
     /// `set_queue_config NAME RAW RAW`
@@ -592,26 +593,6 @@ fn shown_name(alloc: Global, trigger: &TableTrigger) -> Result<Text, NoMemory>
         Some(name) => name.copy(alloc),
         None => Text::from_str(alloc, ""),
     }
-}
-
-/// Whether events of a type record writes of rows.
-fn tells_of_rows(ev_type: &Option<Text>) -> bool
-    ensures { result ≡ tells_of_rows ev_type.now }
-{
-    match ev_type {
-        Some(text) => {
-            let bytes = text.bytes();
-            begins_with(b'I', bytes) || begins_with(b'U', bytes) || begins_with(b'D', bytes)
-        }
-        None => false,
-    }
-}
-
-/// Whether a text begins with this byte and a colon.
-fn begins_with(byte: u8, text: &[u8]) -> bool
-    ensures { result ≡ begins_with byte text.now }
-{
-    text.starts_with(&[byte, b':'])
 }
 
 /// An event with these texts and no others.

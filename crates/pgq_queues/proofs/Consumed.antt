@@ -5,9 +5,10 @@ use Rattle.std.proofs.lemmas.List.{get_or_read, length-set}
 use Rattle.std.proofs.lemmas.Option.{same_Some}
 use Rattle.sky_names.specs.Named.{NamedView, value_of}
 use Rattle.sky_names.proofs.PlaceLemmas.{same_name}
+use Rattle.londiste_state.specs.Nodes.{all_but}
 use Rattle.sky_model.specs.History as model
 use Rattle.sky_model.specs.History.{queued, registered, moved, unregistered, opened, closed}
-use Rattle.sky_model.specs.Consumers.{all_but, Subscription, of_another}
+use Rattle.sky_model.specs.Consumers.{Subscription, of_another}
 use Rattle.sky_model.specs.Triggers.{TableTrigger}
 use Rattle.sky_model.specs.State.{Queue, Database, changed_at, changed_for, with_batch, at_position, after_mark}
 use Rattle.pgq_retry.specs.declared.retry.Retry.{Retry}

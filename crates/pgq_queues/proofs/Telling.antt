@@ -6,7 +6,7 @@ use Rattle.std.proofs.lemmas.Bool.Decides.{nat_tests}
 use Rattle.std.proofs.lemmas.List.{take_more, drop_more, append-nil, map-append, set-set, set-get_or, get_or_read, get_or-set_same, length-set}
 use Rattle.std.proofs.lemmas.List.Elements.{filter-append}
 use Rattle.sky_val.specs.declared.val.Val.{Val}
-use Rattle.sky_urlenc.specs.RowEvents.{Write, Trigger, RowEvent, leaves_out, event_of}
+use Rattle.sky_urlenc.specs.RowEvents.{TracedWrite, Trigger, RowEvent, leaves_out, event_of}
 use Rattle.sky_model.specs.Triggers.{TableTrigger}
 use Rattle.sky_model.specs.State.{changed_at}
 use Rattle.pgq_queues.specs.Views.{QueueView, TracedView, QueuesView}
@@ -48,7 +48,7 @@ room-for seq before s b one other low also = omega (arith, one, other, low, also
 -- ---- the triggers of a table
 
 module _ (t : TracedView) (old new : Option (List Val)) where
-  abbrev write : Write
+  abbrev write : TracedWrite
   write = record { table = t.name; columns = t.columns; old = old; new = new }
 
   -- whether a trigger records the write

@@ -6,7 +6,7 @@ use Rattle.sky_names.specs.Places.{place_of, Distinct}
 use Rattle.sky_names.specs.Named.{NamedView, with_value, value_of}
 use Rattle.sky_names.proofs.PlaceLemmas.{bytes_eq_refl, bytes_eq_sym, same_name, place_of-cons, slice_get-place_of, place_of-Distinct}
 use Rattle.sky_names.proofs.ValueLemmas.{value_of-there, value_of-with_value}
-use Rattle.sky_model.specs.Consumers.{all_but}
+use Rattle.londiste_state.specs.Nodes.{all_but}
 use Rattle.pgq_sub.specs.Views.{SubView}
 use Rattle.pgq_sub.specs.Seen.{seen_subs, with_sub, without_member}
 
@@ -50,7 +50,7 @@ all_but-lacking key (first ∷ names) is = by (all_but-lacking key names) (bytes
         → (if b then Some 0 else option_map (λ p. p + 1) rest) ≡ None → all_but key (first ∷ names) ≡ first ∷ names
     by others true rest e at is = absurd (cc)
     by others false (Some p) e at is = absurd (cc)
-    by others false None e at is = ap (λ b. cond (not b) (first ∷ all_but key names) (all_but key names)) (bytes_eq_sym first key ∙ e) ∙ ap (λ ns. first ∷ ns) (others at)
+    by others false None e at is = ap (λ b. cond (not b) (first ∷ all_but key names) (all_but key names)) e ∙ ap (λ ns. first ∷ ns) (others at)
 
 -- if names are distinct, the first is nowhere else
 once : (first : List ℕ) (names : List (List ℕ)) → Distinct (first ∷ names) → place_of first names ≡ None
@@ -71,7 +71,7 @@ all_but-removed key (first ∷ names) zero distinct is =
       | inl (equal, head) ↦
           let one : key ≡ first = same_name key first equal in
           let lacks : place_of key names ≡ None = ap (λ n. place_of n names) one ∙ once first names distinct in
-          sym (ap (λ b. cond (not b) (first ∷ all_but key names) (all_but key names)) (bytes_eq_sym first key ∙ equal) ∙ all_but-lacking key names lacks)
+          sym (ap (λ b. cond (not b) (first ∷ all_but key names) (all_but key names)) equal ∙ all_but-lacking key names lacks)
       | inr (_, (before, at, later)) ↦ absurd (omega (arith, later))
     ]
 all_but-removed key (first ∷ names) (suc place) distinct is =
@@ -80,7 +80,7 @@ all_but-removed key (first ∷ names) (suc place) distinct is =
       | inr (other, (before, at, later)) ↦
           let one : before ≡ place = omega (arith, later) in
           ap (λ ns. first ∷ ns) (all_but-removed key names place (IsDistinct-tail bytes_eq first names distinct) (at ∙ ap Some one))
-          ∙ sym (ap (λ b. cond (not b) (first ∷ all_but key names) (all_but key names)) (bytes_eq_sym first key ∙ other))
+          ∙ sym (ap (λ b. cond (not b) (first ∷ all_but key names) (all_but key names)) other)
     ]
 
 -- what is found after the first is what the rest has

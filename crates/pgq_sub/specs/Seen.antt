@@ -1,7 +1,8 @@
 -- A queue's subscriptions: its consumers, and what is kept under each.
 use Rattle.std.specs.Prelude.{ℕ, List, [], ◌∷◌, ◌++◌, Option, Some, None, option_map, option_and_then}
 use Rattle.sky_names.specs.Named.{NamedView, value_of}
-use Rattle.sky_model.specs.Consumers.{Subscription, all_but}
+use Rattle.londiste_state.specs.Nodes.{all_but}
+use Rattle.sky_model.specs.Consumers.{Subscription}
 use Rattle.sky_model.specs.State.{changed_for}
 use Rattle.pgq_sub.specs.declared.sub.OpenBatch.{OpenBatch}
 use Rattle.pgq_sub.specs.Views.{SubView, seen_sub}

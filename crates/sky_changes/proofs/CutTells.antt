@@ -1,6 +1,5 @@
 -- In the queue of a set the events of a table say what its writes did while it was in the set.
 use Rattle.std.proofs.Common.{◌≡◌, ℕ, zero, suc, ◌+◌, ◌<◌, ℤ, Bool, true, false, not, ◌&&◌, ◌==◌, List, [], ◌∷◌, ◌++◌, Option, Some, None, Ok, IfSome, is_none, is_some, length, filter, map, bytes_eq, slice_get, unwrap_or, refl, sym, ◌∙◌, ap, subst, arith, if◌then◌else◌, append-nil, length-append}
-use Rattle.std.specs.Option.{option_and_then}
 use Rattle.std.proofs.lemmas.Bool.{false_from_ne_true}
 use Rattle.std.proofs.lemmas.Bool.Decides.{nat_tests}
 use Rattle.std.proofs.lemmas.List.Elements.{filter-append}
@@ -10,8 +9,7 @@ use Rattle.sky_val.specs.declared.event.Event.{Event}
 use Rattle.sky_names.proofs.PlaceLemmas.{bytes_eq_refl, same_name}
 use Rattle.pgq_retry.specs.declared.retry.Retry.{Retry}
 use Rattle.londiste_state.specs.Nodes.{Node, of_root, of_leaf}
-use Rattle.sky_urlenc.specs.RowEvents.{Trigger, Write, leaves_out, event_of}
-use Rattle.sky_urlenc.specs.Changes as change
+use Rattle.sky_urlenc.specs.RowEvents.{Trigger, TracedWrite, leaves_out, event_of}
 use Rattle.sky_model.specs.History.{Mark, of_session, tabled, table_made, wrote, queued, raised, put, returned, set_added, set_removed, History}
 use Rattle.sky_model.specs.Nodes.{after_node, node, is_root, is_leaf}
 use Rattle.sky_model.specs.Queues.{queues_made, queues, events}
@@ -116,13 +114,7 @@ cut-columns n _ (roots {h = h} name queue t time cut bare) within = cut-columns 
 
 -- a type that isn't reserved says nothing of rows
 not-of-rows : (name : List ℕ) (e : Event) → tells_of_rows e.ev_type ≡ false → changes_table name e ≡ false
-not-of-rows name e other = ap (λ b. b && is_name name e.ev_extra1) (of e.ev_type other)
-  where
-    of : (o : Option (List ℕ)) → tells_of_rows o ≡ false → is_some (option_and_then change.op_named o) ≡ false
-    of None none_said = refl
-    of (Some []) none_said = refl
-    of (Some (a ∷ [])) none_said = grind (arith, nat_tests)
-    of (Some (a ∷ b ∷ rest)) none_said = grind (arith, nat_tests, none_said)
+not-of-rows name e other = ap (λ b. b && is_name name e.ev_extra1) other
 
 -- no event but those of writes is the table's
 written-events : (n : ℕ) (h : History) (marks : List Mark) → Events marks → written n (marked h marks) ≡ written n h
@@ -188,15 +180,15 @@ filter-nothing f [] = refl
 filter-nothing f (t ∷ ts) = filter-nothing f ts
 
 -- no event, or one
-adds-none : {now : ℤ} {t : ℕ} {w : Write} (ts : List Trigger) (es : List Event) → ts ≡ [] → Adds now t w ts es → es ≡ []
+adds-none : {now : ℤ} {t : ℕ} {w : TracedWrite} (ts : List Trigger) (es : List Event) → ts ≡ [] → Adds now t w ts es → es ≡ []
 adds-none _ _ same no_more = refl
 adds-none _ _ same (one_more id trigger more) = absurd (cc)
 
-record IsOne (now : ℤ) (t : ℕ) (w : Write) (trigger : Trigger) (es : List Event) : Type 0 where
+record IsOne (now : ℤ) (t : ℕ) (w : TracedWrite) (trigger : Trigger) (es : List Event) : Type 0 where
   id : ℕ
   is : es ≡ told_event id now t (event_of w trigger) ∷ []
 
-adds-one : {now : ℤ} {t : ℕ} {w : Write} (ts : List Trigger) (es : List Event) (trigger : Trigger) → ts ≡ trigger ∷ [] → Adds now t w ts es → IsOne now t w trigger es
+adds-one : {now : ℤ} {t : ℕ} {w : TracedWrite} (ts : List Trigger) (es : List Event) (trigger : Trigger) → ts ≡ trigger ∷ [] → Adds now t w ts es → IsOne now t w trigger es
 adds-one _ _ trigger same no_more = absurd (cc)
 adds-one {now = now} {t = t} {w = w} _ _ trigger same (one_more {triggers = rest} {es = es} id own more) =
     let first_is : own ≡ trigger = cc in
@@ -211,7 +203,7 @@ module _ (n : ℕ) (name : List ℕ) (columns : List Column) (q : ℕ) where
       (who t m : ℕ) (key : List Val) (old new : Option (List Val)) (time : ℤ) (marks : List Mark)
       (said : told_of (database_of (write_of who t m key old new ∷ h)) time (write_of who t m key old new) ≡ Ok marks) (some : old ≡ None → is_some new ≡ true)
       (held : is_leaf (node h) ≡ false → IfSome new AreHeld) (fine : Fine h (write_of who t m key old new)) where
-    abbrev w : Write
+    abbrev w : TracedWrite
     w = record { table = unwrap_or (slice_get (table_names h) m) []; columns = columns_of m h; old = old; new = new }
 
     abbrev g : History

@@ -13,7 +13,7 @@ use Rattle.sky_val.specs.Entries.{Entries, at}
 use Rattle.sky_val.specs.Schemas.{key_of}
 use Rattle.sky_urlenc.specs.EventType.{event_type}
 use Rattle.sky_urlenc.specs.RowText.{row_text}
-use Rattle.sky_urlenc.specs.RowEvents.{Trigger, Write, op_of, changed_columns, leaves_out, RowEvent, event_of, events_of}
+use Rattle.sky_urlenc.specs.RowEvents.{Trigger, TracedWrite, op_of, changed_columns, leaves_out, RowEvent, event_of, events_of}
 use Rattle.sky_urlenc.specs.ReadRow.{read_row}
 use Rattle.sky_urlenc.specs.Changes.{Change, change_of, may_do, after_op}
 use Rattle.sky_urlenc.specs.Changes as change
@@ -47,7 +47,7 @@ op-read Update columns = refl
 op-read Delete columns = refl
 
 -- an event of one trigger after another
-pub data Adds (now : ℤ) (t : ℕ) (w : Write) : List Trigger → List Event → Type 0 where
+pub data Adds (now : ℤ) (t : ℕ) (w : TracedWrite) : List Trigger → List Event → Type 0 where
   no_more : Adds now t w [] []
   one_more : {triggers : List Trigger} {es : List Event} (id : ℕ) (trigger : Trigger) → Adds now t w triggers es → Adds now t w (trigger ∷ triggers) (told_event id now t (event_of w trigger) ∷ es)
 
@@ -71,7 +71,7 @@ first d now t e es marks same = of (next_event_id (d.queue e.queue)) same
     of (Ok id) all = rest-of id (told_by (after_marks d (event_marks e.queue (told_event id now t e))) now t es) refl all
     of (Err refusal) all = absurd (cc)
 
-module _ (name : List ℕ) (q : ℕ) (now : ℤ) (t : ℕ) (w : Write) where
+module _ (name : List ℕ) (q : ℕ) (now : ℤ) (t : ℕ) (w : TracedWrite) where
   -- whether a trigger makes an event of the table of this name in this queue
   abbrev pub hits : Trigger → Bool
   hits trigger = bytes_eq name w.table && (trigger.queue == q && not (leaves_out trigger w.columns w.old w.new))
@@ -160,7 +160,7 @@ pub record Says (columns : List Column) (e : Event) (w : Written) : Type 0 where
   pub may : (rows : Entries (List Val)) → at w.key rows ≡ w.old → may_do did.op w.key rows ≡ true
 
 -- a write by this transaction of a table of this name
-abbrev pub write_in_table : List ℕ → List Column → (old new : Option (List Val)) → Write
+abbrev pub write_in_table : List ℕ → List Column → (old new : Option (List Val)) → TracedWrite
 write_in_table name columns old new = record { table = name; columns = columns; old = old; new = new }
 
 -- a row is read back from its text

@@ -5,7 +5,7 @@ use Rattle.sky_val.specs.declared.val.Val.{Val}
 use Rattle.sky_txid.specs.Ids.{contains}
 use Rattle.sky_keys.specs.Waits.{other_than, is_waiting}
 use Rattle.sky_names.specs.Places.{place_of}
-use Rattle.sky_urlenc.specs.RowEvents.{Trigger, Write, event_of, RowEvent, events_of}
+use Rattle.sky_urlenc.specs.RowEvents.{Trigger, TracedWrite, event_of, RowEvent, events_of}
 use Rattle.sky_model.specs.declared.reply.Refusal.TheVariants.{EventIdsSpent}
 use Rattle.sky_model.specs.History.{Mark, of_session, began, tabled, wrote, queued, made, raised, put, dropped, traced, untraced, noded, read_only, History, of_worker, of_copy, ended}
 use Rattle.sky_model.specs.Sessions.{has_open, Block, block, own_txid}
@@ -69,7 +69,7 @@ trigger-queues (queued (untraced table) ∷ h) l =
 trigger-queues (_ ∷ h) l = trigger-queues h (legal-below_mark l)
 
 -- so are the events of a write
-events-queues : (queues : List NamedQueue) (w : Write) (ts : List TableTrigger) → TriggersAmong queues ts → EventsAmong queues (events_of w (map TableTrigger.trigger ts))
+events-queues : (queues : List NamedQueue) (w : TracedWrite) (ts : List TableTrigger) → TriggersAmong queues ts → EventsAmong queues (events_of w (map TableTrigger.trigger ts))
 events-queues queues w ts among =
     All-map (λ e. IsAmong e.queue queues) (event_of w) _ (All-filter _ (λ t. IsAmong t.queue queues) (map TableTrigger.trigger ts) (All-map (λ t. IsAmong t.queue queues) TableTrigger.trigger ts among))
 

@@ -12,16 +12,15 @@ use Rattle.sky_keys.specs.declared.version.Version.{Version}
 use Rattle.sky_keys.specs.Versions.{version_of, is_other, newest_from, newest_but, read, versions_at}
 use Rattle.sky_keys.proofs.VersionLemmas.{OnlyLast}
 use Rattle.sky_names.specs.Places.{place_of}
-use Rattle.sky_names.proofs.PlaceLemmas.{bytes_eq_refl, same_name}
 use Rattle.sky_val.specs.declared.event.Event.{Event}
-use Rattle.londiste_state.specs.Nodes.{Leaf, of_leaf, is_among}
+use Rattle.londiste_state.specs.Nodes.{Leaf, of_leaf, is_among, all_but}
 use Rattle.sky_model.specs.StepApply.{picks, picked, is_of_copied}
 use Rattle.sky_model.specs.History.{Pick, queued, unregistered, History}
 use Rattle.sky_model.specs.Transactions.{next_txid, workers, has_ended}
 use Rattle.sky_model.specs.Rows.{table_names}
 use Rattle.sky_model.specs.Locks.{holder}
 use Rattle.sky_model.specs.Copies.{copies, is_copied_by, copy_txid}
-use Rattle.sky_model.specs.Consumers.{all_but, consumers, Subscription, subscription_id, position, active}
+use Rattle.sky_model.specs.Consumers.{consumers, Subscription, subscription_id, position, active}
 use Rattle.sky_model.specs.Nodes.{node, leaf_tables}
 use Rattle.sky_model.specs.State.{Database}
 use Rattle.sky_model.specs.StepNode.{may_copy, table_number}
@@ -175,10 +174,7 @@ pub all_but-less : (name : List ℕ) (names : List (List ℕ)) → list_any (λ 
 all_but-less name [] is = absurd (cc)
 all_but-less name (n ∷ names) is =
     by_test (λ b. bytes_eq name n ≡ b → (b || list_any (λ n. bytes_eq name n) names) ≡ true → length (all_but name (n ∷ names)) < length (n ∷ names)) (bytes_eq name n)
-    (λ _ same _.
-    let one : name ≡ n = same_name name n same in
-    let again : bytes_eq n name ≡ true = ap (λ m. bytes_eq m name) (sym one) ∙ bytes_eq_refl name in
-    grind (arith, again, all_but-fewer name names))
+    (λ _ same _. grind (arith, same, all_but-fewer name names))
     (λ _ _ rest. let less = all_but-less name names rest in grind (arith, less, all_but-fewer name names)) refl is
 
 -- a queue that isn't full for a consumer has room for it once it has left

@@ -3,12 +3,13 @@ use Rattle.std.proofs.Common.{◌≡◌, ℕ, ◌+◌, List, [], ◌∷◌, ◌+
 use Rattle.sky_keys.specs.Waits.{released}
 use Rattle.sky_keys.specs.Versions.{forgotten}
 use Rattle.pgq_retry.specs.Retries.{without_sub}
+use Rattle.londiste_state.specs.Nodes.{all_but}
 use Rattle.sky_model.specs.History.{Mark, of_session, of_worker, began, ended, block_begun, repeats, sight_taken, block_failed, block_ended, connected, disconnected, tabled, wrote, queued, QueueMark, made, raised, put, ticked, registered, moved, unregistered, opened, closed, asked, returned, switching, switched, second_step, configured, dropped, traced, untraced, noded, History, Fact, appeared, founded, entered, left, within, clock_at, daemon_on, daemon_off, node_made, in_hand, batch_in_hand, Past, of_copy, hold_begun, hold_ended}
 use Rattle.sky_model.specs.Config.{default_config}
 use Rattle.pgq_tables.specs.Tables as tables_of
 use Rattle.pgq_tables.specs.Tables.{new_tables, with_stored, with_pending, with_second_step, no_tables}
 use Rattle.sky_model.specs.Queues.{new_tick, queues_made, queues, others_than, without_transaction, ticks_above, second_step_of}
-use Rattle.sky_model.specs.Consumers.{all_but, Subscription, subscription_id, position, active, of_another}
+use Rattle.sky_model.specs.Consumers.{Subscription, subscription_id, position, active, of_another}
 use Rattle.sky_model.specs.Transactions.{next_txid, running, snapshot}
 use Rattle.sky_model.specs.Sessions.{outside, inside, failed, at_each, at_first, at_place, sight, sight_by, session}
 use Rattle.sky_model.specs.Versions.{versions}

@@ -6,11 +6,12 @@ use Rattle.std.proofs.lemmas.Bool.{eqb-true}
 use Rattle.std.proofs.lemmas.List.Elements.{All-nil, All-push}
 use Rattle.sky_val.specs.declared.event.Event.{Event}
 use Rattle.sky_txid.specs.Ids.{contains}
+use Rattle.londiste_state.specs.Nodes.{all_but}
 use Rattle.sky_model.specs.History.{began, ended, queued, dropped, History}
 use Rattle.sky_model.specs.Transactions.{running, snapshot}
 use Rattle.sky_model.specs.Config.{default_config}
 use Rattle.sky_model.specs.Queues.{new_tick, NamedQueue, queues_made, queues, others_than, config, sequence, events, event_tables, without_transaction, kept_ticks, ticks_above, second_step_of}
-use Rattle.sky_model.specs.Consumers.{all_but, consumers, subscription_id, position, active}
+use Rattle.sky_model.specs.Consumers.{consumers, subscription_id, position, active}
 use Rattle.sky_model.specs.Retries.{brought_by}
 use Rattle.sky_model.specs.LawsOfQueues.{QueuesOfConsumersStand, QueuesOfTriggersStand, BusyQueuesStand, OtherQueuesKeepNothing, NewQueuesAreOthers}
 use Rattle.sky_model.proofs.Legal.{IsAmong, IsQueue, makes, raises, puts, puts_back, ticks_next, registers, unregisters, begins_switch, makes_switch, ends_switch, configures, drops, Legal, start, next}

@@ -20,9 +20,9 @@ pub record Follower : Type 0 where
   pub tick : ℕ
   pub pick : Pick
 
--- the events of a batch
-abbrev pub events_in : Database → BatchHand → List Event
-events_in p batch = unwrap_or ((shown_by p).events batch.id) []
+-- the events of an active batch
+abbrev pub events_of_batch : Database → ℕ → List Event
+events_of_batch p id = unwrap_or ((shown_by p).events id) []
 
 -- a batch that is done
 abbrev pub done : BatchHand → Option BatchHand
@@ -37,7 +37,7 @@ has_applied call batch many (Some id) = record { provider = []; replica = call �
 abbrev pub applies_in_hand : (p r : Database) → Follower → BatchHand → Checked (Move BatchHand)
 applies_in_hand p r f batch = do
   t ← next_id r.part
-  Ok (has_applied (applying (events_in p batch) f.pick batch.cur) batch (length (picked r.node f.pick (events_in p batch))) (bad_event r f.pick (events_in p batch)))
+  Ok (has_applied (applying (events_of_batch p batch.id) f.pick batch.cur) batch (length (picked r.node f.pick (events_of_batch p batch.id))) (bad_event r f.pick (events_of_batch p batch.id)))
 
 -- it was applied before
 abbrev pub skips_in_hand : BatchHand → Checked (Move BatchHand)

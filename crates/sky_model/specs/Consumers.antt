@@ -1,10 +1,7 @@
 -- Consumers of queues: the position of each, and which batch it has.
-use Rattle.std.specs.Prelude.{ℕ, List, [], ◌∷◌, ◌++◌, not, Option, Some, None, ◌==◌, ◌&&◌, bytes_eq, filter, option_map, if◌then◌else◌}
+use Rattle.std.specs.Prelude.{ℕ, List, [], ◌∷◌, ◌++◌, Option, Some, None, ◌==◌, ◌&&◌, bytes_eq, option_map, if◌then◌else◌}
+use Rattle.londiste_state.specs.Nodes.{all_but}
 use Rattle.sky_model.specs.History.{Batch, queued, registered, moved, unregistered, opened, closed, History}
-
--- the others among some consumers
-abbrev pub all_but : List ℕ → List (List ℕ) → List (List ℕ)
-all_but consumer names = filter (λ name. not (bytes_eq name consumer)) names
 
 -- the consumers of a queue, in the order of registering
 abbrev pub consumers : ℕ → History → List (List ℕ)

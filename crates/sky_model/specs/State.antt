@@ -22,10 +22,10 @@ use Rattle.sky_model.specs.Queues.{NamedQueue, queues_made, queues, others_than,
 use Rattle.pgq_retry.specs.declared.retry.Retry.{Retry}
 use Rattle.pgq_retry.specs.Retries.{without as without_retry, without_sub}
 use Rattle.sky_model.specs.Retries.{retries}
-use Rattle.londiste_state.specs.Nodes.{Node}
+use Rattle.londiste_state.specs.Nodes.{Node, all_but}
 use Rattle.sky_model.specs.Nodes.{after_node, node}
 use Rattle.sky_model.specs.Copies.{Copy, without_copy, copies, Hold, without_hold, holds}
-use Rattle.sky_model.specs.Consumers.{all_but, consumers, Subscription, subscription, last_subscription, last_batch, of_another, active_batch}
+use Rattle.sky_model.specs.Consumers.{consumers, Subscription, subscription, last_subscription, last_batch, of_another, active_batch}
 
 -- a queue, as a statement reads it
 pub record Queue : Type 0 where

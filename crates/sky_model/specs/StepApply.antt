@@ -8,7 +8,7 @@ use Rattle.sky_val.specs.declared.event.Event.{Event}
 use Rattle.sky_val.specs.declared.op.Op.{Op}
 use Rattle.sky_val.specs.declared.op.Op.TheVariants.{Insert, Update, Delete}
 use Rattle.sky_val.specs.Schemas.{key_of}
-use Rattle.sky_urlenc.specs.Changes.{op_named, Change, change_of}
+use Rattle.sky_urlenc.specs.Changes.{Change, change_of}
 use Rattle.sky_names.specs.Places.{place_of}
 use Rattle.sky_txid.specs.Snapshot.{SnapshotView, sees}
 use Rattle.londiste_state.specs.declared.state.TableState.{TableState}
@@ -19,6 +19,7 @@ use Rattle.sky_model.specs.History.{Mark, Pick, of_synced, copy_of, of_worker, b
 use Rattle.sky_model.specs.Rows.{Write}
 use Rattle.sky_model.specs.Copies.{is_copied}
 use Rattle.sky_model.specs.State.{RowPart, after_part, Database}
+use Rattle.sky_model.specs.StepQueue.{tells_of_rows}
 use Rattle.sky_model.specs.StepCopy.{row_for}
 use Rattle.sky_model.specs.OwnTransaction.{next_id}
 use Rattle.sky_model.specs.Outcome.{Outcome, Checked, ◌>>=◌, answers, does_marks}
@@ -27,7 +28,7 @@ use Rattle.sky_model.specs.Outcome.{Outcome, Checked, ◌>>=◌, answers, does_m
 
 -- whether an event records the change of a row, as its type says
 abbrev pub is_change : Event → Bool
-is_change event = is_some (option_and_then op_named event.ev_type)
+is_change event = tells_of_rows event.ev_type
 
 -- whether it is one of the table of a name
 abbrev pub is_of_table : List ℕ → Event → Bool

@@ -1,7 +1,8 @@
 -- What the statements on queues do. Each reads the database `d` as it is.
-use Rattle.std.specs.Prelude.{ℕ, ◌+◌, ◌-◌, ◌*◌, ◌^◌, ℤ, pos, ◌-ℤ◌, ◌*ℤ◌, List, [], ◌∷◌, ◌++◌, Bool, true, false, not, ◌&&◌, ◌||◌, Option, Some, None, option_map, unwrap_or, nat_lt, nat_le, ◌==◌, is_some, bytes_eq, take, length, map, find, int_lt, Ok, if◌then◌else◌}
+use Rattle.std.specs.Prelude.{ℕ, ◌+◌, ◌-◌, ◌*◌, ◌^◌, ℤ, pos, ◌-ℤ◌, ◌*ℤ◌, List, [], ◌∷◌, ◌++◌, Bool, true, false, not, ◌&&◌, ◌||◌, Option, Some, None, option_map, unwrap_or, nat_lt, nat_le, ◌==◌, is_some, option_and_then, length, map, find, int_lt, Ok, if◌then◌else◌}
 use Rattle.std.specs.List.{list_any}
 use Rattle.sky_val.specs.declared.event.Event.{Event}
+use Rattle.sky_urlenc.specs.Changes.{op_named}
 use Rattle.sky_model.specs.declared.stmt.Extra.{Extra}
 use Rattle.sky_model.specs.declared.reply.QueueInfo as reply
 use Rattle.sky_model.specs.declared.reply.Reply.TheVariants.{Number, Null, QueueInfo}
@@ -83,14 +84,9 @@ next_event_id q = do
   refused_if (nat_le (2 ^ 62) (q.seq + 1)) EventIdsSpent
   Ok (q.seq + 1)
 
--- whether a text begins with this byte and a colon
-abbrev pub begins_with : (byte : ℕ) → List ℕ → Bool
-begins_with byte text = bytes_eq (take 2 text) (byte ∷ 58 ∷ [])
-
--- whether events of a type record writes of rows: it begins with `I:`, `U:` or `D:`
+-- whether events of a type record changes of rows: it begins with `I:`, `U:` or `D:`
 abbrev pub tells_of_rows : Option (List ℕ) → Bool
-tells_of_rows None = false
-tells_of_rows (Some text) = begins_with 73 text || begins_with 85 text || begins_with 68 text
+tells_of_rows ev_type = is_some (option_and_then op_named ev_type)
 
 -- `insert_event NAME TVAL TVAL`, or with four more TVAL: an event with the next id of the queue's sequence
 abbrev pub insert_event : Database → ℤ → ℕ → List ℕ → Option (List ℕ) → Option (List ℕ) → Option Extra → Checked Outcome

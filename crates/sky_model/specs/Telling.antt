@@ -2,7 +2,7 @@
 use Rattle.std.specs.Prelude.{ℕ, ℤ, List, [], ◌∷◌, ◌++◌, Option, Some, None, Ok, map, slice_get, unwrap_or}
 use Rattle.sky_val.specs.declared.val.Val.{Val}
 use Rattle.sky_val.specs.declared.event.Event.{Event}
-use Rattle.sky_urlenc.specs.RowEvents.{Write, RowEvent, events_of}
+use Rattle.sky_urlenc.specs.RowEvents.{TracedWrite, RowEvent, events_of}
 use Rattle.sky_model.specs.History.{Mark, of_session, tabled, wrote, queued, raised, put}
 use Rattle.sky_model.specs.Triggers.{TableTrigger, triggers_of}
 use Rattle.sky_model.specs.State.{Database, after_mark, after_marks}
@@ -10,7 +10,7 @@ use Rattle.sky_model.specs.Outcome.{Outcome, Checked, ◌>>=◌, does_marks}
 use Rattle.sky_model.specs.StepQueue.{next_event_id}
 
 -- a write to a table of the database
-abbrev pub write_in : Database → ℕ → (old new : Option (List Val)) → Write
+abbrev pub write_in : Database → ℕ → (old new : Option (List Val)) → TracedWrite
 write_in d table old new = record { table = unwrap_or (slice_get d.part.tables table) []; columns = d.part.columns table; old = old; new = new }
 
 -- the events that record it

@@ -17,7 +17,7 @@ use Rattle.sky_model.specs.StepApply.{picked, bad_event, applies_batch}
 use Rattle.sky_model.specs.StepCopy.{given_up}
 use Rattle.sky_model.specs.StepNode.{NodeCall, parting, fetching, finishing, moving, applying, if_there, moves_table, may_move, may_copy, may_serve, call_form, node_does}
 use Rattle.sky_model.specs.WorkerMoves.{Move, moves_to}
-use Rattle.sky_model.specs.BatchMoves.{Follower, events_in, has_applied, skips_in_hand, finishes_in_hand, applies_in_hand, taken, takes, takes_next, goes_through}
+use Rattle.sky_model.specs.BatchMoves.{Follower, events_of_batch, has_applied, skips_in_hand, finishes_in_hand, applies_in_hand, taken, takes, takes_next, goes_through}
 use Rattle.sky_model.specs.CopyMoves.{copier, copy_consumer, goes_through_or, has_caught_up, catches_up, hands_over}
 use Rattle.sky_model.specs.ReplayMoves.{replayer, is_handed_over, is_met, first_in, next_to_copy, for_table, replay_move}
 use Rattle.sky_model.proofs.ApplyCalls.{is_for_applying, gives-applies}
@@ -91,14 +91,14 @@ quiet-through p r f batch =
     (quiet-if (nat_lt f.tick batch.cur) (applies_in_hand p r f batch) (skips_in_hand batch) (of (next_id r.part)) (record { provider = tt; replica = tt }))
   where
     call : NodeCall
-    call = applying (events_in p batch) f.pick batch.cur
+    call = applying (events_of_batch p batch.id) f.pick batch.cur
 
     applied_or : (many : ℕ) (bad : Option ℕ) → IsQuietMove (has_applied call batch many bad)
-    applied_or many None = record { provider = tt; replica = (quiet-applying (events_in p batch) f.pick batch.cur, tt) }
-    applied_or many (Some id) = record { provider = tt; replica = (quiet-applying (events_in p batch) f.pick batch.cur, tt) }
+    applied_or many None = record { provider = tt; replica = (quiet-applying (events_of_batch p batch.id) f.pick batch.cur, tt) }
+    applied_or many (Some id) = record { provider = tt; replica = (quiet-applying (events_of_batch p batch.id) f.pick batch.cur, tt) }
 
-    of : (c : Checked ℕ) → QuietIfOk (c >>= (λ t. Ok (has_applied call batch (length (picked r.node f.pick (events_in p batch))) (bad_event r f.pick (events_in p batch)))))
-    of (Ok t) = applied_or (length (picked r.node f.pick (events_in p batch))) (bad_event r f.pick (events_in p batch))
+    of : (c : Checked ℕ) → QuietIfOk (c >>= (λ t. Ok (has_applied call batch (length (picked r.node f.pick (events_of_batch p batch.id))) (bad_event r f.pick (events_of_batch p batch.id)))))
+    of (Ok t) = applied_or (length (picked r.node f.pick (events_of_batch p batch.id))) (bad_event r f.pick (events_of_batch p batch.id))
     of (Err refusal) = tt
 
 quiet-next : (p : Database) (f : Follower) → QuietIfOk (takes_next p f)

@@ -34,19 +34,9 @@ use sky_locks::LockKey;
 use sky_model::{Columns, Limit, Refusal, Reply, Rows, Sets, Stop, WriteGate};
 use sky_state::RowState;
 use sky_txid::Snapshot;
+use sky_urlenc::op_of;
 use sky_val::{Key, NoMemory, Op, Row, SessionId, Text};
 use std::alloc::Global;
-
-/// What a write did, by the row that it found and the row that it left.
-fn op_of(old: Option<&Row>, new: Option<&Row>) -> Op
-    ensures { result ≡ op_of (option_copied old.entry) (option_copied new.entry) }
-{
-    match (old, new) {
-        (None, _) => Op::Insert,
-        (Some(_), None) => Op::Delete,
-        (Some(_), Some(_)) => Op::Update,
-    }
-}
 
 /// A copy of the row, if there is one.
 fn copied(alloc: Global, row: Option<&Row>) -> Result<Option<Row>, NoMemory>

@@ -12,7 +12,7 @@ use Rattle.sky_model.specs.Nodes.{node}
 use Rattle.sky_model.specs.State.{database_of}
 use Rattle.sky_model.specs.StepApply.{bad_event}
 use Rattle.sky_model.specs.StepNode.{applying}
-use Rattle.sky_model.specs.BatchMoves.{Follower, events_in}
+use Rattle.sky_model.specs.BatchMoves.{Follower, events_of_batch}
 use Rattle.sky_model.specs.ReplayMoves.{replayer}
 use Rattle.sky_model.specs.CopyMoves.{copier}
 use Rattle.sky_model.specs.World.{history_in, hands, batches}
@@ -54,7 +54,7 @@ pub record InWork (past : Past) (p : ℕ) (f : Follower) (b : BatchHand) : Type 
   pub next : IsNext past p batch
   pub opens : f.tick ≡ batch.prev
   pub closes : batch.cur ≡ b.cur
-  pub events_are : events_in (database_of (history_in past p)) b ≡ batch_events (history_in past p) batch
+  pub events_are : events_of_batch (database_of (history_in past p)) b.id ≡ batch_events (history_in past p) batch
 
 pub in-work : (past : Past) (p : ℕ) (f : Follower) (b : BatchHand) (hand : Option BatchHand) → hand ≡ Some b → FollowsIn past p f hand → IsPlace (history_in past p) → f.tick < b.cur → InWork past p f b
 in-work past p f b hand is x place less = record {
@@ -91,7 +91,7 @@ module _ (past : Past) (d p : ℕ) (f : Follower) (b : BatchHand) (g : Goes past
   come_is = subst (HasCome (node (history_in past d)) f.pick) w.opens has
 
   -- no event of it is bad
-  pub not-bad : bad_event (database_of (history_in past d)) f.pick (events_in (database_of (history_in past p)) b) ≡ None
+  pub not-bad : bad_event (database_of (history_in past d)) f.pick (events_of_batch (database_of (history_in past p)) b.id) ≡ None
   not-bad =
       ap (bad_event (database_of (history_in past d)) f.pick) w.events_are
       ∙ none-bad (history_in past d) between (batch_events (history_in past p) w.batch) f.pick (may-apply past d p w.batch f.pick g from place w.next come_is) (all-fit past d p w.batch f.pick g from place w.next come_is)
@@ -99,8 +99,8 @@ module _ (past : Past) (d p : ℕ) (f : Follower) (b : BatchHand) (g : Goes past
   -- and it is applied
   pub goes-worked : nat_le (2 ^ 62) (next_txid (history_in past d)) ≡ false
       → (f.pick ≡ of_synced → (name : List ℕ) (t : LeafTable) (tick : ℕ) → leaf_table name (node (history_in past d)) ≡ Some t → t.state ≡ DoSync tick → ⊥)
-      → AllPlaces (called past d (applying (events_in (database_of (history_in past p)) b) f.pick b.cur)) → Goes (called past d (applying (events_in (database_of (history_in past p)) b) f.pick b.cur))
+      → AllPlaces (called past d (applying (events_of_batch (database_of (history_in past p)) b.id) f.pick b.cur)) → Goes (called past d (applying (events_of_batch (database_of (history_in past p)) b.id) f.pick b.cur))
   goes-worked unspent none all =
-      let same : called past d (applying (events_in (database_of (history_in past p)) b) f.pick b.cur) ≡ called past d (applying (batch_events (history_in past p) w.batch) f.pick w.batch.cur) =
+      let same : called past d (applying (events_of_batch (database_of (history_in past p)) b.id) f.pick b.cur) ≡ called past d (applying (batch_events (history_in past p) w.batch) f.pick w.batch.cur) =
       λ i. called past d (applying (w.events_are i) f.pick (sym w.closes i)) in
       subst Goes (sym same) (goes-applied past d p w.batch f.pick g from (subst AllPlaces same all) w.next come_is between unspent none)

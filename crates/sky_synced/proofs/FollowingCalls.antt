@@ -4,7 +4,7 @@ use Rattle.std.specs.List.{list_any}
 use Rattle.std.proofs.lemmas.Bool.Decides.{nat_tests}
 use Rattle.std.proofs.lemmas.Bool.{and_parts, eqb-true, or_right}
 use Rattle.std.proofs.lemmas.List.Folds.{list_any-append}
-use Rattle.londiste_state.specs.Nodes.{Node, of_root, of_leaf, is_among}
+use Rattle.londiste_state.specs.Nodes.{Node, of_root, of_leaf, is_among, all_but}
 use Rattle.sky_names.proofs.PlaceLemmas.{bytes_eq_refl, bytes_eq_sym, same_name}
 use Rattle.sky_model.specs.declared.reply.Reply.TheVariants.{Number}
 use Rattle.sky_model.specs.declared.reply.Refusal.TheVariants.{ConsumerExists, IdsSpent, TooMany}
@@ -12,7 +12,7 @@ use Rattle.sky_model.specs.declared.reply.Limit.TheVariants.{Consumers}
 use Rattle.sky_model.specs.History.{Batch, Mark, queued, registered, moved, unregistered, opened, closed, noded, joined, parted, History}
 use Rattle.sky_model.specs.Hands.{BatchHand}
 use Rattle.sky_model.specs.Queues.{NamedQueue, queues, Tick, tick, kept_ticks}
-use Rattle.sky_model.specs.Consumers.{all_but, consumers, subscription_id, position, active, Subscription, subscription, last_subscription, last_batch, active_batch}
+use Rattle.sky_model.specs.Consumers.{consumers, subscription_id, position, active, Subscription, subscription, last_subscription, last_batch, active_batch}
 use Rattle.sky_model.specs.Nodes.{after_node, node}
 use Rattle.sky_model.specs.State.{queue_of, Database, database_of, after_marks}
 use Rattle.sky_model.specs.Outcome.{Outcome, Checked, ◌>>=◌, ◌>>◌, refused_if, does_marks, marks_of}

@@ -23,7 +23,7 @@ use Rattle.sky_model.specs.StepConsumer.{sub_ids_spent}
 use Rattle.sky_model.specs.StepApply.{picked, bad_event}
 use Rattle.sky_model.specs.StepNode.{NodeCall, joining, parting, fetching, finishing, moving, beginning_copy, copying_rows, ending_copy, applying, holding, letting_go, is_full, node_does}
 use Rattle.sky_model.specs.WorkerMoves.{Move, only_prints, moves_to, handing, behind_calls}
-use Rattle.sky_model.specs.BatchMoves.{Follower, events_in, has_applied, applies_in_hand, skips_in_hand, finishes_in_hand, taken, takes, takes_next, goes_through}
+use Rattle.sky_model.specs.BatchMoves.{Follower, events_of_batch, has_applied, applies_in_hand, skips_in_hand, finishes_in_hand, taken, takes, takes_next, goes_through}
 use Rattle.sky_model.specs.ReplayMoves.{replayer, is_handed_over, is_met, first_in, next_to_copy, for_table, empty_handed_move, replay_move}
 use Rattle.sky_model.specs.CopyMoves.{piece_size, rows_from, rows_of, last_key, copies_piece, next_piece, copy_consumer, first_hand, starts_copy, under_way, continues, starts_or_continues, copier, goes_through_or, has_caught_up, catches_up, hands_over, if_copied, moves_in, table_move, table_at, copy_move, copy_running}
 use Rattle.sky_model.specs.World.{history_in, hands, batches}
@@ -99,19 +99,19 @@ module _ (past : Past) (d p : ℕ) (start : AtStart past) (kept : KeptGoes past)
         w = in-work past p f b hand is follows (start.places p) (grind (arith, nat_tests, less))
 
         call : NodeCall
-        call = applying (events_in provider b) f.pick b.cur
+        call = applying (events_of_batch provider b.id) f.pick b.cur
 
         many : ℕ
-        many = length (picked replica.node f.pick (events_in provider b))
+        many = length (picked replica.node f.pick (events_of_batch provider b.id))
 
         either : nat_le (2 ^ 62) (next_txid (history_in past d)) ≡ false → (bad : Option ℕ) → KeptGoes (moved (has_applied call b many bad))
         either e None = λ all. goes-worked past d p f b goes from (start.places p) (start.between d) w has e none all
         either e (Some id) = λ all. goes-worked past d p f b goes from (start.places p) (start.between d) w has e none all
 
         of : (spent : Bool) → nat_le (2 ^ 62) (next_txid (history_in past d)) ≡ spent
-            → BatchKept ((refused_if spent TxidsSpent >> Ok (next_txid (history_in past d))) >>= (λ t. Ok (has_applied (applying (events_in provider b) f.pick b.cur) b (length (picked replica.node f.pick (events_in provider b))) (bad_event replica f.pick (events_in provider b)))))
+            → BatchKept ((refused_if spent TxidsSpent >> Ok (next_txid (history_in past d))) >>= (λ t. Ok (has_applied (applying (events_of_batch provider b.id) f.pick b.cur) b (length (picked replica.node f.pick (events_of_batch provider b.id))) (bad_event replica f.pick (events_of_batch provider b.id)))))
         of true e = tt
-        of false e = either e (bad_event replica f.pick (events_in provider b))
+        of false e = either e (bad_event replica f.pick (events_of_batch provider b.id))
 
     pub kept-through : BatchKept (goes_through provider replica f b)
     kept-through =

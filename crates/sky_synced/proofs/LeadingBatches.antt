@@ -19,7 +19,7 @@ use Rattle.sky_model.specs.StepApply.{picked, bad_event}
 use Rattle.sky_model.specs.StepNode.{NodeCall, applying}
 use Rattle.sky_model.specs.LawsOfApplying.{picked_of, IsApplied}
 use Rattle.sky_model.specs.WorkerMoves.{Move, only_prints, handing}
-use Rattle.sky_model.specs.BatchMoves.{Follower, events_in, done, has_applied, applies_in_hand, skips_in_hand, finishes_in_hand, goes_through}
+use Rattle.sky_model.specs.BatchMoves.{Follower, events_of_batch, done, has_applied, applies_in_hand, skips_in_hand, finishes_in_hand, goes_through}
 use Rattle.sky_model.specs.ReplayMoves.{replayer, replay_move}
 use Rattle.sky_model.specs.CopyMoves.{copier, goes_through_or, catches_up, hands_over, if_copied, moves_in, table_move, table_at, copy_move}
 use Rattle.sky_model.specs.NodesOfWorld.{WorldOutcome}
@@ -71,7 +71,7 @@ module _ (calls : List Call) (in_form : All IsCallInForm calls) (d : ℕ) (leaf 
 
   -- its events, and the call that applies them
   abbrev own : List Event
-  own = events_in (database_of k) b
+  own = events_of_batch (database_of k) b.id
 
   abbrev call : NodeCall
   call = applying own f.pick b.cur
@@ -249,7 +249,7 @@ copies_batches_lead_on calls in_form name table n leaf t b called_it is there ta
     under : is_some t.snapshot ≡ true
     under = ap is_some ((goes-past calls in_form).shown d table t in_table (copied-along t.state copied)).shows.under
 
-    goes : handing of_batch (goes_through (w.database p) (w.database d) f b) ≡ Ok (record { provider = []; replica = applying (events_in (w.database p) b) f.pick b.cur ∷ []; replies = BatchApplied b.cur (length (picked (node (history_in past d)) f.pick (events_in (w.database p) b))) ∷ []; hand = option_map of_batch (done b) })
+    goes : handing of_batch (goes_through (w.database p) (w.database d) f b) ≡ Ok (record { provider = []; replica = applying (events_of_batch (w.database p) b.id) f.pick b.cur ∷ []; replies = BatchApplied b.cur (length (picked (node (history_in past d)) f.pick (events_of_batch (w.database p) b.id))) ∷ []; hand = option_map of_batch (done b) })
     goes = ap (handing of_batch) (through calls in_form d leaf stands x f b (batch_in (hands past d table)) work follows has)
 
     copied-move : (other : Checked (Move BatchHand)) → if_copied t (w.hands d table) (goes_through_or (w.database p) (w.database d) t (batch_in (w.hands d table)) other) ≡ handing of_batch (goes_through (w.database p) (w.database d) f b)
@@ -262,6 +262,6 @@ copies_batches_lead_on calls in_form name table n leaf t b called_it is there ta
     by-state (DoSync tick) e = copied-move (hands_over (w.database p) (w.database d) tick t)
     by-state state e = absurd (cc e)
 
-    moves_on : copy_move (w.database p) (w.database d) table (w.hands d table) ≡ Ok (record { provider = []; replica = applying (events_in (w.database p) b) f.pick b.cur ∷ []; replies = BatchApplied b.cur (length (picked (node (history_in past d)) f.pick (events_in (w.database p) b))) ∷ []; hand = option_map of_batch (done b) })
+    moves_on : copy_move (w.database p) (w.database d) table (w.hands d table) ≡ Ok (record { provider = []; replica = applying (events_of_batch (w.database p) b.id) f.pick b.cur ∷ []; replies = BatchApplied b.cur (length (picked (node (history_in past d)) f.pick (events_of_batch (w.database p) b.id))) ∷ []; hand = option_map of_batch (done b) })
     moves_on =
         ap (λ o. table_move (w.database p) (w.database d) table o (w.hands d table)) (ap (table_at table) stands ∙ there) ∙ by-state t.state takes ∙ goes

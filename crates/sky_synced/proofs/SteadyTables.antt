@@ -26,7 +26,7 @@ use Rattle.sky_model.specs.StepConsumer.{sub_ids_spent}
 use Rattle.sky_model.specs.StepCopy.{given_up}
 use Rattle.sky_model.specs.StepNode.{NodeCall, joining, parting, fetching, finishing, making_leaf, adding, removing, moving, listing, unlisting, beginning_copy, applying, holding, if_there, set_queue, is_full, joins, lists, adds, unlists, table_number, may_serve, call_form, node_does}
 use Rattle.sky_model.specs.WorkerMoves.{Move, behind_calls, handing}
-use Rattle.sky_model.specs.BatchMoves.{Follower, events_in, has_applied, applies_in_hand, skips_in_hand, finishes_in_hand, taken, takes, takes_next, goes_through}
+use Rattle.sky_model.specs.BatchMoves.{Follower, events_of_batch, has_applied, applies_in_hand, skips_in_hand, finishes_in_hand, taken, takes, takes_next, goes_through}
 use Rattle.sky_model.specs.CopyMoves.{piece_size, rows_from, copies_piece, next_piece, copy_consumer, first_hand, starts_copy, under_way, continues, starts_or_continues, moves_in, table_move, table_at, copier, goes_through_or, if_copied, has_caught_up, catches_up, hands_over, copy_running, copy_move, lets_go_for}
 use Rattle.sky_model.specs.ReplayMoves.{replayer, is_on_way, is_handed_over, is_met, first_in, next_to_copy, for_table, replay_move}
 use Rattle.sky_model.specs.StepApply.{picked, bad_event, applies_batch}
@@ -152,7 +152,7 @@ steady-applied events pick tick batch many (Some id) = record { provider = tt; r
 steady-through : (p r : Database) (f : Follower) (batch : BatchHand) → SteadyIfOk (goes_through p r f batch)
 steady-through p r f batch =
     if-either batch.is_done (finishes_in_hand batch) _ (record { provider = (refl, tt); replica = tt })
-    (if-either (nat_lt f.tick batch.cur) (applies_in_hand p r f batch) (skips_in_hand batch) (ok-then _ (next_id r.part) _ (λ t _. steady-applied (events_in p batch) f.pick batch.cur batch (length (picked r.node f.pick (events_in p batch))) (bad_event r f.pick (events_in p batch))))
+    (if-either (nat_lt f.tick batch.cur) (applies_in_hand p r f batch) (skips_in_hand batch) (ok-then _ (next_id r.part) _ (λ t _. steady-applied (events_of_batch p batch.id) f.pick batch.cur batch (length (picked r.node f.pick (events_of_batch p batch.id))) (bad_event r f.pick (events_of_batch p batch.id))))
     (record { provider = tt; replica = tt }))
 
 steady-goes_through_or : (p r : Database) (t : LeafTable) (o : Option BatchHand) (other : Checked (Move BatchHand)) → SteadyIfOk other → SteadyIfOk (goes_through_or p r t o other)

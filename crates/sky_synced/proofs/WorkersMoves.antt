@@ -9,7 +9,7 @@ use Rattle.sky_model.specs.OwnTransaction.{next_id}
 use Rattle.sky_model.specs.StepApply.{may_apply, picked, bad_event}
 use Rattle.sky_model.specs.StepNode.{NodeCall, fetching, applying, node_does}
 use Rattle.sky_model.specs.WorkerMoves.{Move}
-use Rattle.sky_model.specs.BatchMoves.{Follower, events_in, has_applied, applies_in_hand, skips_in_hand, finishes_in_hand, taken, takes, takes_next, goes_through}
+use Rattle.sky_model.specs.BatchMoves.{Follower, events_of_batch, has_applied, applies_in_hand, skips_in_hand, finishes_in_hand, taken, takes, takes_next, goes_through}
 use Rattle.sky_model.proofs.Legal.{Legal}
 use Rattle.sky_model.proofs.StatementMarks.{EachMark}
 use Rattle.sky_model.proofs.PendingOwners.{legal-before}
@@ -69,29 +69,29 @@ goes-applied : (h k : History) (q : ℕ) (f : Follower) (b : BatchHand) → Lega
 goes-applied h k q f b legal made may at = of (next_id (part_of k)) refl
   where
     call : NodeCall
-    call = applying (events_in (database_of h) b) f.pick b.cur
+    call = applying (events_of_batch (database_of h) b.id) f.pick b.cur
 
     many : ℕ
-    many = length (picked (node k) f.pick (events_in (database_of h) b))
+    many = length (picked (node k) f.pick (events_of_batch (database_of h) b.id))
 
     -- or an event can't be applied, and it stays where it is
-    or_bad : (t : ℕ) → next_id (part_of k) ≡ Ok t → (o : Option ℕ) → bad_event (database_of k) f.pick (events_in (database_of h) b) ≡ o → Goes h k q f (has_applied call b many o)
+    or_bad : (t : ℕ) → next_id (part_of k) ≡ Ok t → (o : Option ℕ) → bad_event (database_of k) f.pick (events_of_batch (database_of h) b.id) ≡ o → Goes h k q f (has_applied call b many o)
     or_bad t free None good = record {
       spared = λ c other. tt;
       tick = b.cur;
       follows = λ l. following-applied h legal q f.consumer f.tick b at;
-      tick_goes = inr (leaf-applied k made (events_in (database_of h) b) f.pick b.cur t may free good);
+      tick_goes = inr (leaf-applied k made (events_of_batch (database_of h) b.id) f.pick b.cur t may free good);
     }
     or_bad t free (Some id) bad = record {
       spared = λ c other. tt;
       tick = f.tick;
       follows = λ l. at;
-      tick_goes = inl (refl, leaf-unapplied k made (events_in (database_of h) b) f.pick b.cur t id may free bad);
+      tick_goes = inl (refl, leaf-unapplied k made (events_of_batch (database_of h) b.id) f.pick b.cur t id may free bad);
     }
 
-    of : (c : Checked ℕ) → next_id (part_of k) ≡ c → GoesIf h k q f (c >>= (λ t. Ok (has_applied call b many (bad_event (database_of k) f.pick (events_in (database_of h) b)))))
+    of : (c : Checked ℕ) → next_id (part_of k) ≡ c → GoesIf h k q f (c >>= (λ t. Ok (has_applied call b many (bad_event (database_of k) f.pick (events_of_batch (database_of h) b.id)))))
     of (Err refusal) is = tt
-    of (Ok t) is = or_bad t is (bad_event (database_of k) f.pick (events_in (database_of h) b)) refl
+    of (Ok t) is = or_bad t is (bad_event (database_of k) f.pick (events_of_batch (database_of h) b.id)) refl
 
 -- the worker may apply what it has in hand
 pub record MayGo (k : History) (f : Follower) : Type 0 where

@@ -18,7 +18,7 @@ use Rattle.sky_model.specs.Outcome.{Checked}
 use Rattle.sky_model.specs.Hands.{BatchHand, batch_in}
 use Rattle.sky_model.specs.StepApply.{is_synced, has_synced, picked}
 use Rattle.sky_model.specs.LawsOfApplying.{picked_of, IsApplied}
-use Rattle.sky_model.specs.BatchMoves.{Follower, events_in}
+use Rattle.sky_model.specs.BatchMoves.{Follower, events_of_batch}
 use Rattle.sky_model.specs.ReplayMoves.{replayer}
 use Rattle.sky_model.specs.CopyMoves.{copier}
 use Rattle.sky_model.specs.NodesOfWorld.{Located, WorldOutcome, node_called}
@@ -133,7 +133,7 @@ pub record IsLedOn (h g k : History) (leaf : Leaf) (t : LeafTable) (events : Lis
 pub record AppliesBatch (past : Past) (d : ℕ) (leaf : Leaf) (f : Follower) (b : BatchHand) (step : Checked WorldOutcome) : Type 0 where
   pub provider : HasProvider (world_of past) d leaf
   pub events : List Event
-  pub of_batch : events ≡ events_in ((world_of past).database provider.database) b
+  pub of_batch : events ≡ events_of_batch ((world_of past).database provider.database) b.id
   pub outcome : WorldOutcome
   pub done : step ≡ Ok outcome
   pub says : outcome.replies ≡ BatchApplied b.cur (length (picked (node (history_in past d)) f.pick events)) ∷ []

@@ -10,7 +10,7 @@ use Rattle.sky_model.specs.Nodes.{node}
 use Rattle.sky_model.specs.State.{database_of}
 use Rattle.sky_model.specs.Hands.{BatchHand, batch_in}
 use Rattle.sky_model.specs.StepNode.{set_queue}
-use Rattle.sky_model.specs.BatchMoves.{Follower, events_in}
+use Rattle.sky_model.specs.BatchMoves.{Follower, events_of_batch}
 use Rattle.sky_model.specs.ReplayMoves.{replayer}
 use Rattle.sky_model.specs.CopyMoves.{copier}
 use Rattle.sky_model.specs.NodesOfWorld.{Located, node_called}
@@ -50,7 +50,7 @@ ReplicasShowProvider = (calls : List Call) → All IsCallInForm calls → (let p
 
 -- the events of a batch in hand can be applied, unless its worker has come to its closing tick: none of those that the worker picks is bad
 abbrev pub CanApply : World → (d p : ℕ) → Follower → Option BatchHand → Type 0
-CanApply w d p f hand = (b : BatchHand) → hand ≡ Some b → f.tick < b.cur → bad_event (w.database d) f.pick (events_in (w.database p) b) ≡ None
+CanApply w d p f hand = (b : BatchHand) → hand ≡ Some b → f.tick < b.cur → bad_event (w.database d) f.pick (events_of_batch (w.database p) b.id) ≡ None
 
 -- so it is of the batch that the worker of a leaf has in hand, and of that which the worker of a table's copy has
 abbrev pub BatchesCanBeApplied : Type 0

@@ -7,7 +7,7 @@ use Rattle.sky_val.specs.declared.val.Val.{Val}
 use Rattle.sky_val.specs.declared.val.Val.TheVariants.{Null, Int, Text}
 use Rattle.sky_val.specs.declared.column.Column.{Column}
 use Rattle.sky_val.specs.declared.column.ColKind.TheVariants as kind
-use Rattle.sky_urlenc.specs.RowEvents.{Trigger, Write, RowEvent, events_of}
+use Rattle.sky_urlenc.specs.RowEvents.{Trigger, TracedWrite, RowEvent, events_of}
 
 columns : List Column
 columns =
@@ -18,7 +18,7 @@ columns =
 row : ℕ → List ℕ → List Val
 row n note = Int (pos 1) ∷ Int (pos n) ∷ Text note ∷ []
 
-write : (old new : Option (List Val)) → Write
+write : (old new : Option (List Val)) → TracedWrite
 write old new = record { table = codes "u"; columns = columns; old = old; new = new }
 
 -- without options

@@ -19,7 +19,7 @@ pub record Trigger : Type 0 where
   pub ignored : List (List ℕ)
 
 -- a write to a table of this name: the row that the key had, and the row that it has
-pub record Write : Type 0 where
+pub record TracedWrite : Type 0 where
   pub table : List ℕ
   pub columns : List Column
   pub old : Option (List Val)
@@ -59,7 +59,7 @@ pub record RowEvent : Type 0 where
   pub ev_extra2 : Option (List ℕ)
 
 -- the event of a trigger: its data are the new row, or the deleted one
-abbrev pub event_of : Write → Trigger → RowEvent
+abbrev pub event_of : TracedWrite → Trigger → RowEvent
 event_of write trigger = record {
   queue = trigger.queue;
   ev_type = event_type (op_of write.old write.new) write.columns;
@@ -69,5 +69,5 @@ event_of write trigger = record {
 }
 
 -- the events of all triggers of the table
-abbrev pub events_of : Write → List Trigger → List RowEvent
+abbrev pub events_of : TracedWrite → List Trigger → List RowEvent
 events_of write triggers = map (event_of write) (filter (λ trigger. not (leaves_out trigger write.columns write.old write.new)) triggers)

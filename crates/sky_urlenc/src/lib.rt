@@ -26,4 +26,4 @@ pub use encode::encode_row;
 pub use event_kind::event_type;
 pub use fault::DecodeFault;
 pub use row_event::RowEvent;
-pub use trigger::Trigger;
+pub use trigger::{Trigger, op_of};

@@ -132,8 +132,8 @@ impl Trigger {
     }
 }
 
-/// What was done to a row.
-fn op_of(old: Option<&Row>, new: Option<&Row>) -> Op
+/// What a write did to a row, by the one that its key had and the one that it has.
+pub fn op_of(old: Option<&Row>, new: Option<&Row>) -> Op
     ensures { result ≡ op_of (option_copied old.entry) (option_copied new.entry) }
 {
     match (old, new) {

@@ -22,7 +22,7 @@ use Rattle.sky_model.specs.StepApply.{picked, bad_event}
 use Rattle.sky_model.specs.StepConsumer.{sub_ids_spent}
 use Rattle.sky_model.specs.StepNode.{NodeCall, applying, fetching, joining, parting, holding, beginning_copy, is_full, node_does}
 use Rattle.sky_model.specs.WorkerMoves.{Move, behind_calls, handing, moves_to}
-use Rattle.sky_model.specs.BatchMoves.{Follower, events_in, has_applied, applies_in_hand, taken, takes, takes_next, goes_through}
+use Rattle.sky_model.specs.BatchMoves.{Follower, events_of_batch, has_applied, applies_in_hand, taken, takes, takes_next, goes_through}
 use Rattle.sky_model.specs.ReplayMoves.{replayer, is_handed_over, is_met, first_in, next_to_copy, for_table, replay_move}
 use Rattle.sky_model.specs.CopyMoves.{copy_consumer, copies_piece, next_piece, piece_size, rows_from, first_hand, starts_copy, under_way, continues, starts_or_continues, copier, goes_through_or, has_caught_up, catches_up, hands_over, if_copied, moves_in, table_at, table_move, copy_move, copy_running}
 
@@ -49,18 +49,18 @@ applies : (p r : Database) (f : Follower) (batch : BatchHand) → HaveNone (appl
 applies p r f batch = of (next_id r.part)
   where
     call : NodeCall
-    call = applying (events_in p batch) f.pick batch.cur
+    call = applying (events_of_batch p batch.id) f.pick batch.cur
 
     many : ℕ
-    many = length (picked r.node f.pick (events_in p batch))
+    many = length (picked r.node f.pick (events_of_batch p batch.id))
 
     by : (bad : Option ℕ) → HasNone (has_applied call batch many bad)
     by None = one-reply (BatchApplied batch.cur many) tt
     by (Some id) = one-reply Idle tt
 
-    of : (id : Checked ℕ) → HaveNone (id >>= (λ t. Ok (has_applied call batch many (bad_event r f.pick (events_in p batch)))))
+    of : (id : Checked ℕ) → HaveNone (id >>= (λ t. Ok (has_applied call batch many (bad_event r f.pick (events_of_batch p batch.id)))))
     of (Err refusal) = tt
-    of (Ok t) = by (bad_event r f.pick (events_in p batch))
+    of (Ok t) = by (bad_event r f.pick (events_of_batch p batch.id))
 
 goes-through : (p r : Database) (f : Follower) (batch : BatchHand) → HaveNone (goes_through p r f batch)
 goes-through p r f batch =
