@@ -65,7 +65,7 @@ fn append_number(number: i64, into: &mut String) -> Result<(), NoMemory>
     into.push_str(Buffer::new().format(number))
 }
 
-/// Appends a text, escaped.
+/// Appends a text, escaped: in one go if no byte changes.
 fn append_text(text: &Text, into: &mut String) -> Result<(), NoMemory>
     ensures text { OnOk result
         (string_bytes into.new ≡ string_bytes into.old ++ byte_serialize text.now) }
@@ -78,7 +78,7 @@ fn append_text(text: &Text, into: &mut String) -> Result<(), NoMemory>
     }
 }
 
-/// Whether the bytes are written as they stand.
+/// Whether a form changes none of the bytes.
 fn is_unchanged(bytes: &[u8]) -> bool
     ensures { result ≡ list_all is_unchanged bytes.now }
 {

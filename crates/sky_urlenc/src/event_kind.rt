@@ -5,7 +5,7 @@ ghost use Rattle.std.specs.List.{join_with_byte};
 ghost use Rattle.sky_val.specs.Schemas.{key_columns};
 ghost use Rattle.sky_urlenc.specs.EventType.{colon, comma, op_letter, event_type};
 
-use crate::kept::{MOST_IN_PLACE, kept};
+use crate::kept::MOST_IN_PLACE;
 use arrayvec::ArrayString;
 use sky_val::{Column, NoMemory, Op, Schema, Text};
 use std::alloc::Global;
@@ -24,7 +24,7 @@ pub fn event_type(alloc: Global, op: Op, schema: &Schema) -> Result<Text, NoMemo
     }
 }
 
-/// The same, if it is short: it takes no memory of its own.
+/// The same, if it is short enough to take no memory of its own.
 #[tactic(auto, using(crate::proofs::RowTexts::key_next, crate::proofs::RowTexts::next_as_first, crate::proofs::RowTexts::next_behind_byte))]
 fn short_type(op: Op, schema: &Schema) -> Option<ArrayString<MOST_IN_PLACE>>
     ensures { IfSome result (λ text. text.bytes ≡ event_type op schema.now) }
@@ -49,14 +49,14 @@ fn short_type(op: Op, schema: &Schema) -> Option<ArrayString<MOST_IN_PLACE>>
     Some(text)
 }
 
-/// The same, however long it is.
+/// The same, however long it is: it takes memory of its own.
 fn long_type(alloc: Global, op: Op, schema: &Schema) -> Result<Text, NoMemory>
     ensures { IfOk result (λ text. text ≡ event_type op schema.now) }
 {
     let mut text = String::with_capacity(alloc, USUAL_BYTES)?;
     text.push_str(op_mark(op))?;
     append_key_names(schema.columns(), &mut text)?;
-    kept(alloc, text)
+    Ok(Text::from_string(text))
 }
 
 /// The letter of the operation, and a colon.

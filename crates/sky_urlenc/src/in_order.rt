@@ -52,7 +52,7 @@ fn value_in(alloc: Global, column: &Column, piece: &Piece<'_>) -> Result<Option<
         return Ok(None);
     }
     match text {
-        Some(text) => value_of(alloc, column.kind, text),
+        Some(text) => value_of_side(alloc, column.kind, text),
         None if column.key => Ok(None),
         None => Ok(Some(Val::Null)),
     }
@@ -67,7 +67,7 @@ fn is_name(column: &Column, side: &[u8]) -> bool
 }
 
 /// The value that a side writes for a column of a kind, if it writes one, without an escape in a number.
-fn value_of(alloc: Global, kind: ColKind, side: &[u8]) -> Result<Option<Val>, NoMemory>
+fn value_of_side(alloc: Global, kind: ColKind, side: &[u8]) -> Result<Option<Val>, NoMemory>
     ensures text { IfOk result (λ value. OnSome value (is_utf8 (decode side.now) ≡ true)) }
     ensures value { IfOk result (λ value. IfSome value (λ value.
         value_of kind (Some (decode side.now)) ≡ Some value)) }

@@ -1,7 +1,7 @@
 -- A text of which no byte is changed is its own escaped form.
 use Rattle.std.proofs.Common.{◌≡◌, ◌∙◌, ◌++◌, OnOk, ap, sym, subst, string_bytes, rules}
 use Rattle.std.specs.List.{list_all}
-use Rattle.form_urlencoded.specs.Form.{byte_serialize, is_unchanged}
+use Rattle.form_urlencoded.specs.Form.{is_unchanged}
 use Rattle.sky_urlenc.proofs.Escaping.{unchanged_as}
 use Rattle.sky_urlenc.proofs.encode.append_text.Goals as goal
 
