@@ -1,7 +1,7 @@
 //! The keys that one transaction wrote, in the order of its writes. They are read only to roll it back: adding a key
 //! takes no search, and none is looked up here.
 
-ghost use Rattle.std.specs.Prelude.{◌≡◌, ◌&&◌, ◌||◌, ◌==◌, not, ℕ, true, false, None, Some, List, OnOk, IfNone, IfSome};
+ghost use Rattle.std.specs.Prelude.{◌≡◌, ◌<◌, ◌&&◌, ◌||◌, ◌==◌, not, ℕ, true, false, None, Some, List, OnOk, IfNone, IfSome};
 ghost use Rattle.std.specs.List.{list_any};
 ghost use Rattle.std.specs.BTreeMap.{is_at};
 ghost use Rattle.sky_val.specs.Order.{key_cmp};
@@ -72,6 +72,20 @@ fn begin(log: &mut Option<Log>, alloc: Global, txid: u64, key: Key) -> Result<()
     keys.push(key)?;
     *log = Some(Log { txid, keys });
     Ok(())
+}
+
+/// Drops the log, if its transaction is below this one.
+pub(crate) fn drop_below(log: &mut Option<Log>, below: u64)
+    ensures kept { (t : ℕ) (q : List Val) → logged log.new t q ≡ false → logged log.old t q ≡ false }
+    ensures dropped { (t : ℕ) (q : List Val) → t < below → logged log.new t q ≡ true }
+{
+    let is_below = match log {
+        Some(log) => log.txid < below,
+        None => false,
+    };
+    if is_below {
+        *log = None;
+    }
 }
 
 /// Takes the keys that the transaction wrote out of the log, if it has the log.

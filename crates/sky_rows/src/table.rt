@@ -13,7 +13,7 @@ ghost use Rattle.sky_rows.specs.Written.{AllKept};
 ghost use Rattle.sky_rows.specs.Kept.{all_versions, AreOwn};
 ghost use Rattle.sky_rows.specs.Rows.{rows_in};
 
-use crate::log::{Log, list_or_log, log_own, take_logged};
+use crate::log::{Log, drop_below, list_or_log, log_own, take_logged};
 use crate::older::Older;
 use crate::rows::Rows;
 use crate::written::Written;
@@ -331,6 +331,7 @@ impl Table {
         ensures { self.new ≡ self.old }
     {
         self.written.prune(below);
+        drop_below(&mut self.log, below);
     }
 }
 
