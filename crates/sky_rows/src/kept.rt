@@ -11,6 +11,13 @@ use sky_txid::Snapshot;
 use sky_val::{NoMemory, Row};
 use std::mem;
 
+/// How a transaction stands at a key: whether it has a version there, and whether `read` gives it a row.
+#[derive(Clone, Copy)]
+pub(crate) struct Standing {
+    pub(crate) has_own: bool,
+    pub(crate) has_row: bool,
+}
+
 /// The versions of one key: the newest, and the number of the list of the older ones, if it has one. If the newest was
 /// forgotten, its place stays empty until the next write, so no version is moved back from the list.
 #[derive(Debug, Drop)]
@@ -89,21 +96,22 @@ impl Kept {
         self.newest_seen(older, snapshot)?.row.as_ref()
     }
 
-    /// Whether the transaction has a version, if only the newest may be its own; and whether `read` gives it a row.
-    pub(crate) fn standing(&self, older: &Older, snapshot: &Snapshot, txid: u64) -> (bool, bool)
+    /// How the transaction stands at the key, if only the newest version may be its own.
+    pub(crate) fn standing(&self, older: &Older, snapshot: &Snapshot, txid: u64) -> Standing
         requires used { IsUsed older.now self.now.list }
         requires one { IsOneOfEach (versions_of older.now self.now) }
         requires last { let versions = versions_of older.now self.now in
             IsSome (version_of txid versions) → newest_but None versions ≡ version_of txid versions }
-        ensures own { result.0 ≡ is_some (version_of txid (versions_of older.now self.now)) }
-        ensures row { result.1 ≡ is_some (read snapshot.now (Some txid) (versions_of older.now self.now)) }
+        ensures own { result.has_own ≡ is_some (version_of txid (versions_of older.now self.now)) }
+        ensures row { result.has_row ≡ is_some (read snapshot.now (Some txid) (versions_of older.now self.now)) }
     {
         let has_own = match self.newest(older, None) {
             Some(version) => version.txid == txid,
             None => false,
         };
         let own = if has_own { Some(txid) } else { None };
-        (has_own, self.read(older, snapshot, own).is_some())
+        let has_row = self.read(older, snapshot, own).is_some();
+        Standing { has_own, has_row }
     }
 
     /// Replaces the transaction's version, or adds it.

@@ -13,6 +13,7 @@ ghost use Rattle.sky_rows.specs.Written.{AllKept};
 ghost use Rattle.sky_rows.specs.Kept.{all_versions, AreOwn};
 ghost use Rattle.sky_rows.specs.Rows.{rows_in};
 
+use crate::kept::Standing;
 use crate::log::{Log, drop_below, list_or_log, log_own, take_logged};
 use crate::older::Older;
 use crate::rows::Rows;
@@ -42,14 +43,6 @@ pub struct Table {
 
     // The keys of the one transaction that `written` doesn't list.
     log: Option<Log>,
-}
-
-/// What a transaction finds at a key: its place, whether it has a version there, and whether `read` gives it a row.
-#[derive(Clone, Copy)]
-struct Standing {
-    place: Option<usize>,
-    has_own: bool,
-    has_row: bool,
 }
 
 impl Model for Table {
@@ -278,7 +271,8 @@ impl Table {
         ensures unmade { IfOk result (λ made. made ≡ false → self.new ≡ self.old) }
         ensures err { OnErr result (self.new ≡ self.old) }
     {
-        let at = self.standing(&key, snapshot, txid);
+        let place = self.find(&key);
+        let at = self.standing_at(place, &key, snapshot, txid);
         if at.has_row != needs_row {
             return Ok(false);
         }
@@ -286,28 +280,31 @@ impl Table {
         list_or_log(&mut self.written, &mut self.log, self.alloc, txid, logged)?;
         let version = Version { txid, row };
         self.rows
-            .put(&mut self.older, at.place, key, version, at.has_own)?;
+            .put(&mut self.older, place, key, version, at.has_own)?;
         Ok(true)
     }
 
-    /// What the transaction finds at the key, if only the newest version may be its own.
+    /// How the transaction stands at the key, which was found, if only the newest version may be its own.
     #[inline(always)]
-    fn standing(&self, key: &Key, snapshot: &Snapshot, txid: u64) -> Standing
+    fn standing_at(
+        &self,
+        place: Option<usize>,
+        key: &Key,
+        snapshot: &Snapshot,
+        txid: u64,
+    ) -> Standing
+        requires place { place ≡ place_in self.now key.now }
         requires last { let versions = versions_at key.now self.now.versions in
             IsSome (version_of txid versions) → newest_but None versions ≡ version_of txid versions }
-        ensures place { result.place ≡ place_in self.now key.now }
         ensures own { result.has_own ≡ is_some (version_of txid (versions_at key.now self.now.versions)) }
         ensures row { result.has_row ≡ is_some (read snapshot.now (Some txid) (versions_at key.now self.now.versions)) }
     {
-        let place = self.find(key);
-        let (has_own, has_row) = match self.rows.found(place) {
+        match self.rows.found(place) {
             Some(kept) => kept.standing(&self.older, snapshot, txid),
-            None => (false, false),
-        };
-        Standing {
-            place,
-            has_own,
-            has_row,
+            None => Standing {
+                has_own: false,
+                has_row: false,
+            },
         }
     }
 

@@ -26,4 +26,4 @@ returns-clause-row c =
       | in-Some w ↦ w.has_own-is ∙ newest-own c.args.txid vs c.requires.last w.in-Some.version.now (ap option_copied (sym w.in-Some.is) ∙ c.newest.ensures)
       | in-None w ↦ w.has_own-is ∙ newest-none c.args.txid vs c.requires.last (ap option_copied (sym w.in-None.is) ∙ c.newest.ensures)
     ] in
-    c.is_some.ensures ∙ copied-row c.read.result ∙ ap is_some (c.read.ensures ∙ ap (λ own. read c.args.snapshot.now own vs) own ∙ read-own c.args.snapshot.now c.args.txid vs c.match-newest.has_own has)
+    c.is_some-has_row.ensures ∙ copied-row c.read.result ∙ ap is_some (c.read.ensures ∙ ap (λ own. read c.args.snapshot.now own vs) own ∙ read-own c.args.snapshot.now c.args.txid vs c.match-newest.has_own has)
