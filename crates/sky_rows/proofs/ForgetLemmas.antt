@@ -64,7 +64,7 @@ forgotten-forgotten_at t k (e ∷ es) = grind (arith, forgotten-entry t e.0 (wit
 -- if a transaction wrote nothing, nothing is removed
 pub forgotten-none : (w : ℕ → List Val → Bool) (t : ℕ) (es : Entries (List Version)) → ((q : List Val) → w t q ≡ false) → AllKept w es → forgotten t es ≡ es
 forgotten-none w t [] none kept = refl
-forgotten-none w t (e ∷ es) none kept = grind (arith, without-none t e.1 (kept.0.indexed t (none e.0)), kept.0.some, forgotten-none w t es none kept.1)
+forgotten-none w t (e ∷ es) none kept = grind (arith, without-none t e.1 (kept.0.writers t (none e.0)), kept.0.some, forgotten-none w t es none kept.1)
 
 -- ---- at every key
 
@@ -91,7 +91,7 @@ no_tie o lt = grind (arith, lt)
 kept_other : (t : ℕ) (k q : List Val) (keys : List (List Val)) (vs : List Version) → is_eq (key_cmp k q) ≡ false → IsKept (may_have t (k ∷ keys)) q vs → IsKept (may_have t keys) q vs
 kept_other t k q keys vs apart kept = record {
   some = kept.some;
-  indexed = λ u none. kept.indexed u (grind (arith, none, apart, tie_back k q));
+  writers = λ u none. kept.writers u (grind (arith, none, apart, tie_back k q));
 }
 
 kept_above : (t : ℕ) (k : List Val) (keys : List (List Val)) (es : Entries (List Version)) → below_all key_cmp k es ≡ true → AllKept (may_have t (k ∷ keys)) es → AllKept (may_have t keys) es
@@ -106,7 +106,7 @@ kept_left t k keys vs [] es is kept = kept
 kept_left t k keys vs (v ∷ new) es is kept = (
   record {
     some = refl;
-    indexed = λ u none. grind (arith, none, is, version_of-without u t vs);
+    writers = λ u none. grind (arith, none, is, version_of-without u t vs);
   },
   kept,
 )
@@ -138,16 +138,16 @@ pub may_have-wrote : (w : ℕ → List Val → Bool) (t : ℕ) (keys : List (Lis
 may_have-wrote w t keys es same kept = all_kept_more w (may_have t keys) es (λ u q none. grind (arith, nat_tests, none, same q)) kept
 
 kept_entry : (w : ℕ → List Val → Bool) (k : List Val) (vs : List Version) (es : Entries (List Version)) → ((u : ℕ) → w u k ≡ false → version_of u vs ≡ None) → AllKept w es → AllKept w (and_entry k (unless_empty vs) es)
-kept_entry w k [] es indexed kept = kept
-kept_entry w k (v ∷ vs) es indexed kept = (record { some = refl; indexed = indexed }, kept)
+kept_entry w k [] es writers kept = kept
+kept_entry w k (v ∷ vs) es writers kept = (record { some = refl; writers = writers }, kept)
 
--- a transaction may be unindexed once its versions are gone
+-- nothing need be recorded of a transaction once its versions are gone
 pub kept_forgotten : (v w : ℕ → List Val → Bool) (t : ℕ) (es : Entries (List Version)) → ((u : ℕ) (q : List Val) → (u == t) ≡ false → w u q ≡ v u q) → AllKept v es → AllKept w (forgotten t es)
 kept_forgotten v w t [] same kept = tt
 kept_forgotten v w t (e ∷ es) same kept =
-    kept_entry w e.0 (without t e.1) (forgotten t es) (λ u none. grind (arith, none, version_of-without u t e.1, same u e.0, kept.0.indexed u))
+    kept_entry w e.0 (without t e.1) (forgotten t es) (λ u none. grind (arith, none, version_of-without u t e.1, same u e.0, kept.0.writers u))
     (kept_forgotten v w t es same kept.1)
 
 -- or had none
-pub kept_unlisted : (v w : ℕ → List Val → Bool) (t : ℕ) (es : Entries (List Version)) → ((u : ℕ) (q : List Val) → (u == t) ≡ false → w u q ≡ v u q) → ((q : List Val) → v t q ≡ false) → AllKept v es → AllKept w es
-kept_unlisted v w t es same none kept = all_kept_more v w es (λ u q unindexed. grind (arith, nat_tests, unindexed, same u q, none q)) kept
+pub kept_unrecorded : (v w : ℕ → List Val → Bool) (t : ℕ) (es : Entries (List Version)) → ((u : ℕ) (q : List Val) → (u == t) ≡ false → w u q ≡ v u q) → ((q : List Val) → v t q ≡ false) → AllKept v es → AllKept w es
+kept_unrecorded v w t es same none kept = all_kept_more v w es (λ u q none_of. grind (arith, nat_tests, none_of, same u q, none q)) kept

@@ -1,4 +1,4 @@
--- Steps through the entries of a table, of which the keys with rows are indexed.
+-- Steps through the entries of a table, of which the keys with rows are gathered.
 use Rattle.std.proofs.Common.{◌≡◌, ℕ, Bool, true, false, List, [], ◌∷◌, ◌++◌, map, Option, Some, None, is_some, refl, sym, subst, ap, ◌∙◌, append_assoc, append-nil, Bor}
 use Rattle.std.specs.Option.{option_copied}
 use Rattle.sky_val.specs.declared.val.Val.{Val}
@@ -14,7 +14,7 @@ abbrev pub keys_of : SnapshotView → Option ℕ → Entries (List Version) → 
 keys_of s own es = map (λ e. e.0) (rows_read s own es)
 
 -- keys were found, and others are to be found in the rest
-pub record AreListed (w : ℕ → List Val → Bool) (s : SnapshotView) (own : Option ℕ) (all rest : Entries (List Version)) (found : List (List Val)) : Type 0 where
+pub record AreGathered (w : ℕ → List Val → Bool) (s : SnapshotView) (own : Option ℕ) (all rest : Entries (List Version)) (found : List (List Val)) : Type 0 where
   pub whole : found ++ keys_of s own rest ≡ keys_of s own all
   pub kept : AllKept w rest
 
@@ -32,7 +32,7 @@ some_copied None = refl
 some_copied (Some x) = refl
 
 module _ (w : ℕ → List Val → Bool) (s : SnapshotView) (own : Option ℕ) (all : Entries (List Version)) where
-  pub begun : (rest : Entries (List Version)) (found : List (List Val)) → AllKept w all → rest ≡ all → found ≡ [] → AreListed w s own all rest found
+  pub begun : (rest : Entries (List Version)) (found : List (List Val)) → AllKept w all → rest ≡ all → found ≡ [] → AreGathered w s own all rest found
   begun rest found kept is none = record {
     whole = ap (λ keys. keys ++ keys_of s own rest) none ∙ ap (keys_of s own) is;
     kept = subst (AllKept w) (sym is) kept;
@@ -43,8 +43,8 @@ module _ (w : ℕ → List Val → Bool) (s : SnapshotView) (own : Option ℕ) (
       key_first q (read s own vs) (rows_read s own rest)
       ∙ ap (λ b. and_key b q (keys_of s own rest)) (ap is_some (sym (read_first w s own q vs rest kept)) ∙ is)
 
-  pub past_key : (before rest : Entries (List Version)) (found new : List (List Val)) (q : List Val) (vs : List Version) → AreListed w s own all before found → before ≡ (q, vs) ∷ rest
-      → is_some (read s (writer w own q) vs) ≡ true → new ≡ found ++ q ∷ [] → AreListed w s own all rest new
+  pub past_key : (before rest : Entries (List Version)) (found new : List (List Val)) (q : List Val) (vs : List Version) → AreGathered w s own all before found → before ≡ (q, vs) ∷ rest
+      → is_some (read s (writer w own q) vs) ≡ true → new ≡ found ++ q ∷ [] → AreGathered w s own all rest new
   past_key before rest found new q vs way first is pushed =
       let kept : AllKept w ((q, vs) ∷ rest) = subst (AllKept w) first way.kept in
       let whole : new ++ keys_of s own rest ≡ keys_of s own all =
@@ -53,8 +53,8 @@ module _ (w : ℕ → List Val → Bool) (s : SnapshotView) (own : Option ℕ) (
       ∙ ap (λ es. found ++ keys_of s own es) (sym first) ∙ way.whole in
       record { whole = whole; kept = kept.1 }
 
-  pub past_rowless : (before rest : Entries (List Version)) (found : List (List Val)) (q : List Val) (vs : List Version) → AreListed w s own all before found → before ≡ (q, vs) ∷ rest
-      → is_some (read s (writer w own q) vs) ≡ false → AreListed w s own all rest found
+  pub past_rowless : (before rest : Entries (List Version)) (found : List (List Val)) (q : List Val) (vs : List Version) → AreGathered w s own all before found → before ≡ (q, vs) ∷ rest
+      → is_some (read s (writer w own q) vs) ≡ false → AreGathered w s own all rest found
   past_rowless before rest found q vs way first is =
       let kept : AllKept w ((q, vs) ∷ rest) = subst (AllKept w) first way.kept in
       let whole : found ++ keys_of s own rest ≡ keys_of s own all =
@@ -62,5 +62,5 @@ module _ (w : ℕ → List Val → Bool) (s : SnapshotView) (own : Option ℕ) (
       ∙ ap (λ es. found ++ keys_of s own es) (sym first) ∙ way.whole in
       record { whole = whole; kept = kept.1 }
 
-  pub all_listed : (rest : Entries (List Version)) (found : List (List Val)) → AreListed w s own all rest found → rest ≡ [] → found ≡ keys_of s own all
-  all_listed rest found way over = sym (append-nil found) ∙ ap (λ es. found ++ keys_of s own es) (sym over) ∙ way.whole
+  pub all_gathered : (rest : Entries (List Version)) (found : List (List Val)) → AreGathered w s own all rest found → rest ≡ [] → found ≡ keys_of s own all
+  all_gathered rest found way over = sym (append-nil found) ∙ ap (λ es. found ++ keys_of s own es) (sym over) ∙ way.whole

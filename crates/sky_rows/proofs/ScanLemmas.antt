@@ -62,7 +62,7 @@ started w s own most after start es rest found kept is between none =
 
 -- what is read at the first key of the rest
 pub read_first : (w : ℕ → List Val → Bool) (s : SnapshotView) (own : Option ℕ) (q : List Val) (vs : List Version) (rest : Entries (List Version)) → AllKept w ((q, vs) ∷ rest) → read s (writer w own q) vs ≡ read s own vs
-read_first w s own q vs rest kept = ap (λ o. row_of (option_or o (newest_by (sees s) vs))) (own_version-writer w own q vs kept.0.indexed)
+read_first w s own q vs rest kept = ap (λ o. row_of (option_or o (newest_by (sees s) vs))) (own_version-writer w own q vs kept.0.writers)
 
 module _ (w : ℕ → List Val → Bool) (s : SnapshotView) (own : Option ℕ) (most : ℕ) (all : Entries (List Version)) where
   pub past_row : (before rest : Entries (List Version)) (found new : List (List Val)) (q row : List Val) (vs : List Version) → IsOnTheWay w s own most all before found → before ≡ (q, vs) ∷ rest

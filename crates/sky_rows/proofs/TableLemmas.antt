@@ -65,11 +65,11 @@ set_value-same k x (e ∷ es) found = grind (arith, found, set_value-same k x es
 -- each key is one of those that its versions' transactions wrote
 pub kept_at : (w : ℕ → List Val → Bool) (t : ℕ) (q : List Val) (es : Entries (List Version)) → AllKept w es → w t q ≡ false → version_of t (versions_at q es) ≡ None
 kept_at w t q [] kept none = refl
-kept_at w t q (e ∷ es) kept none = grind (arith, none, kept.0.indexed t, key_ties-is q e.0, kept_at w t q es kept.1)
+kept_at w t q (e ∷ es) kept none = grind (arith, none, kept.0.writers t, key_ties-is q e.0, kept_at w t q es kept.1)
 
--- more keys may be indexed
+-- more keys may be recorded
 kept_more : (v w : ℕ → List Val → Bool) (key : List Val) (vs : List Version) → ((t : ℕ) → w t key ≡ false → v t key ≡ false) → IsKept v key vs → IsKept w key vs
-kept_more v w key vs more kept = record { some = kept.some; indexed = λ t none. kept.indexed t (more t none) }
+kept_more v w key vs more kept = record { some = kept.some; writers = λ t none. kept.writers t (more t none) }
 
 pub all_kept_more : (v w : ℕ → List Val → Bool) (es : Entries (List Version)) → ((t : ℕ) (q : List Val) → w t q ≡ false → v t q ≡ false) → AllKept v es → AllKept w es
 all_kept_more v w [] more kept = tt
@@ -78,7 +78,7 @@ all_kept_more v w (e ∷ es) more kept = (kept_more v w e.0 e.1 (λ t. more t e.
 -- what both record of the entries
 pub kept_both : (v w : ℕ → List Val → Bool) (es : Entries (List Version)) → AllKept v es → AllKept w es → AllKept (λ t q. v t q && w t q) es
 kept_both v w [] both other = tt
-kept_both v w (e ∷ es) both other = (record { some = both.0.some; indexed = λ t none. grind (arith, none, both.0.indexed t, other.0.indexed t) }, kept_both v w es both.1 other.1)
+kept_both v w (e ∷ es) both other = (record { some = both.0.some; writers = λ t none. grind (arith, none, both.0.writers t, other.0.writers t) }, kept_both v w es both.1 other.1)
 
 kept_put : (w : ℕ → List Val → Bool) (k : List Val) (vs : List Version) (es : Entries (List Version)) → IsKept w k vs → AllKept w es → AllKept w (put k vs es)
 kept_put w k vs [] here kept = (here, tt)
@@ -91,8 +91,8 @@ kept_put w k vs (e ∷ es) here kept =
 
 -- a reader that hasn't written the key need not look for its own version
 pub own_version-writer : (w : ℕ → List Val → Bool) (own : Option ℕ) (q : List Val) (vs : List Version) → ((t : ℕ) → w t q ≡ false → version_of t vs ≡ None) → own_version (writer w own q) vs ≡ own_version own vs
-own_version-writer w None q vs indexed = refl
-own_version-writer w (Some t) q vs indexed = grind (arith, indexed t)
+own_version-writer w None q vs writers = refl
+own_version-writer w (Some t) q vs writers = grind (arith, writers t)
 
 pub read-writer : (w : ℕ → List Val → Bool) (s : SnapshotView) (own : Option ℕ) (q : List Val) (es : Entries (List Version)) (vs : List Version) → AllKept w es → Some vs ≡ at q es → read s (writer w own q) vs ≡ read s own (versions_at q es)
 read-writer w s own q es vs kept found =
@@ -121,15 +121,15 @@ some-with : (t : ℕ) (row : Option (List Val)) (vs : List Version) → unless_e
 some-with t row [] = refl
 some-with t row (v ∷ vs) = grind arith
 
--- once the key is indexed, the transaction may write it
+-- once the key is recorded, the transaction may write it
 pub kept_written : (v w : ℕ → List Val → Bool) (t : ℕ) (key : List Val) (row : Option (List Val)) (es : Entries (List Version)) → w t key ≡ true → ((u : ℕ) (q : List Val) → w u q ≡ false → v u q ≡ false) → AllKept v es → AllKept w (written t key row es)
-kept_written v w t key row es indexed more kept =
+kept_written v w t key row es recorded more kept =
     kept_put w key (with_version t row (versions_at key es)) es (record {
       some = some-with t row (versions_at key es);
-      indexed = λ u none. grind (arith, nat_tests, indexed, none, version_of-with u t row (versions_at key es), kept_at v u key es kept (more u key none));
+      writers = λ u none. grind (arith, nat_tests, recorded, none, version_of-with u t row (versions_at key es), kept_at v u key es kept (more u key none));
     }) (all_kept_more v w es more kept)
 
 pub kept_either : {U E : Type 0} (v w : ℕ → List Val → Bool) (t : ℕ) (key : List Val) (row : Option (List Val)) (es new : Entries (List Version)) (r : Result U E)
     → w t key ≡ true → ((u : ℕ) (q : List Val) → w u q ≡ false → v u q ≡ false) → OnOk r (new ≡ written t key row es) → OnErr r (new ≡ es) → AllKept v es → AllKept w new
-kept_either v w t key row es new (Ok _) indexed more ok err kept = subst (AllKept w) (sym ok) (kept_written v w t key row es indexed more kept)
-kept_either v w t key row es new (Err _) indexed more ok err kept = subst (AllKept w) (sym err) (all_kept_more v w es more kept)
+kept_either v w t key row es new (Ok _) recorded more ok err kept = subst (AllKept w) (sym ok) (kept_written v w t key row es recorded more kept)
+kept_either v w t key row es new (Err _) recorded more ok err kept = subst (AllKept w) (sym err) (all_kept_more v w es more kept)

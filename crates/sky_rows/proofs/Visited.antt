@@ -50,17 +50,17 @@ among slots q p there (suc n) i from to = elim (i == p) as (λ b. (i == p) ≡ b
     later (Some k) tied = ap (λ b. is_at (key_cmp q) k || b) tied ∙ or_yes (is_at (key_cmp q) k)
 
 -- each key is at one of all places
-all_listed : (t m end : ℕ) (slots : Slab Slot) (older : OlderView) → ((p : ℕ) → key_at slots p ≢ None → p < end) → end ≤ m → (es : Places) → AreThere slots es → AllKept (λ _ _. true) (all_versions older (rows_of slots es))
+all_at_places : (t m end : ℕ) (slots : Slab Slot) (older : OlderView) → ((p : ℕ) → key_at slots p ≢ None → p < end) → end ≤ m → (es : Places) → AreThere slots es → AllKept (λ _ _. true) (all_versions older (rows_of slots es))
     → AllKept (may_have t (keys_from slots 0 m)) (all_versions older (rows_of slots es))
-all_listed t m end slots older above room [] there kept = tt
-all_listed t m end slots older above room (e ∷ es) there kept =
+all_at_places t m end slots older above room [] there kept = tt
+all_at_places t m end slots older above room (e ∷ es) there kept =
     let within : e.1 < end = above e.1 (λ none. let both : None ≡ Some e.0 = sym none ∙ there.0 in absurd (cc both)) in
     let tied = among slots e.0 e.1 there.0 m 0 (omega arith) (omega arith) in (
       record {
         some = kept.0.some;
-        indexed = λ u none. let both : true ≡ false = sym (or_yes (not (u == t))) ∙ ap (λ b. not (u == t) || b) (sym tied) ∙ none in absurd (cc both);
+        writers = λ u none. let both : true ≡ false = sym (or_yes (not (u == t))) ∙ ap (λ b. not (u == t) || b) (sym tied) ∙ none in absurd (cc both);
       },
-      all_listed t m end slots older above room es there.2 kept.1,
+      all_at_places t m end slots older above room es there.2 kept.1,
     )
 
 -- places were visited, from none up to one
@@ -74,7 +74,7 @@ pub none_visited : (t end : ℕ) (older : OlderView) (rows : RowsView) → ((p :
     → IsVisited t rows (all_versions older (rows_in rows)) older rows 0 end
 none_visited t end older rows above there kept own = record {
   later = λ n from. refl;
-  kept = λ m room. all_listed t m end rows.slots older above (omega arith) rows.places there kept;
+  kept = λ m room. all_at_places t m end rows.slots older above (omega arith) rows.places there kept;
   same = refl;
   own = own;
 }

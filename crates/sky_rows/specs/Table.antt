@@ -15,7 +15,7 @@ pub record TableView : Type 0 where
   pub versions : Entries (List Version)
   pub places : Places
 
--- where a key is found, if it has a version
+-- the place of a key, if it has a version
 abbrev pub place_in : TableView → List Val → Option ℕ
 place_in table key = place_at table.places key
 

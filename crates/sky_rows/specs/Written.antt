@@ -33,7 +33,7 @@ writer wrote (Some t) key = if wrote t key then Some t else None
 -- a key has versions, and each is of a transaction that may have written the key
 pub record IsKept (wrote : ℕ → List Val → Bool) (key : List Val) (vs : List Version) : Type 0 where
   pub some : unless_empty vs ≡ Some vs
-  pub indexed : (t : ℕ) → wrote t key ≡ false → version_of t vs ≡ None
+  pub writers : (t : ℕ) → wrote t key ≡ false → version_of t vs ≡ None
 
 -- the same, of each key
 abbrev pub AllKept : (ℕ → List Val → Bool) → Entries (List Version) → Type 0

@@ -39,8 +39,8 @@ pub(crate) fn log_own(
     Ok(())
 }
 
-/// Lists the key among those that the transaction wrote, or logs it, if the transaction has the log or can have it.
-pub(crate) fn list_or_log(
+/// Indexes the key among those that the transaction wrote, or logs it, if the transaction has the log or can have it.
+pub(crate) fn index_or_log(
     written: &mut Written,
     log: &mut Option<Log>,
     alloc: Global,
@@ -52,7 +52,7 @@ pub(crate) fn list_or_log(
     ensures kept { (t : ℕ) (q : List Val) → wrote written.new t q ≡ false → wrote written.old t q ≡ false }
     ensures kept_log { (t : ℕ) (q : List Val) → logged log.new t q ≡ false → (wrote written.old t q && logged log.old t q) ≡ false }
 {
-    if written.unlist(txid) {
+    if written.unindex(txid) {
         return begin(log, alloc, txid, key);
     }
     written.add(alloc, txid, &key)?;

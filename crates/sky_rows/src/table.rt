@@ -14,7 +14,7 @@ ghost use Rattle.sky_rows.specs.Kept.{all_versions, AreOwn};
 ghost use Rattle.sky_rows.specs.Rows.{rows_in};
 
 use crate::kept::Standing;
-use crate::log::{Log, drop_below, list_or_log, log_own, take_logged};
+use crate::log::{Log, drop_below, index_or_log, log_own, take_logged};
 use crate::older::Older;
 use crate::rows::Rows;
 use crate::written::Written;
@@ -41,7 +41,7 @@ pub struct Table {
     // key, and `forget` visits the keys in the log if it has that transaction's, else all.
     written: Written,
 
-    // The keys of the one transaction that `written` doesn't list.
+    // The keys of the one transaction that `written` doesn't index.
     log: Option<Log>,
 }
 
@@ -226,9 +226,9 @@ impl Table {
             .put(&mut self.older, place, key, Version { txid, row }, again)
     }
 
-    /// The same for a transaction that ends with it while no other one runs. The index lists no key of
-    /// it, and forgets those of all before it, as `prune` does: if one of these does run, what it wrote
-    /// is then looked for in the versions, and `forget` goes through all keys for it.
+    /// The same for a transaction that ends with it while no other one runs. No key of it is indexed, and
+    /// those of all before it are forgotten, as by `prune`: if one of these does run, what it wrote is
+    /// then looked for in the versions, and `forget` goes through all keys for it.
     pub fn write_last_at(
         &mut self,
         place: Option<usize>,
@@ -277,7 +277,7 @@ impl Table {
             return Ok(false);
         }
         let logged = key.copy(self.alloc)?;
-        list_or_log(&mut self.written, &mut self.log, self.alloc, txid, logged)?;
+        index_or_log(&mut self.written, &mut self.log, self.alloc, txid, logged)?;
         let version = Version { txid, row };
         self.rows
             .put(&mut self.older, place, key, version, at.has_own)?;

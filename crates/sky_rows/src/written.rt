@@ -39,7 +39,7 @@ impl Written {
 
     /// From now on the transaction's keys aren't indexed, unless some are already, or another transaction that wasn't pruned
     /// is unindexed. Answers whether this begins here.
-    pub(crate) fn unlist(&mut self, txid: u64) -> bool
+    pub(crate) fn unindex(&mut self, txid: u64) -> bool
         ensures none { (q : List Val) → result ≡ true → wrote self.old txid q ≡ false }
         ensures unindexed { (q : List Val) → result ≡ true → wrote self.new txid q ≡ true }
         ensures kept { (t : ℕ) (q : List Val)
@@ -85,7 +85,7 @@ impl Written {
         }
     }
 
-    /// Lists the key among those that the transaction wrote, and answers whether it may have been there already.
+    /// Indexes the key among those that the transaction wrote, and answers whether it may have been there already.
     /// Nothing is forgotten, not after an error either.
     pub(crate) fn add(&mut self, alloc: Global, txid: u64, key: &Key) -> Result<bool, NoMemory>
         ensures again { IfOk result (λ again. again ≡ wrote self.old txid key.now) }

@@ -1,4 +1,3 @@
-use Rattle.std.proofs.Common.{◌∙◌, ap, ◌++◌, ◌∷◌, []}
 use Rattle.sky_rows.proofs.Standing.{key-pushed}
 use Rattle.sky_rows.proofs.log.begin.Goals as goal
 

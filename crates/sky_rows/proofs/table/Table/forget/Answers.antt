@@ -5,7 +5,7 @@ use Rattle.sky_rows.specs.Table.{TableView}
 use Rattle.sky_rows.specs.Kept.{all_versions}
 use Rattle.sky_rows.specs.Written.{AllKept, wrote, logged}
 use Rattle.sky_rows.proofs.TableLemmas.{all_kept_more}
-use Rattle.sky_rows.proofs.ForgetLemmas.{may_have, wrote-indexed, may_have-wrote, kept_forgotten, kept_unlisted, forgotten-none}
+use Rattle.sky_rows.proofs.ForgetLemmas.{may_have, wrote-indexed, may_have-wrote, kept_forgotten, kept_unrecorded, forgotten-none}
 use Rattle.sky_rows.proofs.table.Table.forget.Goals as goal
 
 pub forget_logged-requires-clause-kept : goal.forget_logged-requires-clause-kept
@@ -61,7 +61,7 @@ invariant_of-self-in-Some-take c = (
 pub invariant_of-self-in_default-take : goal.invariant_of-self-in_default-take
 invariant_of-self-in_default-take c = (
   c.self.invariant.0,
-  kept_unlisted (wrote c.self.inside.written) (wrote c.take.new.self) c.args.txid (all_versions c.self.inside.older (rows_in c.self.inside.rows)) c.in_default-take.ensures.others
+  kept_unrecorded (wrote c.self.inside.written) (wrote c.take.new.self) c.args.txid (all_versions c.self.inside.older (rows_in c.self.inside.rows)) c.in_default-take.ensures.others
       (λ q. wrote-indexed c.self.inside.written c.args.txid q None (sym c.tells.ensures ∙ c.if-not-tells.false) c.in_default-take.ensures.taken) c.self.invariant.1,
   subst (λ log. AllKept (logged log) (all_versions c.self.inside.older (rows_in c.self.inside.rows))) (sym c.in_default.ensures.none) c.self.invariant.2,
 )

@@ -5,7 +5,7 @@ use Rattle.sky_rows.specs.Table.{TableView}
 use Rattle.sky_rows.specs.Kept.{versions_of, all_versions, AreOwn}
 use Rattle.sky_rows.specs.Written.{wrote}
 use Rattle.sky_rows.proofs.PlaceLemmas.{first_kept}
-use Rattle.sky_rows.proofs.KeyLemmas.{AreListed, some_copied, begun, past_key, past_rowless, all_listed}
+use Rattle.sky_rows.proofs.KeyLemmas.{AreGathered, some_copied, begun, past_key, past_rowless, all_gathered}
 use Rattle.sky_rows.proofs.table.Table.keys.Goals as goal
 
 pub loop-key-init : goal.loop-key-init
@@ -15,7 +15,7 @@ loop-key-init c =
     let rows = c.self.inside.rows in
     let items = rows_of rows.slots c.into_iter-key-iterator.result in
     let all : items ≡ rows_in rows = ap (rows_of rows.slots) (c.into_iter-key-iterator.ensures.into_iter_gives.0 ∙ c.places-key-items.ensures) in (
-      subst (λ (t : TableView). AreListed w c.args.snapshot.now c.args.own t.versions (all_versions older items) c.new-found.result.items) c.self.view_is
+      subst (λ (t : TableView). AreGathered w c.args.snapshot.now c.args.own t.versions (all_versions older items) c.new-found.result.items) c.self.view_is
           (begun w c.args.snapshot.now c.args.own (all_versions older (rows_in rows)) (all_versions older items) c.new-found.result.items
           c.self.invariant.1 (ap (all_versions older) all) c.new-found.ensures.items),
       subst (AreOwn older) (sym all) c.self.invariant.0,
@@ -53,4 +53,4 @@ loop-key-preserved c =
     )
 
 pub returns : goal.returns
-returns c = all_listed _ _ _ _ _ _ c.loop-key.invariant.0 (ap (λ es. all_versions c.self.inside.older (rows_of c.self.inside.rows.slots es)) c.in-None.ensures.steps.0)
+returns c = all_gathered _ _ _ _ _ _ c.loop-key.invariant.0 (ap (λ es. all_versions c.self.inside.older (rows_of c.self.inside.rows.slots es)) c.in-None.ensures.steps.0)
