@@ -9,10 +9,10 @@ use Rattle.std.specs.Map.{keys_of, values_of}
 use Rattle.std.specs.BTreeSet.{BTreeSet}
 use Rattle.std.proofs.lemmas.Map.Keys.{sorted_head, sorted_tail}
 use Rattle.pgq_retry.specs.declared.retry.Retry.{Retry}
-use Rattle.pgq_retry.specs.Retries.{put_by, sorted_by, by_due, is_due}
+use Rattle.pgq_retry.specs.Retries.{put_by, sorted_by, by_due}
 use Rattle.pgq_retry.specs.Kept.{Entries, InOrder, due_cmp, due_key, IsListed}
 use Rattle.pgq_retry.proofs.Lists.{any-map, or-swapped}
-use Rattle.pgq_retry.proofs.Orders.{less_is, due_cmp-IsTotalOrder, due_ties-is, due_first, due_before, first_is_due, same_sorted, all_above}
+use Rattle.pgq_retry.proofs.Orders.{less_is, due_cmp-IsTotalOrder, due_ties-is, due_first, due_before, same_sorted, all_above}
 
 module _ {X : Type 0} (moment : X → ℤ) where
   -- sorting drops none and adds none
@@ -103,7 +103,7 @@ listed_is es dues kept = same_sorted due_cmp due_cmp-IsTotalOrder due_ties-is du
     ∙ sym (any-sorted (λ e. e.1.due) (λ e. eq_by_cmp due_cmp q (due_key e)) es)
     ∙ sym (any-map due_key (eq_by_cmp due_cmp q) (sorted es)))
 
--- ---- the first, and those that are due
+-- ---- the first, and what is due
 
 first_in : (es : Entries) → option_map (λ k. k.1) (slice_get (map due_key es) 0) ≡ option_map (λ e. e.0) (slice_get es 0)
 first_in [] = refl
@@ -115,22 +115,3 @@ first_place es dues kept = ap (λ ks. option_map (λ k. k.1) (slice_get ks 0)) (
 -- whether a key is due
 abbrev pub key_due : ℤ → ℤ × ℕ → Bool
 key_due moment k = int_le k.0 moment
-
-pub any_due : (moment : ℤ) (es : Entries) (dues : BTreeSet (ℤ × ℕ)) → IsListed es dues → list_any (key_due moment) dues.keys ≡ list_any (is_due moment) (values_of es)
-any_due moment es dues kept =
-    ap (list_any (key_due moment)) (listed_is es dues kept)
-    ∙ any-map due_key (key_due moment) (sorted es)
-    ∙ any-sorted (λ e. e.1.due) (λ e. is_due moment e.1) es
-    ∙ sym (any-map (λ e. e.1) (is_due moment) es)
-
--- after one that isn't due yet none is
-none_later : (moment : ℤ) (k : ℤ × ℕ) (ks : List (ℤ × ℕ)) → int_le k.0 moment ≡ false → AllByRecursion (λ q. due_cmp k q ≡ Less) ks → list_any (key_due moment) ks ≡ false
-none_later moment k [] not_due above = refl
-none_later moment k (q ∷ ks) not_due above =
-    ap (λ b. b || list_any (key_due moment) ks) (first_is_due k q moment above.0 not_due) ∙ none_later moment k ks not_due above.1
-
-pub any_is_first : (moment : ℤ) (k : ℤ × ℕ) (ks : List (ℤ × ℕ)) → IsStrictlySortedBy due_cmp (k ∷ ks) → list_any (key_due moment) (k ∷ ks) ≡ int_le k.0 moment
-any_is_first moment k ks rise = elim (int_le k.0 moment) as (λ t. int_le k.0 moment ≡ t → (t || list_any (key_due moment) ks) ≡ t) [
-  | true ↦ λ _. refl
-  | false ↦ λ not_due. none_later moment k ks not_due (sorted_head due_cmp k ks rise)
-] refl

@@ -1,8 +1,7 @@
 -- Worked lists of those that wait, by computation.
 use Rattle.std.proofs.Common.{◌≡◌, ℕ, ℤ, pos, neg_ℤ, true, false, List, [], ◌∷◌, Some, None, refl}
-use Rattle.std.specs.List.{list_any}
 use Rattle.pgq_retry.specs.declared.retry.Retry.{Retry}
-use Rattle.pgq_retry.specs.Retries.{is_asked, count_of, is_due, by_due, due_now, without, left_by, without_sub}
+use Rattle.pgq_retry.specs.Retries.{is_asked, count_of, by_due, due_now, without, left_by, without_sub}
 
 -- a subscription's event of an id, which waits until a moment
 abbrev waits : ℕ → ℕ → ℤ → Retry
@@ -52,14 +51,8 @@ sorted_otherwise = refl
 too_soon : due_now (pos 9) 10 list ≡ []
 too_soon = refl
 
-none_too_soon : list_any (is_due (pos 9)) list ≡ false
-none_too_soon = refl
-
 at_its_moment : due_now (pos 10) 10 list ≡ soon ∷ []
 at_its_moment = refl
-
-one_at_its_moment : list_any (is_due (pos 10)) list ≡ true
-one_at_its_moment = refl
 
 three_due : due_now (pos 20) 10 list ≡ soon ∷ one ∷ other ∷ []
 three_due = refl

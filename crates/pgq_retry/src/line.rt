@@ -1,5 +1,4 @@
-ghost use Rattle.std.specs.Prelude.{◌≡◌, ◌++◌, ◌∷◌, ◌<◌, ◌^◌, [], true, false, length, min, filter, slice_get, option_map, IfSome, IfNone, OnOk, OnErr};
-ghost use Rattle.std.specs.List.{list_any};
+ghost use Rattle.std.specs.Prelude.{◌≡◌, ◌++◌, ◌∷◌, ◌<◌, ◌^◌, [], length, min, filter, slice_get, option_map, IfSome, IfNone, OnOk, OnErr};
 ghost use Rattle.std.specs.Map.{values_of, remove_entry};
 ghost use Rattle.std.specs.BTreeMap.{is_at};
 ghost use Rattle.std.specs.Ordering.{nat_cmp};
@@ -100,16 +99,6 @@ impl Line {
     {
         let (_, place) = self.dues.first()?;
         Some(*place)
-    }
-
-    /// Whether any is due.
-    pub(crate) fn is_due(&self, now: i64) -> bool
-        ensures { result ≡ list_any (is_due now) (values_of self.now) }
-    {
-        match self.dues.first() {
-            Some((due, _)) => *due <= now,
-            None => false,
-        }
     }
 
     /// How many are due, or `most` if they are more.

@@ -1,5 +1,4 @@
 ghost use Rattle.std.specs.Prelude.{◌≡◌, ◌++◌, ◌∷◌, [], false, length, min, filter, IfOk, IfSome, IfNone, OnOk, OnErr};
-ghost use Rattle.std.specs.List.{list_any};
 ghost use Rattle.std.specs.Map.{values_of};
 ghost use Rattle.pgq_retry.specs.Retries.{is_asked, count_of, is_due, by_due, without, without_sub};
 ghost use Rattle.pgq_retry.specs.Kept.{AreBelow};
@@ -56,13 +55,6 @@ impl Placed {
             Some(places) => places.len(),
             None => 0,
         }
-    }
-
-    /// Whether any is due.
-    pub(crate) fn is_due(&self, now: i64) -> bool
-        ensures { result ≡ list_any (is_due now) (values_of self.now) }
-    {
-        self.line.is_due(now)
     }
 
     /// How many are due, or `most` if they are more.

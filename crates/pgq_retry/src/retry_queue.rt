@@ -1,6 +1,5 @@
-ghost use Rattle.std.specs.List.{list_any};
 ghost use Rattle.std.specs.Prelude.{◌≡◌, ◌++◌, ◌∷◌, [], not, if◌then◌else◌, length, IfOk, OnErr, IfSome, IfNone};
-ghost use Rattle.pgq_retry.specs.Retries.{is_asked, count_of, is_due, by_due, due_now, left_by, without, without_sub};
+ghost use Rattle.pgq_retry.specs.Retries.{is_asked, count_of, by_due, due_now, left_by, without, without_sub};
 
 use crate::placed::Placed;
 use crate::retry::Retry;
@@ -48,13 +47,6 @@ impl RetryQueue {
         ensures { result ≡ count_of sub self.now }
     {
         self.placed.count(sub)
-    }
-
-    /// Whether any is due.
-    pub fn is_due(&self, now: i64) -> bool
-        ensures { result ≡ list_any (is_due now) self.now }
-    {
-        self.placed.is_due(now)
     }
 
     /// How many are due, or `most` if they are more.

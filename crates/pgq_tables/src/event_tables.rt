@@ -1,4 +1,4 @@
-ghost use Rattle.std.specs.Prelude.{◌≡◌, ◌==◌, ◌<◌, ◌≤◌, ◌+◌, ◌-◌, [], Some, None, true, IfOk, IfSome, OnOk, OnErr, nat_lt, length, find, is_some, slice_get, slice_index_or};
+ghost use Rattle.std.specs.Prelude.{◌≡◌, ◌==◌, ◌<◌, ◌≤◌, ◌+◌, ◌-◌, [], Some, None, true, IfOk, IfSome, OnOk, OnErr, nat_lt, length, is_some, slice_get, slice_index_or};
 ghost use Rattle.std.specs.Borrow.{sem};
 ghost use Rattle.std.specs.Io.BufRead.{Rests};
 ghost use Rattle.std.specs.List.{list_any};
@@ -251,13 +251,6 @@ impl EventTables {
         let index = looked.first;
         looked.first += 1;
         Some(self.tables[looked.table].by_txid(index))
-    }
-
-    /// The first of these transactions that has an event in some table. No event is looked at.
-    pub fn first_writer(&self, txids: &[u64]) -> Option<u64>
-        ensures { result ≡ find (λ t. list_any (λ s. s.event.ev_txid == t) (by_age self.now.tables)) txids.now }
-    {
-        txids.iter().copied().find(|txid| self.has_writer(*txid))
     }
 
     /// Whether a transaction has an event in some table. No event is looked at.

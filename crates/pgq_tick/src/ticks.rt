@@ -2,7 +2,6 @@ ghost use Rattle.std.specs.Prelude.{◌≡◌, ◌↔◌, ◌+◌, ◌^◌, ◌<
 ghost use Rattle.sky_model.specs.Queues.{tick, newest_tick};
 ghost use Rattle.sky_model.specs.StepQueue.{due_of, is_due_after, last_two};
 ghost use Rattle.sky_model.specs.Queues.{id_of};
-ghost use Rattle.sky_txid.specs.Snapshot.{sees};
 ghost use Rattle.sky_model.specs.Moment.{IsTime};
 ghost use Rattle.sky_model.specs.Queues.{is_above, ticks_above};
 ghost use Rattle.pgq_tick.specs.Ticks.{IsSpan, AreTicks, least_above};
@@ -62,13 +61,6 @@ impl Tick {
         ensures { result ≡ self.now.id }
     {
         self.id
-    }
-
-    /// Whether a transaction had ended when the tick was made.
-    pub fn sees(&self, txid: u64) -> bool
-        ensures { result ≡ sees self.now.snapshot txid }
-    {
-        self.snapshot.sees(txid)
     }
 
     /// The snapshot at it.
