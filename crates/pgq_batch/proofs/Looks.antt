@@ -1,33 +1,24 @@
 -- How looks are counted, and what one at an index by transaction tells.
 use Rattle.std.proofs.Common.{◌≡◌, ℕ, ◌+◌, ◌-◌, ◌^◌, ◌/◌, ◌<◌, ◌≤◌, zero, suc, Bool, List, [], ◌∷◌, Some, length, filter, get_or, slice_get, nat_lt, sym, ap, subst, ◌∙◌, arith}
-use Rattle.std.proofs.lemmas.Bool.{cond_both, ltb-false}
+use Rattle.std.proofs.lemmas.Bool.{cond_both}
 use Rattle.pgq_tables.specs.Tables.{Stored}
 use Rattle.pgq_tables.specs.Order.{by_txid}
-use Rattle.pgq_tables.specs.Views.{one_more, so_many_more}
+use Rattle.pgq_tables.specs.Views.{so_many_more}
 use Rattle.pgq_batch.specs.Bound.{digits}
+use Rattle.pgq_batch.specs.Looked.{count_below}
 use Rattle.pgq_batch.proofs.Digits.{digits-half}
 use Rattle.pgq_batch.proofs.Keyed.{first_below}
 use Rattle.pgq_batch.proofs.ByTxid.{txid_of, Rises-by_txid, length-by_txid, passing-by_txid}
 
-pub one_more-upper : (reads : ℕ) → one_more reads ≤ reads + 1
-one_more-upper reads = cond_both (nat_lt reads (2 ^ 64 - 1)) (reads + 1) reads (λ n. n ≤ reads + 1) (λ _. omega arith) (λ _. omega arith)
-
-pub one_more-lower : (reads : ℕ) → reads ≤ one_more reads
-one_more-lower reads = cond_both (nat_lt reads (2 ^ 64 - 1)) (reads + 1) reads (λ n. reads ≤ n) (λ _. omega arith) (λ _. omega arith)
-
-pub one_more-counts : (reads : ℕ) → one_more reads < 2 ^ 64 - 1 → reads + 1 ≤ one_more reads
-one_more-counts reads =
-    cond_both (nat_lt reads (2 ^ 64 - 1)) (reads + 1) reads (λ n. n < 2 ^ 64 - 1 → reads + 1 ≤ n) (λ _ _. omega arith)
-    (λ past less. let most = ltb-false reads (2 ^ 64 - 1) past in omega arith)
-
 -- so many looks at once
 pub so_many-upper : (many reads : ℕ) → so_many_more many reads ≤ reads + many
-so_many-upper many reads =
-    cond_both (nat_lt (reads + many) (2 ^ 64 - 1)) (reads + many) (2 ^ 64 - 1) (λ n. n ≤ reads + many) (λ _. omega arith) (λ past. ltb-false (reads + many) (2 ^ 64 - 1) past)
+so_many-upper many reads = omega arith
+
+pub so_many-lower : (many reads : ℕ) → reads ≤ so_many_more many reads
+so_many-lower many reads = omega arith
 
 pub so_many-counts : (many reads : ℕ) → so_many_more many reads < 2 ^ 64 - 1 → reads + many ≤ so_many_more many reads
-so_many-counts many reads =
-    cond_both (nat_lt (reads + many) (2 ^ 64 - 1)) (reads + many) (2 ^ 64 - 1) (λ n. n < 2 ^ 64 - 1 → reads + many ≤ n) (λ _ _. omega arith) (λ _ less. omega arith)
+so_many-counts many reads less = omega arith
 
 -- what is got is there
 pub got : {X : Type 0} (xs : List X) (i : ℕ) (x d : X) → slice_get xs i ≡ Some x → get_or xs i d ≡ x
@@ -37,29 +28,29 @@ got (y ∷ ys) (suc i) x d is = got ys i x d is
 
 -- by transaction, one is below a number if it is one of the first so many, as many as are below
 pub is_below : (list : List Stored) (txid i : ℕ) (x : ℕ × Stored) → i < length list → slice_get (by_txid list) i ≡ Some x
-    → nat_lt x.1.event.ev_txid txid ≡ nat_lt i (length (filter (λ s. nat_lt s.event.ev_txid txid) list))
+    → nat_lt x.1.event.ev_txid txid ≡ nat_lt i (count_below txid list)
 is_below list txid i x within is =
     ap (λ y. nat_lt (txid_of y) txid) (sym (got (by_txid list) i x x is))
     ∙ first_below txid_of 0 txid i (by_txid list) x (Rises-by_txid list) (subst (λ n. i < n) (sym (length-by_txid list)) within)
     ∙ ap (nat_lt i) (passing-by_txid (λ s. nat_lt s.event.ev_txid txid) list)
 
 -- a look leaves one of the halves, and one digit less
-pub upper_half : (low high reads most : ℕ) → low < high → reads + digits (high - low) ≤ most → one_more reads + digits (high - (low + (high - low) / 2 + 1)) ≤ most
+pub upper_half : (low high reads most : ℕ) → low < high → reads + digits (high - low) ≤ most → so_many_more 1 reads + digits (high - (low + (high - low) / 2 + 1)) ≤ most
 upper_half low high reads most some enough =
     let left : high - (low + (high - low) / 2 + 1) ≤ (high - low) / 2 = omega arith in
     let less = digits-half (high - (low + (high - low) / 2 + 1)) (high - low) (omega arith) left in
-    let up = one_more-upper reads in
+    let up = so_many-upper 1 reads in
     omega arith
 
-pub lower_half : (low high reads most : ℕ) → low < high → reads + digits (high - low) ≤ most → one_more reads + digits (low + (high - low) / 2 - low) ≤ most
+pub lower_half : (low high reads most : ℕ) → low < high → reads + digits (high - low) ≤ most → so_many_more 1 reads + digits (low + (high - low) / 2 - low) ≤ most
 lower_half low high reads most some enough =
     let left : low + (high - low) / 2 - low ≤ (high - low) / 2 = omega arith in
     let less = digits-half (low + (high - low) / 2 - low) (high - low) (omega arith) left in
-    let up = one_more-upper reads in
+    let up = so_many-upper 1 reads in
     omega arith
 
-pub no_less : (before reads : ℕ) → before ≤ reads → before ≤ one_more reads
-no_less before reads le = let down = one_more-lower reads in omega arith
+pub no_less : (before reads : ℕ) → before ≤ reads → before ≤ so_many_more 1 reads
+no_less before reads le = let down = so_many-lower 1 reads in omega arith
 
 pub below_all : (q : Stored → Bool) (list : List Stored) → length (filter q list) ≤ length list
 below_all q [] = omega arith

@@ -1,5 +1,5 @@
 -- What contracts see of event tables.
-use Rattle.std.specs.Prelude.{ℕ, ◌+◌, ◌^◌, ◌-◌, nat_lt, if◌then◌else◌}
+use Rattle.std.specs.Prelude.{ℕ, ◌+◌, ◌^◌, ◌-◌, nat_lt, min, if◌then◌else◌}
 use Rattle.pgq_tables.specs.Tables.{Tables}
 
 -- the tables, and how many stored events were ever looked at, as far as that can be counted
@@ -17,10 +17,6 @@ pub record LookedView : Type 0 where
 abbrev pub one_lent : LookedView → LookedView
 one_lent l = if nat_lt l.first l.end then record l { first = l.first + 1 } else l
 
--- a count of looks after one more: it stays at its last value
-abbrev pub one_more : ℕ → ℕ
-one_more reads = if nat_lt reads (2 ^ 64 - 1) then reads + 1 else reads
-
--- or after so many more
+-- a count of looks after so many more: it stops at its last value
 abbrev pub so_many_more : ℕ → ℕ → ℕ
-so_many_more many reads = if nat_lt (reads + many) (2 ^ 64 - 1) then reads + many else 2 ^ 64 - 1
+so_many_more many reads = reads + min many (2 ^ 64 - 1 - reads)

@@ -5,7 +5,7 @@ ghost use Rattle.std.specs.List.{list_any};
 ghost use Rattle.sky_val.specs.declared.event.Event.{Event};
 ghost use Rattle.pgq_tables.specs.Tables.{Tables, full_event, new_tables, with_stored, with_dead, with_pending, without_pending, with_switch, with_second_step, next_table, by_age};
 ghost use Rattle.pgq_tables.specs.Order.{by_txid};
-ghost use Rattle.pgq_tables.specs.Views.{TablesView, one_more, so_many_more, one_lent};
+ghost use Rattle.pgq_tables.specs.Views.{TablesView, so_many_more, one_lent};
 
 use crate::looked::Looked;
 use crate::stored::{PlainEvent, Stored};
@@ -218,7 +218,7 @@ impl EventTables {
         requires table { table < length self.old.tables.lists }
         requires index { index < length (slice_index_or self.old.tables.lists table []) }
         ensures event { slice_get (by_txid (slice_index_or self.old.tables.lists table [])) index ≡ Some (result.0, result.1.now) }
-        ensures* counted { sem 𝓛 (Rests the_row self.entry (λ t. t ≡ record self.old { reads = one_more self.old.reads })) }
+        ensures* counted { sem 𝓛 (Rests the_row self.entry (λ t. t ≡ record self.old { reads = so_many_more 1 self.old.reads })) }
     {
         self.reads = self.reads.saturating_add(1);
         self.tables[table].by_txid(index)

@@ -4,12 +4,13 @@ use Rattle.pgq_tables.specs.Tables.{Stored, Tables}
 use Rattle.pgq_tables.specs.Order.{by_txid}
 use Rattle.pgq_tables.specs.Listed.{is_listed}
 use Rattle.pgq_tables.specs.Views.{TablesView}
+use Rattle.pgq_batch.specs.Looked.{count_below}
 use Rattle.pgq_batch.proofs.ByTxid.{length-by_txid}
-use Rattle.pgq_batch.proofs.Between.{below, below_len, listed_between, none_before, none_after, count_between}
+use Rattle.pgq_batch.proofs.Between.{below_len, listed_between, none_before, none_after, count_between}
 use Rattle.pgq_batch.proofs.Earliest.{has_id, earliest, IsEarliest, earlier, not_earlier, not_it, find-earliest, none_found, one_found, there, between-has_id, has_id-true, has_id-fails, has_id-other}
 use Rattle.pgq_batch.proofs.Keyed.{in_order_by, head_of}
 use Rattle.pgq_batch.proofs.ByTxid.{place_of}
-use Rattle.pgq_batch.proofs.Looks.{one_more-upper}
+use Rattle.pgq_batch.proofs.Looks.{so_many-upper}
 use Rattle.pgq_batch.proofs.table.first_with_id.Goals as goal
 use Rattle.pgq_batch.proofs.table.first_with_id.Goals.{then-id+then-is_listed+then-is_before, else-id, else-id-via-then-id+then-is_listed+else-is_before, else-id-via-then-id+else-is_listed, else-id-via-else-id}
 
@@ -47,7 +48,7 @@ loop-index-preserved c =
     let within : index < length list = let most = below_len c.args.cur.now.xmax list in let end = inv.4 in omega arith in
     let from_first : c.ends_between-start.result.0 ≤ index = c.loop-index.auto.index in
     let look : slice_get (by_txid list) index ≡ Some (place, stored) = ap (λ (ts : Tables). slice_get (by_txid (slice_index_or ts.lists c.args.table [])) index) (sym inv.0) ∙ c.by_txid.ensures.event in
-    let up = one_more-upper c.loop-index.tables.reads in
+    let up = so_many-upper 1 c.loop-index.tables.reads in
     let before = inv.2 in
     elim c.if-id.branch [
       | then-id+then-is_listed+then-is_before w ↦
@@ -100,7 +101,7 @@ returns-in_default-clause-found c =
     let list = slice_index_or c.args.tables.now.tables.lists c.args.table [] in
     let q = is_listed c.args.prev.now c.args.cur.now c.args.sub in
     let inv = c.loop-index.invariant in
-    let past : below c.args.cur.now.xmax list ≤ c.loop-index.index = let end = inv.4 in let test = c.loop-index-test.false in omega arith in
+    let past : count_below c.args.cur.now.xmax list ≤ c.loop-index.index = let end = inv.4 in let test = c.loop-index-test.false in omega arith in
     let all = none_after c.args.prev.now c.args.cur.now (has_id c.args.id q) c.loop-index.index list (between-has_id c.args.prev.now c.args.cur.now c.args.id q (listed_between c.args.prev.now c.args.cur.now c.args.sub c.ends_between-start.ensures.sound)) past in
     none_found list (earliest (has_id c.args.id q) list c.loop-index.index) c.loop-index.best c.in_default.is inv.1 ∙ sym (find-earliest c.args.id q list c.loop-index.index all)
 
@@ -128,7 +129,7 @@ returns-clause-found c =
     let list = slice_index_or c.args.tables.now.tables.lists c.args.table [] in
     let q = is_listed c.args.prev.now c.args.cur.now c.args.sub in
     let inv = c.loop-index.invariant in
-    let past : below c.args.cur.now.xmax list ≤ c.loop-index.index = let end = inv.4 in let test = c.loop-index-test.false in omega arith in
+    let past : count_below c.args.cur.now.xmax list ≤ c.loop-index.index = let end = inv.4 in let test = c.loop-index-test.false in omega arith in
     let all = none_after c.args.prev.now c.args.cur.now (has_id c.args.id q) c.loop-index.index list (between-has_id c.args.prev.now c.args.cur.now c.args.id q (listed_between c.args.prev.now c.args.cur.now c.args.sub c.ends_between-start.ensures.sound)) past in
     let look : slice_get (by_txid list) c.in-Some.index ≡ Some (c.by_txid-2.result.0, c.by_txid-2.result.1.now) = ap (λ (ts : Tables). slice_get (by_txid (slice_index_or ts.lists c.args.table [])) c.in-Some.index) (sym inv.0) ∙ c.by_txid-2.ensures.event in
     ap Some c.in_ok-event.ensures
@@ -145,5 +146,5 @@ returns-clause-upper c =
     let up = inv.2 in
     let read = inv.5 in
     let one = ap TablesView.reads c.by_txid-2.follows.holds-at-none in
-    let last = one_more-upper c.loop-index.tables.reads in
+    let last = so_many-upper 1 c.loop-index.tables.reads in
     omega arith

@@ -1,7 +1,7 @@
 use Rattle.std.proofs.Common.{◌≡◌, ◌+◌, ◌-◌, ◌*◌, ◌≤◌, [], length, slice_index_or}
 use Rattle.pgq_tables.specs.Listed.{is_listed}
 use Rattle.pgq_batch.specs.Bound.{digits}
-use Rattle.pgq_batch.proofs.Between.{below}
+use Rattle.pgq_batch.specs.Looked.{count_below}
 use Rattle.pgq_batch.proofs.Earliest.{has_id, earliest, IsEarliest}
 use Rattle.pgq_batch.proofs.table.first_with_id.Given as goal
 
@@ -12,6 +12,6 @@ invariant-loop-index l =
     (l.tables.tables ≡ l.fn.tables.tables)
     × IsEarliest list (earliest (has_id l.id (is_listed l.prev l.cur l.sub)) list l.index) l.best
     × (l.tables.reads ≤ l.fn.tables.reads + (2 * digits (length list) + (l.index - l.start)))
-    × (l.start ≡ below l.prev.xmin list)
-    × (l.end ≡ below l.cur.xmax list)
+    × (l.start ≡ count_below l.prev.xmin list)
+    × (l.end ≡ count_below l.cur.xmax list)
     × (l.index - l.start ≤ l.end - l.start)
