@@ -11,13 +11,10 @@ use Rattle.pgq_tables.specs.Order.{by_txid}
 use Rattle.pgq_tables.specs.Listed.{is_for, is_listed}
 use Rattle.pgq_tables.specs.Views.{TablesView}
 use Rattle.pgq_batch.specs.Bound.{digits, is_between}
+use Rattle.pgq_batch.specs.Looked.{count_below}
 use Rattle.pgq_batch.proofs.Keyed.{first_below, passing-cons, one_if}
 use Rattle.pgq_batch.proofs.ByTxid.{txid_of, Rises-by_txid, length-by_txid, passing-by_txid}
 use Rattle.pgq_batch.proofs.Looks.{got}
-
--- how many events of a table are below a transaction
-abbrev pub below : ℕ → List Stored → ℕ
-below txid list = length (filter (λ s. nat_lt s.event.ev_txid txid) list)
 
 -- ---- what isn't listed
 
@@ -72,20 +69,20 @@ Between from to q = ((s : Stored) → s.event.ev_txid < from.xmin → q s ≡ fa
 pub listed_between : (from to : SnapshotView) (sub : ℕ) → is_snapshot to ≡ true → Between from to (is_listed from to sub)
 listed_between from to sub sound = ((λ s less. unlisted-below from to sub s less), (λ s above. unlisted-above from to sub s sound above))
 
-pub none_before : (from to : SnapshotView) (q : Stored → Bool) (list : List Stored) → Between from to q → filter (λ x. q x.1) (take (below from.xmin list) (by_txid list)) ≡ []
+pub none_before : (from to : SnapshotView) (q : Stored → Bool) (list : List Stored) → Between from to q → filter (λ x. q x.1) (take (count_below from.xmin list) (by_txid list)) ≡ []
 none_before from to q list between =
-    none_first (λ x. q x.1) (below from.xmin list) (by_txid list) (λ k d less within.
+    none_first (λ x. q x.1) (count_below from.xmin list) (by_txid list) (λ k d less within.
     let test = first_below txid_of 0 from.xmin k (by_txid list) d (Rises-by_txid list) within ∙ ap (nat_lt k) (passing-by_txid (λ s. nat_lt s.event.ev_txid from.xmin) list) in
-    between.0 (get_or (by_txid list) k d).1 (ltb-true _ from.xmin (test ∙ lt-ltb k (below from.xmin list) less)))
+    between.0 (get_or (by_txid list) k d).1 (ltb-true _ from.xmin (test ∙ lt-ltb k (count_below from.xmin list) less)))
 
-pub none_after : (from to : SnapshotView) (q : Stored → Bool) (m : ℕ) (list : List Stored) → Between from to q → below to.xmax list ≤ m → filter (λ x. q x.1) (take m (by_txid list)) ≡ filter (λ x. q x.1) (by_txid list)
+pub none_after : (from to : SnapshotView) (q : Stored → Bool) (m : ℕ) (list : List Stored) → Between from to q → count_below to.xmax list ≤ m → filter (λ x. q x.1) (take m (by_txid list)) ≡ filter (λ x. q x.1) (by_txid list)
 none_after from to q m list between le =
-    none_last (λ x. q x.1) (below to.xmax list) m (by_txid list) le (λ k d past within.
+    none_last (λ x. q x.1) (count_below to.xmax list) m (by_txid list) le (λ k d past within.
     let test = first_below txid_of 0 to.xmax k (by_txid list) d (Rises-by_txid list) within ∙ ap (nat_lt k) (passing-by_txid (λ s. nat_lt s.event.ev_txid to.xmax) list) in
-    between.1 (get_or (by_txid list) k d).1 (ltb-false _ to.xmax (test ∙ le-ltb k (below to.xmax list) past)))
+    between.1 (get_or (by_txid list) k d).1 (ltb-false _ to.xmax (test ∙ le-ltb k (count_below to.xmax list) past)))
 
 -- as many as are below the upper bound are below the lower one or between
-pub count_between : (from to : SnapshotView) (list : List Stored) → below to.xmax list ≤ below from.xmin list + length (filter (is_between from to) list)
+pub count_between : (from to : SnapshotView) (list : List Stored) → count_below to.xmax list ≤ count_below from.xmin list + length (filter (is_between from to) list)
 count_between from to [] = omega arith
 count_between from to (s ∷ ss) =
     let ih = count_between from to ss in
@@ -105,8 +102,8 @@ count_between from to (s ∷ ss) =
 
 -- what both counts say of a table, and what they cost
 pub record Ends (from to : SnapshotView) (list : List Stored) (first end before reads : ℕ) : Type 0 where
-  pub first_is : first ≡ below from.xmin list
-  pub end_is : end ≡ below to.xmax list
+  pub first_is : first ≡ count_below from.xmin list
+  pub end_is : end ≡ count_below to.xmax list
   pub upper : reads ≤ before + 2 * digits (length list)
   pub lower : before ≤ reads
 
@@ -115,15 +112,15 @@ abbrev pub list_at : ℕ → TablesView → List Stored
 list_at table t = slice_index_or t.tables.lists table []
 
 pub ends : (from to : SnapshotView) (table xmin xmax first end : ℕ) (old mid new : TablesView) → xmin ≡ from.xmin → xmax ≡ to.xmax
-    → first ≡ below xmin (list_at table old) → mid.tables ≡ old.tables → mid.reads ≤ old.reads + digits (length (list_at table old)) → old.reads ≤ mid.reads
-    → end ≡ below xmax (list_at table mid) → new.reads ≤ mid.reads + digits (length (list_at table mid)) → mid.reads ≤ new.reads
+    → first ≡ count_below xmin (list_at table old) → mid.tables ≡ old.tables → mid.reads ≤ old.reads + digits (length (list_at table old)) → old.reads ≤ mid.reads
+    → end ≡ count_below xmax (list_at table mid) → new.reads ≤ mid.reads + digits (length (list_at table mid)) → mid.reads ≤ new.reads
     → Ends from to (list_at table old) first end old.reads new.reads
 ends from to table xmin xmax first end old mid new lower_is upper_is first_is same up down end_is more less =
     let lists = ap (λ (ts : Tables). slice_index_or ts.lists table []) same in
     let looks = ap (λ list. digits (length list)) lists in
     record {
-      first_is = first_is ∙ ap (λ n. below n (list_at table old)) lower_is;
-      end_is = end_is ∙ ap (λ n. below n (list_at table mid)) upper_is ∙ ap (below to.xmax) lists;
+      first_is = first_is ∙ ap (λ n. count_below n (list_at table old)) lower_is;
+      end_is = end_is ∙ ap (λ n. count_below n (list_at table mid)) upper_is ∙ ap (count_below to.xmax) lists;
       upper = omega arith;
       lower = omega arith;
     }
@@ -162,6 +159,6 @@ pub passed_over : {E : Type 0} (f : ℕ × Stored → E) (q : Stored → Bool) (
     → Gathered f q list k before now → Gathered f q list (k + 1) before now
 passed_over f q list k x before now within is fails so_far = so_far ∙ ap (λ zs. before ++ map f zs) (sym (one_more_fails q list k x within is fails))
 
-pub below_len : (txid : ℕ) (list : List Stored) → below txid list ≤ length list
+pub below_len : (txid : ℕ) (list : List Stored) → count_below txid list ≤ length list
 below_len txid [] = omega arith
 below_len txid (s ∷ ss) = let ih = below_len txid ss in cond_both (nat_lt s.event.ev_txid txid) (s ∷ filter (λ x. nat_lt x.event.ev_txid txid) ss) (filter (λ x. nat_lt x.event.ev_txid txid) ss) (λ zs. length zs ≤ suc (length ss)) (λ _. omega arith) (λ _. omega arith)

@@ -1,15 +1,13 @@
 -- What is lent of what was looked at.
-use Rattle.std.proofs.Common.{◌≡◌, ℕ, zero, suc, ◌+◌, ◌-◌, ◌<◌, ◌≤◌, Bool, true, false, List, [], ◌∷◌, ◌++◌, Some, length, filter, map, drop, nat_lt, slice_get, slice_index_or, refl, sym, ap, subst, ◌∙◌, arith, inl, inr, if◌then◌else◌, Bor, ◌⊎◌}
+use Rattle.std.proofs.Common.{◌≡◌, ℕ, zero, suc, ◌+◌, ◌-◌, ◌<◌, ◌≤◌, Bool, true, false, List, [], ◌∷◌, ◌++◌, Some, length, filter, map, drop, nat_lt, slice_get, slice_index_or, refl, sym, ap, subst, ◌∙◌, arith, inl, inr, Bor, ◌⊎◌}
 use Rattle.std.proofs.lemmas.Bool.{cases_Bool, cond-false, ltb-true, ltb-false}
-use Rattle.std.proofs.lemmas.Bool.Decides.{nat_tests}
 use Rattle.std.proofs.lemmas.List.{length_push, length-append, length-map, map-append, drop_more, drop_all}
-use Rattle.sky_val.specs.declared.event.Event.{Event}
 use Rattle.sky_txid.specs.Snapshot.{SnapshotView}
 use Rattle.pgq_tables.specs.Tables.{Stored, Tables}
 use Rattle.pgq_tables.specs.Views.{LookedView}
-use Rattle.pgq_batch.specs.Looked.{ages, count_below, IsLookedAt, AreLookedAtUpTo, AreLookedAt, lent_events, placed_events}
+use Rattle.pgq_batch.specs.Looked.{ages, count_below, IsLookedAt, AreLookedAt, lent_events, placed_events}
 use Rattle.pgq_batch.proofs.Keyed.{passing-cons, one_if}
-use Rattle.pgq_batch.proofs.Between.{Between, below}
+use Rattle.pgq_batch.proofs.Between.{Between}
 use Rattle.pgq_batch.proofs.Ages.{passing_of, passing_of-more, length-ages}
 
 -- ---- no more pass than lie between two counts
@@ -25,7 +23,7 @@ module _ (from to : SnapshotView) (q : Stored → Bool) (between : Between from 
         | inr past ↦ between.1 s (let above = ltb-false s.event.ev_txid from.xmin past in omega arith)
       ]
 
-  pass_below : from.xmin ≤ to.xmax → (list : List Stored) → length (filter q list) + below from.xmin list ≤ below to.xmax list
+  pass_below : from.xmin ≤ to.xmax → (list : List Stored) → length (filter q list) + count_below from.xmin list ≤ count_below to.xmax list
   pass_below le [] = omega arith
   pass_below le (s ∷ ss) =
       let ih = pass_below le ss in
@@ -43,7 +41,7 @@ module _ (from to : SnapshotView) (q : Stored → Bool) (between : Between from 
       one false low true high true is = omega arith
       one false low b high false is = omega arith
 
-  pub pass_between : (list : List Stored) → length (filter q list) ≤ below to.xmax list - below from.xmin list
+  pub pass_between : (list : List Stored) → length (filter q list) ≤ count_below to.xmax list - count_below from.xmin list
   pass_between list = elim (cases_Bool (nat_lt to.xmax from.xmin)) [
     | inl over ↦ let none = ap length (none_pass (ltb-true to.xmax from.xmin over) list) in omega arith
     | inr fits ↦ let most = pass_below (ltb-false to.xmax from.xmin fits) list in omega arith
@@ -59,6 +57,11 @@ at_push (z ∷ zs) x y (suc k) is = elim (at_push zs x y k is) [
   | inl before ↦ inl ((let less = before.0 in omega arith), before.1)
   | inr last ↦ inr (ap suc last.0, last.1)
 ]
+
+-- there are looks at the oldest so many tables
+pub record AreLookedAtUpTo (from to : SnapshotView) (ts : Tables) (many : ℕ) (looks : List LookedView) : Type 0 where
+  pub count : length looks ≡ many
+  pub each : (turn : ℕ) (l : LookedView) → slice_get looks turn ≡ Some l → IsLookedAt from to ts turn l
 
 pub looked-push : (from to : SnapshotView) (ts : Tables) (many : ℕ) (looks next : List LookedView) (l : LookedView) → AreLookedAtUpTo from to ts many looks → IsLookedAt from to ts many l → next ≡ looks ++ l ∷ [] → AreLookedAtUpTo from to ts (many + 1) next
 looked-push from to ts many looks next l are is pushed = subst (AreLookedAtUpTo from to ts (many + 1)) (sym pushed) (record {

@@ -25,14 +25,10 @@ pub record IsLookedAt (from to : SnapshotView) (ts : Tables) (turn : ℕ) (l : L
   pub ends : l ≡ looked_in from to l.table (slice_index_or ts.lists l.table [])
   pub sound : is_snapshot to ≡ true
 
--- there are so many looks, one at each table, from the oldest on
-pub record AreLookedAtUpTo (from to : SnapshotView) (ts : Tables) (many : ℕ) (looks : List LookedView) : Type 0 where
-  pub count : length looks ≡ many
+-- there is one look at each table, from the oldest on
+pub record AreLookedAt (from to : SnapshotView) (ts : Tables) (looks : List LookedView) : Type 0 where
+  pub count : length looks ≡ length ts.lists
   pub each : (turn : ℕ) (l : LookedView) → slice_get looks turn ≡ Some l → IsLookedAt from to ts turn l
-
--- for each table
-abbrev pub AreLookedAt : (from to : SnapshotView) → Tables → List LookedView → Type 0
-AreLookedAt from to ts looks = AreLookedAtUpTo from to ts (length ts.lists) looks
 
 -- the events that are lent
 abbrev pub lent_events : List (Bor Stored) → List Event

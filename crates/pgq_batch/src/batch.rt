@@ -1,8 +1,8 @@
-ghost use Rattle.std.specs.Prelude.{◌≡◌, ℕ, ◌==◌, ◌+◌, ◌-◌, ◌^◌, ◌<◌, ◌≤◌, ◌++◌, [], length, find, map, take, drop, slice_index_or, IfOk, OnOk};
+ghost use Rattle.std.specs.Prelude.{◌≡◌, ℕ, ◌==◌, ◌+◌, ◌-◌, ◌^◌, ◌<◌, ◌≤◌, [], length, find, map, slice_index_or, IfOk, OnOk};
 ghost use Rattle.pgq_tables.specs.Listed.{listed};
 ghost use Rattle.pgq_tables.specs.Tables.{recorded_part};
 ghost use Rattle.pgq_batch.specs.Bound.{most_looks};
-ghost use Rattle.pgq_batch.specs.Looked.{lent_events, AreLookedAt};
+ghost use Rattle.pgq_batch.specs.Looked.{ages, lent_events, AreLookedAt};
 
 use crate::ends::ends_between;
 use crate::placed::{move_to, sort_by_id, sort_by_place};
@@ -127,8 +127,7 @@ pub fn find(
 fn table_by_age(tables: &EventTables, turn: usize) -> usize
     requires { turn < length tables.now.tables.lists }
     ensures within { result < length tables.now.tables.lists }
-    ensures table { slice_index_or (drop (tables.now.tables.current + 1) tables.now.tables.lists ++ take (tables.now.tables.current + 1) tables.now.tables.lists) turn []
-        ≡ slice_index_or tables.now.tables.lists result [] }
+    ensures table { slice_index_or (ages tables.now.tables) turn [] ≡ slice_index_or tables.now.tables.lists result [] }
 {
     // Those with a higher number than the current one are older than those up to it.
     let older = tables.len() - 1 - tables.current();

@@ -1,6 +1,7 @@
-ghost use Rattle.std.specs.Prelude.{◌≡◌, ◌+◌, ◌*◌, ◌<◌, ◌≤◌, [], IsTrue, length, filter, nat_lt, slice_index_or};
+ghost use Rattle.std.specs.Prelude.{◌≡◌, ◌+◌, ◌*◌, ◌<◌, ◌≤◌, [], IsTrue, length, slice_index_or};
 ghost use Rattle.sky_txid.specs.Snapshot.{is_snapshot};
 ghost use Rattle.pgq_batch.specs.Bound.{digits};
+ghost use Rattle.pgq_batch.specs.Looked.{count_below};
 
 use pgq_tables::EventTables;
 use sky_txid::Snapshot;
@@ -15,8 +16,8 @@ pub(crate) fn ends_between(
     cur: &Snapshot,
 ) -> (usize, usize)
     requires { table < length tables.old.tables.lists }
-    ensures first { result.0 ≡ length (filter (λ s. nat_lt s.event.ev_txid prev.now.xmin) (slice_index_or tables.old.tables.lists table [])) }
-    ensures end { result.1 ≡ length (filter (λ s. nat_lt s.event.ev_txid cur.now.xmax) (slice_index_or tables.old.tables.lists table [])) }
+    ensures first { result.0 ≡ count_below prev.now.xmin (slice_index_or tables.old.tables.lists table []) }
+    ensures end { result.1 ≡ count_below cur.now.xmax (slice_index_or tables.old.tables.lists table []) }
     ensures sound { IsTrue (is_snapshot cur.now) }
     ensures same { tables.new.tables ≡ tables.old.tables }
     ensures upper { tables.new.reads ≤ tables.old.reads + 2 * digits (length (slice_index_or tables.old.tables.lists table [])) }
@@ -30,7 +31,7 @@ pub(crate) fn ends_between(
 /// How many events of a table have a transaction below this one. In order of transactions, these come first.
 fn count_below(tables: &mut EventTables, table: usize, txid: u64) -> usize
     requires { table < length tables.old.tables.lists }
-    ensures count { result ≡ length (filter (λ s. nat_lt s.event.ev_txid txid) (slice_index_or tables.old.tables.lists table [])) }
+    ensures count { result ≡ count_below txid (slice_index_or tables.old.tables.lists table []) }
     ensures same { tables.new.tables ≡ tables.old.tables }
     ensures upper { tables.new.reads ≤ tables.old.reads + digits (length (slice_index_or tables.old.tables.lists table [])) }
     ensures lower { tables.old.reads ≤ tables.new.reads }

@@ -1,12 +1,11 @@
-use Rattle.std.proofs.Common.{◌≡◌, ◌+◌, ◌<◌, ◌≤◌, ◌++◌, ◌∷◌, ℕ, List, [], Some, slice_get, length, filter, map, drop, slice_index_or, ap, sym, subst, append_assoc, ◌∙◌, arith, rules}
+use Rattle.std.proofs.Common.{◌≡◌, ◌+◌, ◌≤◌, ◌++◌, ◌∷◌, ℕ, List, [], length, filter, map, drop, slice_index_or, ap, sym, append_assoc, ◌∙◌, arith, rules}
 use Rattle.std.proofs.lemmas.List.{length_push, length-append}
 use Rattle.pgq_tables.specs.Tables.{Stored}
-use Rattle.pgq_tables.specs.Order.{by_txid}
 use Rattle.pgq_tables.specs.ById.{by_id}
 use Rattle.pgq_tables.specs.Listed.{is_listed}
 use Rattle.pgq_tables.specs.Views.{LookedView}
-use Rattle.pgq_batch.specs.Placed.{with_place, by_place}
-use Rattle.pgq_batch.specs.Looked.{ages, lent_events, placed_events}
+use Rattle.pgq_batch.specs.Placed.{by_place}
+use Rattle.pgq_batch.specs.Looked.{ages, lent_events}
 use Rattle.pgq_batch.proofs.Ages.{passing_of, length-ages, sorted_out, one_more_table, all_tables}
 use Rattle.pgq_batch.proofs.Lent.{next-left, some-left, next-looked}
 use Rattle.pgq_batch.proofs.batch.lend.Goals as goal

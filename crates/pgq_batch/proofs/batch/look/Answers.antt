@@ -1,13 +1,12 @@
-use Rattle.std.proofs.Common.{◌≡◌, ◌+◌, ◌-◌, ◌^◌, ◌<◌, ◌≤◌, ◌∷◌, ℕ, [], length, filter, drop, nat_lt, slice_index_or, refl, ap, sym, subst, ◌∙◌, arith}
-use Rattle.std.proofs.lemmas.List.{drop_all}
-use Rattle.pgq_tables.specs.Tables.{Stored, Tables}
+use Rattle.std.proofs.Common.{◌≡◌, ◌+◌, ◌-◌, ◌^◌, ◌<◌, ◌≤◌, ◌∷◌, ℕ, [], length, drop, slice_index_or, ap, sym, subst, ◌∙◌, arith}
+use Rattle.pgq_tables.specs.Tables.{Tables}
 use Rattle.pgq_tables.specs.Listed.{is_listed, listed_in}
 use Rattle.pgq_tables.specs.Views.{TablesView, so_many_more}
 use Rattle.pgq_tables.specs.Views.{LookedView}
-use Rattle.pgq_batch.specs.Bound.{digits, is_between, looks_for_ends}
-use Rattle.pgq_batch.specs.Looked.{ages, looked_in, IsLookedAt}
-use Rattle.pgq_batch.proofs.Ages.{passing_of, next_is, length-ages, length-by_id, looks-next, looks-all}
-use Rattle.pgq_batch.proofs.Between.{below, below_len, count_between, listed_between}
+use Rattle.pgq_batch.specs.Bound.{digits, looks_for_ends}
+use Rattle.pgq_batch.specs.Looked.{ages, looked_in, IsLookedAt, count_below}
+use Rattle.pgq_batch.proofs.Ages.{next_is, length-ages, length-by_id, looks-next, looks-all}
+use Rattle.pgq_batch.proofs.Between.{below_len, count_between, listed_between}
 use Rattle.pgq_batch.proofs.Lent.{pass_between, looked-push, length-next, none-left}
 use Rattle.pgq_batch.proofs.Looks.{so_many-upper, so_many-counts}
 use Rattle.pgq_batch.proofs.batch.look.Goals as goal
@@ -33,8 +32,8 @@ loop-turn-preserved c =
     let turn : ℕ = c.loop-turn.turn in
     let within : turn < length (ages ts) = let test = c.loop-turn-test.true in let count = c.len-turn-end.ensures.value in let aged = length-ages ts in omega arith in
     let next : drop turn (ages ts) ≡ list ∷ drop (turn + 1) (ages ts) = next_is ts now turn table inv.0 within c.table_by_age-table.ensures.table in
-    let first : c.ends_between-first.result.0 ≡ below from.xmin list = both.first ∙ ap (λ (t : Tables). below from.xmin (slice_index_or t.lists table [])) inv.0 in
-    let end : c.ends_between-first.result.1 ≡ below to.xmax list = both.end ∙ ap (λ (t : Tables). below to.xmax (slice_index_or t.lists table [])) inv.0 in
+    let first : c.ends_between-first.result.0 ≡ count_below from.xmin list = both.first ∙ ap (λ (t : Tables). count_below from.xmin (slice_index_or t.lists table [])) inv.0 in
+    let end : c.ends_between-first.result.1 ≡ count_below to.xmax list = both.end ∙ ap (λ (t : Tables). count_below to.xmax (slice_index_or t.lists table [])) inv.0 in
     let many : ℕ = c.ends_between-first.result.1 - c.ends_between-first.result.0 in
     let reads : c.look.new.self.reads ≡ so_many_more many c.ends_between-first.new.tables.reads = ap TablesView.reads c.look.ensures.counted in
     let up = so_many-upper many c.ends_between-first.new.tables.reads in

@@ -1,7 +1,8 @@
 use Rattle.std.proofs.Common.{◌≡◌, ℕ, ◌+◌, ◌-◌, ◌^◌, ◌<◌, ◌≤◌, length, drop}
 use Rattle.pgq_tables.specs.Listed.{is_listed}
-use Rattle.pgq_batch.specs.Looked.{ages, AreLookedAtUpTo}
+use Rattle.pgq_batch.specs.Looked.{ages}
 use Rattle.pgq_batch.proofs.Ages.{passing_of, looks}
+use Rattle.pgq_batch.proofs.Lent.{AreLookedAtUpTo}
 use Rattle.pgq_batch.proofs.batch.look.Given as goal
 
 -- the tables so far were looked at, there are looks for those that are left, and each event that is listed of those so far was looked at

@@ -1,9 +1,10 @@
-use Rattle.std.proofs.Common.{◌≡◌, ◌+◌, ◌-◌, ◌/◌, ◌<◌, ◌≤◌, [], length, filter, nat_lt, slice_index_or, slice_get, Some, refl, ap, sym, subst, ◌∙◌, arith, ℕ}
+use Rattle.std.proofs.Common.{◌≡◌, ◌+◌, ◌-◌, ◌/◌, ◌<◌, ◌≤◌, [], length, nat_lt, slice_index_or, slice_get, Some, refl, ap, sym, subst, ◌∙◌, arith, ℕ}
 use Rattle.std.proofs.lemmas.Bool.{ltb-true, ltb-false, lt-ltb, le-ltb}
 use Rattle.pgq_tables.specs.Tables.{Tables}
 use Rattle.pgq_tables.specs.Order.{by_txid}
 use Rattle.pgq_tables.specs.Views.{TablesView}
 use Rattle.pgq_batch.specs.Bound.{digits}
+use Rattle.pgq_batch.specs.Looked.{count_below}
 use Rattle.pgq_batch.proofs.Looks.{is_below, upper_half, lower_half, no_less, below_all}
 use Rattle.pgq_batch.proofs.ends.count_below.Goals as goal
 
@@ -12,7 +13,7 @@ loop-low-init c =
     let list = slice_index_or c.args.tables.now.tables.lists c.args.table [] in (
       refl,
       (omega arith),
-      subst (λ n. length (filter (λ s. nat_lt s.event.ev_txid c.args.txid) list) ≤ n) (sym c.count-high.ensures) (below_all (λ s. nat_lt s.event.ev_txid c.args.txid) list),
+      subst (λ n. count_below c.args.txid list ≤ n) (sym c.count-high.ensures) (below_all (λ s. nat_lt s.event.ev_txid c.args.txid) list),
       (omega (arith, c.count-high.ensures)),
       subst (λ n. c.args.tables.now.reads + digits (n - 0) ≤ c.args.tables.now.reads + digits (length list)) (sym c.count-high.ensures) (let same : length list - 0 ≡ length list = omega arith in let all = ap digits same in omega arith),
       (omega arith),
@@ -29,7 +30,7 @@ loop-low-preserved-then-txid c =
     let same = ap TablesView.tables counted ∙ inv.0 in
     let middle : ℕ = low + (high - low) / 2 in
     let look : slice_get (by_txid list) middle ≡ Some (c.by_txid.result.0, c.by_txid.result.1.now) = ap (λ (ts : Tables). slice_get (by_txid (slice_index_or ts.lists c.args.table [])) middle) (sym inv.0) ∙ c.by_txid.ensures.event in
-    let count : ℕ = length (filter (λ s. nat_lt s.event.ev_txid c.args.txid) list) in
+    let count : ℕ = count_below c.args.txid list in
     let some : low < high = c.loop-low-test.true in
     let within : middle < length list = let most = inv.3 in omega arith in
     let is : nat_lt c.by_txid.result.1.now.event.ev_txid c.args.txid ≡ nat_lt middle count = is_below list c.args.txid middle _ within look in
@@ -55,7 +56,7 @@ loop-low-preserved c =
     let same = ap TablesView.tables counted ∙ inv.0 in
     let middle : ℕ = low + (high - low) / 2 in
     let look : slice_get (by_txid list) middle ≡ Some (c.by_txid.result.0, c.by_txid.result.1.now) = ap (λ (ts : Tables). slice_get (by_txid (slice_index_or ts.lists c.args.table [])) middle) (sym inv.0) ∙ c.by_txid.ensures.event in
-    let count : ℕ = length (filter (λ s. nat_lt s.event.ev_txid c.args.txid) list) in
+    let count : ℕ = count_below c.args.txid list in
     let some : low < high = c.loop-low-test.true in
     let within : middle < length list = let most = inv.3 in omega arith in
     let is : nat_lt c.by_txid.result.1.now.event.ev_txid c.args.txid ≡ nat_lt middle count = is_below list c.args.txid middle _ within look in
