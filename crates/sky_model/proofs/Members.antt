@@ -1,5 +1,5 @@
 -- The consumers of a queue are those that have a subscription there.
-use Rattle.std.proofs.Common.{◌≡◌, ℕ, List, [], ◌∷◌, not, ◌&&◌, ◌||◌, bytes_eq, is_some, refl, ap, arith}
+use Rattle.std.proofs.Common.{◌≡◌, ℕ, List, [], ◌∷◌, not, ◌&&◌, ◌||◌, bytes_eq, is_some, refl, ◌∙◌, ap, arith}
 use Rattle.std.specs.List.{list_any}
 use Rattle.std.proofs.lemmas.List.Folds.{list_any-append}
 use Rattle.sky_names.proofs.PlaceLemmas.{bytes_eq_sym, same_name}
