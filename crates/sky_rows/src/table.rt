@@ -226,9 +226,9 @@ impl Table {
             .put(&mut self.older, place, key, Version { txid, row }, again)
     }
 
-    /// The same for a transaction that ends with it while no other one runs. No key of it is indexed, and
-    /// those of all before it are forgotten, as by `prune`: if one of these does run, what it wrote is
-    /// then looked for in the versions, and `forget` goes through all keys for it.
+    /// The same for a transaction that ends with it while no other one runs. No key of it is recorded, and those of
+    /// all before it are forgotten, as by `prune`: if one of these does run, what it wrote is then looked for in the
+    /// versions, and `forget` goes through all keys for it.
     pub fn write_last_at(
         &mut self,
         place: Option<usize>,
@@ -245,8 +245,8 @@ impl Table {
             return self.write_at(place, txid, key, row);
         };
         let again = self.written.has(txid, &key);
-        log_own(&mut self.log, self.alloc, txid, &key)?;
         self.written.prune(next);
+        drop_below(&mut self.log, next);
         self.rows
             .put(&mut self.older, place, key, Version { txid, row }, again)
     }
