@@ -100,14 +100,14 @@ joined-back (Some (of_root r)) consumer new = ap (λ (names : List (List ℕ)). 
 joined-back (Some (of_leaf l)) consumer new = refl
 joined-back None consumer new = refl
 
-pub listed-back : (node : Option Node) (table : List ℕ) → may_serve (listing table) node ≡ true → after_node (set_removed table) (after_node (set_added table) node) ≡ node
-listed-back (Some (of_root r)) table may = ap (λ (names : List (List ℕ)). Some (of_root (record r { tables = names }))) (added-back table r.tables (new (is_among table r.tables) may))
+pub set_added-back : (node : Option Node) (table : List ℕ) → may_serve (listing table) node ≡ true → after_node (set_removed table) (after_node (set_added table) node) ≡ node
+set_added-back (Some (of_root r)) table may = ap (λ (names : List (List ℕ)). Some (of_root (record r { tables = names }))) (added-back table r.tables (new (is_among table r.tables) may))
   where
     new : (b : Bool) → not b ≡ true → b ≡ false
     new true may = absurd (cc)
     new false may = refl
-listed-back (Some (of_leaf l)) table may = refl
-listed-back None table may = refl
+set_added-back (Some (of_leaf l)) table may = refl
+set_added-back None table may = refl
 
 pub back-as : (v now : DbView) (queues : QueuesView) (node : Option Node) → v ≡ now → ((beside : Beside) → seen_with beside queues ≡ seen_with beside v.queues) → node ≡ v.node.own
     → seen_database (record v { queues = queues; node = record v.node { own = node } }) ≡ seen_database now
@@ -212,20 +212,20 @@ pub unlisting-there : (d : Database) (name : List ℕ) (table : ℕ) → may_ser
     → node_does d (unlisting name) ≡ does_marks Done (noded (set_removed name) ∷ queued (untraced table) ∷ [])
 unlisting-there d name table may there = is-served d (unlisting name) may ∙ ap (λ x. if_there x (λ t. unlists t name)) there
 
-pub listed-as : (v now : DbView) (queues : QueuesView) (node : Option Node) (q table : ℕ) (name : List ℕ) → v ≡ now
+pub set_added-as : (v now : DbView) (queues : QueuesView) (node : Option Node) (q table : ℕ) (name : List ℕ) → v ≡ now
     → ((beside : Beside) → seen_with beside queues ≡ after_mark (seen_with beside v.queues) (queued (traced table None (set_trigger q))))
     → node ≡ after_node (set_added name) v.node.own
     → seen_database (record v { queues = queues; node = record v.node { own = node } }) ≡ after_marks (seen_database now) (noded (set_added name) ∷ queued (traced table None (set_trigger q)) ∷ [])
-listed-as v now queues node q table name same mark noding =
+set_added-as v now queues node q table name same mark noding =
     mark (with_node (record v.node { own = node }) (seen v.rows))
     ∙ (λ i. after_mark (seen_with (with_node (record v.node { own = noding i }) (seen v.rows)) v.queues) (queued (traced table None (set_trigger q))))
     ∙ ap (λ (w : DbView). after_marks (seen_database w) (noded (set_added name) ∷ queued (traced table None (set_trigger q)) ∷ [])) same
 
-pub unlisted-as : (v now : DbView) (queues : QueuesView) (node : Option Node) (table : ℕ) (name : List ℕ) → v ≡ now
+pub set_removed-as : (v now : DbView) (queues : QueuesView) (node : Option Node) (table : ℕ) (name : List ℕ) → v ≡ now
     → ((beside : Beside) → seen_with beside queues ≡ after_mark (seen_with beside v.queues) (queued (untraced table)))
     → node ≡ after_node (set_removed name) v.node.own
     → seen_database (record v { queues = queues; node = record v.node { own = node } }) ≡ after_marks (seen_database now) (noded (set_removed name) ∷ queued (untraced table) ∷ [])
-unlisted-as v now queues node table name same mark noding =
+set_removed-as v now queues node table name same mark noding =
     mark (with_node (record v.node { own = node }) (seen v.rows))
     ∙ (λ i. after_mark (seen_with (with_node (record v.node { own = noding i }) (seen v.rows)) v.queues) (queued (untraced table)))
     ∙ ap (λ (w : DbView). after_marks (seen_database w) (noded (set_removed name) ∷ queued (untraced table) ∷ [])) same

@@ -13,7 +13,7 @@ use Rattle.pgq_db.specs.Served.{RootRefused}
 use Rattle.pgq_db.proofs.Databases.{table-there}
 use Rattle.pgq_db.proofs.Tables.{is-table}
 use Rattle.pgq_db.proofs.Agreeing.{agree-traced}
-use Rattle.pgq_db.proofs.NodeSteps.{listed-back, back-as, serves-by, serves-steps, steps-unless, listing-nowhere, table-not, list-full, list-busy, list-does, listed-as}
+use Rattle.pgq_db.proofs.NodeSteps.{set_added-back, back-as, serves-by, serves-steps, steps-unless, listing-nowhere, table-not, list-full, list-busy, list-does, set_added-as}
 use Rattle.pgq_db.proofs.db.Db.root_add.Goals as goal
 
 pub returns-in_default-clause-serves : goal.returns-in_default-clause-serves
@@ -87,7 +87,7 @@ returns-clause-serves c =
     serves-by d _ (listing name) _
     (list-does d c.in-Some.queue name number c.requires.may (sym c.in-Some.ensures.queue) there c.trigger_count.result count few
     (c.in_default-least_writer.ensures ∙ ap (λ (v : DbView). least_writer (seen v.rows) number) c.self.view_is))
-    (listed-as _ _ c.trace.new.self c.add_root_table.new.node c.in-Some.queue number name c.self.view_is
+    (set_added-as _ _ c.trace.new.self c.add_root_table.new.node c.in-Some.queue number name c.self.view_is
     (λ beside. c.in_default-trace.ensures.ok beside ∙ ap (λ (t : TableTrigger). after_mark (seen_with beside c.self.inside.queues) (queued (traced t.table t.name t.trigger))) c.set_trigger-trigger.ensures)
     (c.in_ok-add_root_table.ensures.ok ∙ ap (λ n. after_node (set_added n) c.self.inside.node.own) c.in_ok-name.ensures))
 
@@ -103,7 +103,7 @@ returns-clause-steps c =
     (serves-by d _ (listing name) _
     (list-does d c.in-Some.queue name number c.requires.may (sym c.in-Some.ensures.queue) there c.trigger_count.result count few
     (c.in_default-least_writer.ensures ∙ ap (λ (v : DbView). least_writer (seen v.rows) number) c.self.view_is))
-    (listed-as _ _ c.trace.new.self c.add_root_table.new.node c.in-Some.queue number name c.self.view_is
+    (set_added-as _ _ c.trace.new.self c.add_root_table.new.node c.in-Some.queue number name c.self.view_is
     (λ beside. c.in_default-trace.ensures.ok beside ∙ ap (λ (t : TableTrigger). after_mark (seen_with beside c.self.inside.queues) (queued (traced t.table t.name t.trigger))) c.set_trigger-trigger.ensures)
     (c.in_ok-add_root_table.ensures.ok ∙ ap (λ n. after_node (set_added n) c.self.inside.node.own) c.in_ok-name.ensures)))
 
@@ -114,4 +114,4 @@ returns-in-Err-clause-fault c =
     subst (λ fault. RootRefused fault (seen_database c.args.self.now) (seen_database (record { rows = v.rows; queues = c.trace.new.self; node = record v.node { own = c.remove_root_table.new.node } })) name) (sym c.from.ensures)
     (back-as _ _ c.trace.new.self c.remove_root_table.new.node c.self.view_is c.in-Err.ensures.err
     (c.remove_root_table.ensures ∙ ap (after_node (set_removed name)) (c.in_ok-add_root_table.ensures.ok ∙ ap (λ n. after_node (set_added n) v.node.own) c.in_ok-name.ensures)
-    ∙ listed-back v.node.own name (subst (λ (w : DbView). may_serve (listing name) w.node.own ≡ true) (sym c.self.view_is) c.requires.may)))
+    ∙ set_added-back v.node.own name (subst (λ (w : DbView). may_serve (listing name) w.node.own ≡ true) (sym c.self.view_is) c.requires.may)))
