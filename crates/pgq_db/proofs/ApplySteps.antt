@@ -26,6 +26,7 @@ use Rattle.sky_names.proofs.PlaceLemmas.{place_of_within}
 use Rattle.sky_trans.specs.declared.trans.TransFault.{TransFault}
 use Rattle.sky_trans.specs.declared.trans.TransFault.TheVariants as trans
 use Rattle.londiste_state.specs.Nodes.{Leaf, Node, of_root, of_leaf}
+use Rattle.sky_model.specs.BatchMoves.{events_of_batch}
 use Rattle.sky_model.specs.declared.reply.Reply.TheVariants.{Number, Null}
 use Rattle.sky_model.specs.declared.reply.Refusal.TheVariants.{TxidsSpent}
 use Rattle.sky_model.specs.History.{Mark, Pick, of_synced, copy_of, of_worker, began, ended, noded, applied}
@@ -54,7 +55,7 @@ use Rattle.pgq_queues.specs.declared.batch.Batch as read
 use Rattle.pgq_queues.specs.declared.batch.Span.{Span}
 use Rattle.pgq_queues.specs.EventRule.{event_rule}
 use Rattle.pgq_db.specs.Agreeing.{Agree}
-use Rattle.pgq_db.specs.Applying.{as_leaf, batch_list, apply_fault_of, MayWriteFor, Makes, Works, IsBad, ApplyRefused}
+use Rattle.pgq_db.specs.Applying.{as_leaf, apply_fault_of, MayWriteFor, Makes, Works, IsBad, ApplyRefused}
 use Rattle.pgq_db.specs.Copying.{is_own_last, MayWrite}
 use Rattle.pgq_db.specs.Seen.{with_node, seen_database}
 use Rattle.pgq_db.specs.Served.{Serves}
@@ -536,24 +537,24 @@ module _ (v now : DbView) (same : v ≡ now) (id : ℕ) where
   -- one that is active, whose events were looked at
   pub batch-recorded : (batch : read.Batch) (span : Span) (looked : QueuesView) (recorded : List Event) → Some (seen_batch batch) ≡ batch_at v.queues id
       → span ≡ record { queue = batch.queue; sub = batch.sub; prev = batch.prev; cur = batch.cur } → ((beside : Beside) → seen_with beside looked ≡ seen_with beside v.queues)
-      → ((beside : Beside) → recorded ≡ map recorded_part (selected (seen_with beside looked) (seen_span span))) → recorded ≡ map recorded_part (batch_list (seen_database now) id)
+      → ((beside : Beside) → recorded ≡ map recorded_part (selected (seen_with beside looked) (seen_span span))) → recorded ≡ map recorded_part (events_of_batch (seen_database now) id)
   batch-recorded batch span looked recorded there spans stays are =
       are (with_node v.node (seen v.rows))
       ∙ ap (λ (d : Database). map recorded_part (selected d (seen_span span))) (stays (with_node v.node (seen v.rows)))
       ∙ ap (λ (s : Span). map recorded_part (selected (seen_database v) (seen_span s))) spans
       ∙ ap (λ o. map recorded_part (unwrap_or (option_map (selected (seen_database v)) o) [])) there
-      ∙ ap (λ (w : DbView). map recorded_part (batch_list (seen_database w) id)) same
+      ∙ ap (λ (w : DbView). map recorded_part (events_of_batch (seen_database w) id)) same
 
   pub batch-listed : (batch : read.Batch) (span : Span) → Some (seen_batch batch) ≡ batch_at v.queues id → span ≡ record { queue = batch.queue; sub = batch.sub; prev = batch.prev; cur = batch.cur }
-      → selected_in (queue_at v.queues span.queue) (seen_span span) ≡ batch_list (seen_database now) id
+      → selected_in (queue_at v.queues span.queue) (seen_span span) ≡ events_of_batch (seen_database now) id
   batch-listed batch span there spans =
       ap (λ (s : Span). selected (seen_database v) (seen_span s)) spans ∙ ap (λ o. unwrap_or (option_map (selected (seen_database v)) o) []) there
-      ∙ ap (λ (w : DbView). batch_list (seen_database w) id) same
+      ∙ ap (λ (w : DbView). events_of_batch (seen_database w) id) same
 
   -- one that isn't active has none
-  pub none-recorded : None ≡ batch_at v.queues id → [] ≡ map recorded_part (batch_list (seen_database now) id)
+  pub none-recorded : None ≡ batch_at v.queues id → [] ≡ map recorded_part (events_of_batch (seen_database now) id)
   none-recorded none =
-      ap (λ o. map recorded_part (unwrap_or (option_map (selected (seen_database v)) o) [])) none ∙ ap (λ (w : DbView). map recorded_part (batch_list (seen_database w) id)) same
+      ap (λ o. map recorded_part (unwrap_or (option_map (selected (seen_database v)) o) [])) none ∙ ap (λ (w : DbView). map recorded_part (events_of_batch (seen_database w) id)) same
 
 -- what holds anyway holds of a call that succeeded
 pub on-ok : {T E : Type 0} (result : Result T E) (P : Type 0) → P → OnOk result P

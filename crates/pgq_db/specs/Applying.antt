@@ -1,5 +1,5 @@
 -- Batches that a leaf applies: which events are picked, what a worker may write for them and makes of them, and why a batch isn't applied.
-use Rattle.std.specs.Prelude.{◌≡◌, ℕ, List, [], Bool, true, false, Option, Some, None, IfSome, option_and_then, unwrap_or, length}
+use Rattle.std.specs.Prelude.{◌≡◌, ℕ, List, Bool, true, false, Option, Some, None, IfSome, option_and_then, length}
 use Rattle.sky_val.specs.declared.event.Event.{Event}
 use Rattle.sky_txid.specs.Ids.{contains}
 use Rattle.sky_names.specs.Places.{place_of}
@@ -15,7 +15,6 @@ use Rattle.sky_model.specs.History.{Mark}
 use Rattle.sky_model.specs.State.{RowPart, after_part, after_part_marks, Database}
 use Rattle.sky_model.specs.StepApply.{applies_events, bad_event}
 use Rattle.sky_model.specs.StepNode.{applying, node_does}
-use Rattle.sky_model.specs.Reader.{shown_by}
 use Rattle.sky_model.specs.Stops.{Refuses}
 use Rattle.pgq_db.specs.declared.apply.Work.{Work}
 use Rattle.pgq_db.specs.declared.pick.Pick.{Pick}
@@ -34,10 +33,6 @@ pick_of (variants.CopyOf table) = history.copy_of table
 abbrev pub as_leaf : Option Node → Option Leaf
 as_leaf (Some (of_leaf l)) = Some l
 as_leaf _ = None
-
--- the events of the active batch of an id, of which there are none if there is no such batch
-abbrev pub batch_list : Database → ℕ → List Event
-batch_list d id = unwrap_or ((shown_by d).events id) []
 
 -- a batch needs the id of a transaction
 abbrev pub apply_fault_of : TransFault → ApplyFault

@@ -6,6 +6,7 @@ ghost use Rattle.sky_val.specs.declared.event.Event.{Event};
 ghost use Rattle.sky_txid.specs.Ids.{contains};
 ghost use Rattle.sky_val.specs.Schemas.{key_of};
 ghost use Rattle.sky_model.specs.declared.reply.Reply.TheVariants.{Number};
+ghost use Rattle.sky_model.specs.BatchMoves.{events_of_batch};
 ghost use Rattle.sky_model.specs.Daemon.{quietly};
 ghost use Rattle.sky_model.specs.DatabaseCalls.{served};
 ghost use Rattle.sky_model.specs.DatabaseSteps.{DatabaseSteps, IsMade};
@@ -21,7 +22,7 @@ ghost use Rattle.pgq_tables.specs.Tables.{recorded_part};
 ghost use Rattle.pgq_queues.specs.Seen.{batch_at};
 ghost use Rattle.pgq_queues.specs.Views.{QueuesView};
 ghost use Rattle.pgq_db.specs.Agreeing.{Agree};
-ghost use Rattle.pgq_db.specs.Applying.{pick_of, as_leaf, batch_list, MayWriteFor, Makes, Works, ApplyRefused};
+ghost use Rattle.pgq_db.specs.Applying.{pick_of, as_leaf, MayWriteFor, Makes, Works, ApplyRefused};
 ghost use Rattle.pgq_db.specs.Copying.{MayWrite};
 ghost use Rattle.pgq_db.specs.Looks.{LooksFor, LooksFrom, LooksAtNoOther};
 ghost use Rattle.pgq_db.specs.Seen.{seen_database};
@@ -73,15 +74,15 @@ impl Db {
     ) -> Result<u64, ApplyFault>
         requires made { IsMade (seen_database self.old) }
         requires may { may_apply (pick_of pick.now) (seen_database self.old).node ≡ true }
-        ensures number { let events = batch_list (seen_database provider.old) batch in
+        ensures number { let events = events_of_batch (seen_database provider.old) batch in
             IfOk result (λ many. reply_of (node_does (seen_database self.old) (applying events (pick_of pick.now) tick)) ≡ Number many) }
-        ensures serves { OnOk result (Serves (seen_database self.old) (seen_database self.new) (applying (batch_list (seen_database provider.old) batch) (pick_of pick.now) tick)) }
-        ensures fault { IfErr result (λ fault. ApplyRefused fault (seen_database self.old) (seen_database self.new) (batch_list (seen_database provider.old) batch) (pick_of pick.now) tick) }
-        ensures steps { let events = batch_list (seen_database provider.old) batch in
+        ensures serves { OnOk result (Serves (seen_database self.old) (seen_database self.new) (applying (events_of_batch (seen_database provider.old) batch) (pick_of pick.now) tick)) }
+        ensures fault { IfErr result (λ fault. ApplyRefused fault (seen_database self.old) (seen_database self.new) (events_of_batch (seen_database provider.old) batch) (pick_of pick.now) tick) }
+        ensures steps { let events = events_of_batch (seen_database provider.old) batch in
             OnOk result (DatabaseSteps (seen_database self.old) (seen_database self.new) (served (applying events (pick_of pick.now) tick)) (quietly (node_does (seen_database self.old) (applying events (pick_of pick.now) tick)))) }
         ensures provider { seen_database provider.new ≡ seen_database provider.old }
         ensures looks { OnOk result (LooksFor provider.old.queues provider.new.queues batch) }
-        ensures lists { OnOk result (LooksFrom provider.old.queues provider.new.queues (batch_list (seen_database provider.old) batch) (batch_at provider.old.queues batch)) }
+        ensures lists { OnOk result (LooksFrom provider.old.queues provider.new.queues (events_of_batch (seen_database provider.old) batch) (batch_at provider.old.queues batch)) }
         ensures others { LooksAtNoOther provider.old.queues provider.new.queues (batch_at provider.old.queues batch) }
     {
         let Some(batch) = provider.queues.batch(batch) else {

@@ -1,6 +1,7 @@
 use Rattle.std.proofs.Common.{◌∙◌, [], ◌∷◌, ◌++◌, ap, refl, subst}
+use Rattle.sky_model.specs.BatchMoves.{events_of_batch}
 use Rattle.sky_model.specs.declared.reply.Reply.TheVariants.{Idle}
-use Rattle.pgq_db.specs.Applying.{pick_of, batch_list, ApplyRefused}
+use Rattle.pgq_db.specs.Applying.{pick_of, ApplyRefused}
 use Rattle.pgq_db.specs.Seen.{seen_database}
 use Rattle.londiste_batches.proofs.Batches.{stays-moves}
 use Rattle.londiste_batches.proofs.follow.apply.Goals as goal
@@ -9,6 +10,6 @@ pub returns-in_ok-add_reply-in-Err-BadEvent-clause-moves : goal.returns-in_ok-ad
 returns-in_ok-add_reply-in-Err-BadEvent-clause-moves c consumer tick =
     stays-moves (seen_database c.args.provider.now) (seen_database c.apply_batch.new.provider) (seen_database c.args.replica.now) (seen_database c.apply_batch.new.self) c.requires.replica_made
     (record { consumer = consumer; tick = tick; pick = pick_of c.args.pick.now }) c.requires.may c.apply_batch.ensures.provider c.in-Err-BadEvent.field-0-0 c.add_reply-in-Err-BadEvent.new.replies.items
-    (c.in_ok-add_reply-in-Err-BadEvent.ensures ∙ ap (λ replies. replies ++ Idle ∷ []) c.requires.nothing) _ c.args.hand c.hand.view_is (batch_list (seen_database c.args.provider.now) c.hand.inside.batch.id)
+    (c.in_ok-add_reply-in-Err-BadEvent.ensures ∙ ap (λ replies. replies ++ Idle ∷ []) c.requires.nothing) _ c.args.hand c.hand.view_is (events_of_batch (seen_database c.args.provider.now) c.hand.inside.batch.id)
     refl
-    (subst (λ fault. ApplyRefused fault (seen_database c.args.replica.now) (seen_database c.apply_batch.new.self) (batch_list (seen_database c.args.provider.now) c.hand.inside.batch.id) (pick_of c.args.pick.now) c.hand.inside.batch.cur) c.in-Err-BadEvent.field-0-is c.in-Err-BadEvent.ensures.fault)
+    (subst (λ fault. ApplyRefused fault (seen_database c.args.replica.now) (seen_database c.apply_batch.new.self) (events_of_batch (seen_database c.args.provider.now) c.hand.inside.batch.id) (pick_of c.args.pick.now) c.hand.inside.batch.cur) c.in-Err-BadEvent.field-0-is c.in-Err-BadEvent.ensures.fault)

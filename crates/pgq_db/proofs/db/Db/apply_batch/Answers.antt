@@ -1,8 +1,8 @@
 use Rattle.std.proofs.Common.{◌+◌, ◌-◌, ◌^◌, ◌<◌, ◌≤◌, length, ◌∙◌, ap, subst, sym}
+use Rattle.sky_model.specs.BatchMoves.{events_of_batch}
 use Rattle.sky_state.specs.Seen.{seen}
 use Rattle.pgq_queues.specs.declared.batch.Span.{Span}
 use Rattle.pgq_queues.specs.Seen.{Stands, batch_at, reads_at}
-use Rattle.pgq_db.specs.Applying.{batch_list}
 use Rattle.pgq_db.specs.Looks.{LooksFor, LooksFrom, LooksAtNoOther}
 use Rattle.pgq_db.specs.Views.{DbView}
 use Rattle.pgq_db.specs.Seen.{with_node, seen_database}
@@ -14,35 +14,35 @@ pub recorded-requires-clause-stands : goal.recorded-requires-clause-stands
 recorded-requires-clause-stands c = subst (λ (s : Span). Stands c.look.new.self.queues s.queue) (sym c.span-span.ensures) (c.look.ensures.stand.stands c.in-Some.batch.queue c.in-Some.ensures.stands)
 
 pub returns-in_default-clause-number : goal.returns-in_default-clause-number
-returns-in_default-clause-number c = c.apply_recorded.ensures.number (batch_list (seen_database c.args.provider.now) c.args.batch) (none-recorded _ _ c.provider.view_is c.args.batch c.in_default.ensures.batch)
+returns-in_default-clause-number c = c.apply_recorded.ensures.number (events_of_batch (seen_database c.args.provider.now) c.args.batch) (none-recorded _ _ c.provider.view_is c.args.batch c.in_default.ensures.batch)
 
 pub returns-in_default-clause-serves : goal.returns-in_default-clause-serves
-returns-in_default-clause-serves c = c.apply_recorded.ensures.serves (batch_list (seen_database c.args.provider.now) c.args.batch) (none-recorded _ _ c.provider.view_is c.args.batch c.in_default.ensures.batch)
+returns-in_default-clause-serves c = c.apply_recorded.ensures.serves (events_of_batch (seen_database c.args.provider.now) c.args.batch) (none-recorded _ _ c.provider.view_is c.args.batch c.in_default.ensures.batch)
 
 pub returns-in_default-clause-fault : goal.returns-in_default-clause-fault
-returns-in_default-clause-fault c = c.apply_recorded.ensures.fault (batch_list (seen_database c.args.provider.now) c.args.batch) (none-recorded _ _ c.provider.view_is c.args.batch c.in_default.ensures.batch)
+returns-in_default-clause-fault c = c.apply_recorded.ensures.fault (events_of_batch (seen_database c.args.provider.now) c.args.batch) (none-recorded _ _ c.provider.view_is c.args.batch c.in_default.ensures.batch)
 
 pub returns-in_default-clause-steps : goal.returns-in_default-clause-steps
-returns-in_default-clause-steps c = c.apply_recorded.ensures.steps (batch_list (seen_database c.args.provider.now) c.args.batch) (none-recorded _ _ c.provider.view_is c.args.batch c.in_default.ensures.batch)
+returns-in_default-clause-steps c = c.apply_recorded.ensures.steps (events_of_batch (seen_database c.args.provider.now) c.args.batch) (none-recorded _ _ c.provider.view_is c.args.batch c.in_default.ensures.batch)
 
 pub returns-in_default-clause-lists : goal.returns-in_default-clause-lists
 returns-in_default-clause-lists c =
-    on-ok c.apply_recorded.result _ (subst (LooksFrom c.args.provider.now.queues c.args.provider.now.queues (batch_list (seen_database c.args.provider.now) c.args.batch)) (c.in_default.ensures.batch ∙ ap (λ (v : DbView). batch_at v.queues c.args.batch) c.provider.view_is) tt)
+    on-ok c.apply_recorded.result _ (subst (LooksFrom c.args.provider.now.queues c.args.provider.now.queues (events_of_batch (seen_database c.args.provider.now) c.args.batch)) (c.in_default.ensures.batch ∙ ap (λ (v : DbView). batch_at v.queues c.args.batch) c.provider.view_is) tt)
 
 pub returns-in_default-clause-others : goal.returns-in_default-clause-others
 returns-in_default-clause-others c = no-other-same c.args.provider.now.queues (batch_at c.args.provider.now.queues c.args.batch)
 
 pub returns-clause-number : goal.returns-clause-number
-returns-clause-number c = c.apply_recorded-2.ensures.number (batch_list (seen_database c.args.provider.now) c.args.batch) (c.deref.ensures.value ∙ batch-recorded _ _ c.provider.view_is c.args.batch c.in-Some.batch c.span-span.result c.look.new.self c.in_ok-recorded.recorded.items c.in-Some.ensures.batch c.span-span.ensures c.look.ensures.same c.in_ok-recorded.ensures)
+returns-clause-number c = c.apply_recorded-2.ensures.number (events_of_batch (seen_database c.args.provider.now) c.args.batch) (c.deref.ensures.value ∙ batch-recorded _ _ c.provider.view_is c.args.batch c.in-Some.batch c.span-span.result c.look.new.self c.in_ok-recorded.recorded.items c.in-Some.ensures.batch c.span-span.ensures c.look.ensures.same c.in_ok-recorded.ensures)
 
 pub returns-clause-serves : goal.returns-clause-serves
-returns-clause-serves c = c.apply_recorded-2.ensures.serves (batch_list (seen_database c.args.provider.now) c.args.batch) (c.deref.ensures.value ∙ batch-recorded _ _ c.provider.view_is c.args.batch c.in-Some.batch c.span-span.result c.look.new.self c.in_ok-recorded.recorded.items c.in-Some.ensures.batch c.span-span.ensures c.look.ensures.same c.in_ok-recorded.ensures)
+returns-clause-serves c = c.apply_recorded-2.ensures.serves (events_of_batch (seen_database c.args.provider.now) c.args.batch) (c.deref.ensures.value ∙ batch-recorded _ _ c.provider.view_is c.args.batch c.in-Some.batch c.span-span.result c.look.new.self c.in_ok-recorded.recorded.items c.in-Some.ensures.batch c.span-span.ensures c.look.ensures.same c.in_ok-recorded.ensures)
 
 pub returns-clause-fault : goal.returns-clause-fault
-returns-clause-fault c = c.apply_recorded-2.ensures.fault (batch_list (seen_database c.args.provider.now) c.args.batch) (c.deref.ensures.value ∙ batch-recorded _ _ c.provider.view_is c.args.batch c.in-Some.batch c.span-span.result c.look.new.self c.in_ok-recorded.recorded.items c.in-Some.ensures.batch c.span-span.ensures c.look.ensures.same c.in_ok-recorded.ensures)
+returns-clause-fault c = c.apply_recorded-2.ensures.fault (events_of_batch (seen_database c.args.provider.now) c.args.batch) (c.deref.ensures.value ∙ batch-recorded _ _ c.provider.view_is c.args.batch c.in-Some.batch c.span-span.result c.look.new.self c.in_ok-recorded.recorded.items c.in-Some.ensures.batch c.span-span.ensures c.look.ensures.same c.in_ok-recorded.ensures)
 
 pub returns-clause-steps : goal.returns-clause-steps
-returns-clause-steps c = c.apply_recorded-2.ensures.steps (batch_list (seen_database c.args.provider.now) c.args.batch) (c.deref.ensures.value ∙ batch-recorded _ _ c.provider.view_is c.args.batch c.in-Some.batch c.span-span.result c.look.new.self c.in_ok-recorded.recorded.items c.in-Some.ensures.batch c.span-span.ensures c.look.ensures.same c.in_ok-recorded.ensures)
+returns-clause-steps c = c.apply_recorded-2.ensures.steps (events_of_batch (seen_database c.args.provider.now) c.args.batch) (c.deref.ensures.value ∙ batch-recorded _ _ c.provider.view_is c.args.batch c.in-Some.batch c.span-span.result c.look.new.self c.in_ok-recorded.recorded.items c.in-Some.ensures.batch c.span-span.ensures c.look.ensures.same c.in_ok-recorded.ensures)
 
 pub returns-clause-provider : goal.returns-clause-provider
 returns-clause-provider c = c.look.ensures.same (with_node c.provider.inside.node (seen c.provider.inside.rows)) ∙ ap seen_database c.provider.view_is
@@ -76,6 +76,6 @@ returns-clause-looks c =
 pub returns-clause-lists : goal.returns-clause-lists
 returns-clause-lists c =
     let listed = batch-listed _ _ c.provider.view_is c.args.batch c.in-Some.batch c.span-span.result c.in-Some.ensures.batch c.span-span.ensures in
-    on-ok c.apply_recorded-2.result _ (subst (λ (v : DbView). LooksFrom v.queues c.look.new.self (batch_list (seen_database c.args.provider.now) c.args.batch) (batch_at v.queues c.args.batch)) c.provider.view_is
-    (lists-for c.provider.inside.queues c.look.new.self c.args.batch c.in-Some.batch c.span-span.result (batch_list (seen_database c.args.provider.now) c.args.batch) c.in-Some.ensures.batch c.span-span.ensures
+    on-ok c.apply_recorded-2.result _ (subst (λ (v : DbView). LooksFrom v.queues c.look.new.self (events_of_batch (seen_database c.args.provider.now) c.args.batch) (batch_at v.queues c.args.batch)) c.provider.view_is
+    (lists-for c.provider.inside.queues c.look.new.self c.args.batch c.in-Some.batch c.span-span.result (events_of_batch (seen_database c.args.provider.now) c.args.batch) c.in-Some.ensures.batch c.span-span.ensures
     (subst (λ es. reads_at c.look.new.self.queues c.span-span.result.queue < 2 ^ 64 - 1 → length es + reads_at c.provider.inside.queues.queues c.span-span.result.queue ≤ reads_at c.look.new.self.queues c.span-span.result.queue) listed c.in_ok-looks.ensures.lower)))
