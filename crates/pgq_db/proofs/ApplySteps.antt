@@ -555,8 +555,3 @@ module _ (v now : DbView) (same : v ≡ now) (id : ℕ) where
   pub none-recorded : None ≡ batch_at v.queues id → [] ≡ map recorded_part (events_of_batch (seen_database now) id)
   none-recorded none =
       ap (λ o. map recorded_part (unwrap_or (option_map (selected (seen_database v)) o) [])) none ∙ ap (λ (w : DbView). map recorded_part (events_of_batch (seen_database w) id)) same
-
--- what holds anyway holds of a call that succeeded
-pub on-ok : {T E : Type 0} (result : Result T E) (P : Type 0) → P → OnOk result P
-on-ok (Ok value) P holds = holds
-on-ok (Err fault) P holds = tt

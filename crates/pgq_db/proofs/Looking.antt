@@ -23,6 +23,7 @@ use Rattle.pgq_queues.specs.Seen.{no_queue, seen_batch, seen_span, queue_at, bat
 use Rattle.pgq_queues.specs.Traced.{traced_at}
 use Rattle.pgq_queues.specs.Views.{QueueView, QueuesView}
 use Rattle.pgq_queues.proofs.Slotted.{undone-get}
+use Rattle.pgq_db.specs.Views.{DbView}
 use Rattle.pgq_db.specs.Looks.{most_for, LooksFor, LooksWithin, RanWithin, LooksFrom, LooksAtNoOther, ListsFrom, ListsLooked, ReadsNone}
 
 -- ---- the queues as the gate
@@ -55,24 +56,33 @@ reads-passed old q left marks same is = λ n. ap (λ (x : QueuesView). reads_at 
 
 -- ---- the events of a batch
 
-pub looks-for : (old new : QueuesView) (id : ℕ) (batch : read.Batch) (span : Span) → Some (seen_batch batch) ≡ batch_at old id
-    → span ≡ record { queue = batch.queue; sub = batch.sub; prev = batch.prev; cur = batch.cur } → ((n : ℕ) → (span.queue == n) ≡ false → reads_at new.queues n ≡ reads_at old.queues n)
-    → reads_at new.queues span.queue ≤ reads_at old.queues span.queue + most_in (queue_at old span.queue) (seen_span span) → LooksFor old new id
-looks-for old new id batch span there is others upper = λ n. subst (λ o. reads_at new.queues n ≤ reads_at old.queues n + most_for old n o) there (by n (batch.queue == n) refl)
-  where
-    by : (n : ℕ) (b : Bool) → (batch.queue == n) ≡ b → reads_at new.queues n ≤ reads_at old.queues n + (if b then most_in (queue_at old n) (seen_batch batch) else 0)
-    by n true e =
-        let same : batch.queue ≡ n = grind (arith, nat_tests) in
-        subst (λ m. reads_at new.queues m ≤ reads_at old.queues m + most_in (queue_at old m) (seen_batch batch)) same
-        (subst (λ (s : Span). reads_at new.queues s.queue ≤ reads_at old.queues s.queue + most_in (queue_at old s.queue) (seen_span s)) is upper)
-    by n false e = let same = others n (subst (λ (s : Span). (s.queue == n) ≡ false) (sym is) e) in omega (arith, same)
+module _ (v now : DbView) (same : v ≡ now) (id : ℕ) (batch : read.Batch) (span : Span) (there : Some (seen_batch batch) ≡ batch_at v.queues id)
+    (is : span ≡ record { queue = batch.queue; sub = batch.sub; prev = batch.prev; cur = batch.cur }) (new : QueuesView) where
+  pub looks-for : ((n : ℕ) → (span.queue == n) ≡ false → reads_at new.queues n ≡ reads_at v.queues.queues n)
+      → reads_at new.queues span.queue ≤ reads_at v.queues.queues span.queue + most_in (queue_at v.queues span.queue) (seen_span span) → LooksFor now.queues new id
+  looks-for others upper =
+      subst (λ (w : DbView). LooksFor w.queues new id) same (λ n. subst (λ o. reads_at new.queues n ≤ reads_at v.queues.queues n + most_for v.queues n o) there (by n (batch.queue == n) refl))
+    where
+      by : (n : ℕ) (b : Bool) → (batch.queue == n) ≡ b → reads_at new.queues n ≤ reads_at v.queues.queues n + (if b then most_in (queue_at v.queues n) (seen_batch batch) else 0)
+      by n true e =
+          let here : batch.queue ≡ n = grind (arith, nat_tests) in
+          subst (λ m. reads_at new.queues m ≤ reads_at v.queues.queues m + most_in (queue_at v.queues m) (seen_batch batch)) here
+          (subst (λ (s : Span). reads_at new.queues s.queue ≤ reads_at v.queues.queues s.queue + most_in (queue_at v.queues s.queue) (seen_span s)) is upper)
+      by n false e = let kept = others n (subst (λ (s : Span). (s.queue == n) ≡ false) (sym is) e) in omega (arith, kept)
 
--- and none of another queue is looked at
-pub no-other-for : (old new : QueuesView) (id : ℕ) (batch : read.Batch) (span : Span) → Some (seen_batch batch) ≡ batch_at old id
-    → span ≡ record { queue = batch.queue; sub = batch.sub; prev = batch.prev; cur = batch.cur } → ((n : ℕ) → (span.queue == n) ≡ false → reads_at new.queues n ≡ reads_at old.queues n)
-    → LooksAtNoOther old new (batch_at old id)
-no-other-for old new id batch span there is others =
-    subst (LooksAtNoOther old new) there (subst (λ (s : Span). (n : ℕ) → (s.queue == n) ≡ false → reads_at new.queues n ≡ reads_at old.queues n) is others)
+  -- those that are listed were looked at
+  pub lists-for : (events : List Event)
+      → (reads_at new.queues span.queue < 2 ^ 64 - 1 → length events + reads_at v.queues.queues span.queue ≤ reads_at new.queues span.queue) → LooksFrom now.queues new events (batch_at now.queues id)
+  lists-for events lower =
+      subst (λ (w : DbView). LooksFrom w.queues new events (batch_at w.queues id)) same
+      (subst (LooksFrom v.queues new events) there
+      (subst (λ (s : Span). reads_at new.queues s.queue < 2 ^ 64 - 1 → length events + reads_at v.queues.queues s.queue ≤ reads_at new.queues s.queue) is lower))
+
+  -- and none of another queue
+  pub no-other-for : ((n : ℕ) → (span.queue == n) ≡ false → reads_at new.queues n ≡ reads_at v.queues.queues n) → LooksAtNoOther now.queues new (batch_at now.queues id)
+  no-other-for others =
+      subst (λ (w : DbView). LooksAtNoOther w.queues new (batch_at w.queues id)) same
+      (subst (LooksAtNoOther v.queues new) there (subst (λ (s : Span). (n : ℕ) → (s.queue == n) ≡ false → reads_at new.queues n ≡ reads_at v.queues.queues n) is others))
 
 pub no-other-same : (q : QueuesView) (o : Option Batch) → LooksAtNoOther q q o
 no-other-same q None = λ n. refl
@@ -101,13 +111,6 @@ looks-refused old mid new (EventRetry id event seconds) refusal looks none = λ 
 looks-refused old mid new _ refusal looks none = tt
 
 -- ---- the events that are listed
-
-pub lists-for : (old new : QueuesView) (id : ℕ) (batch : read.Batch) (span : Span) (events : List Event) → Some (seen_batch batch) ≡ batch_at old id
-    → span ≡ record { queue = batch.queue; sub = batch.sub; prev = batch.prev; cur = batch.cur }
-    → (reads_at new.queues span.queue < 2 ^ 64 - 1 → length events + reads_at old.queues span.queue ≤ reads_at new.queues span.queue) → LooksFrom old new events (batch_at old id)
-lists-for old new id batch span events there is lower =
-    subst (LooksFrom old new events) there
-    (subst (λ (s : Span). reads_at new.queues s.queue < 2 ^ 64 - 1 → length events + reads_at old.queues s.queue ≤ reads_at new.queues s.queue) is lower)
 
 pub lists-reply : (old new : QueuesView) (id : ℕ) (events_of : ℕ → Option (List Event)) (events : List Event) → Some events ≡ events_of id → LooksFrom old new events (batch_at old id)
     → ListsFrom old new id (reply_of (get_batch_events events_of id))

@@ -1,7 +1,7 @@
 //! Batches of events that a leaf applies to its tables. A batch is one transaction of a worker, which writes the rows
 //! of the events that are picked, one after another, and stores the tick.
 
-ghost use Rattle.std.specs.Prelude.{◌≡◌, List, [], ◌∷◌, true, false, Some, IfErr, IfOk, OnErr, OnOk, All, filter, map, option_copied};
+ghost use Rattle.std.specs.Prelude.{◌≡◌, ◌≢◌, List, [], ◌∷◌, true, false, Some, Err, IfErr, IfOk, OnErr, OnOk, All, filter, map, option_copied};
 ghost use Rattle.sky_val.specs.declared.event.Event.{Event};
 ghost use Rattle.sky_txid.specs.Ids.{contains};
 ghost use Rattle.sky_val.specs.Schemas.{key_of};
@@ -64,7 +64,8 @@ impl Db {
     }
 
     /// The same for the events of a batch of another database, of which there are none if it isn't active there. They are
-    /// read where they are stored, and nothing changes there but how many events of the batch's queue were looked at.
+    /// read where they are stored, and nothing changes there but how many events of the batch's queue were looked at:
+    /// whether all can be applied or not, as many as for `get_batch_events`, unless memory runs out.
     pub fn apply_batch(
         &mut self,
         provider: &mut Db,
@@ -81,8 +82,8 @@ impl Db {
         ensures steps { let events = events_of_batch (seen_database provider.old) batch in
             OnOk result (DatabaseSteps (seen_database self.old) (seen_database self.new) (served (applying events (pick_of pick.now) tick)) (quietly (node_does (seen_database self.old) (applying events (pick_of pick.now) tick)))) }
         ensures provider { seen_database provider.new ≡ seen_database provider.old }
-        ensures looks { OnOk result (LooksFor provider.old.queues provider.new.queues batch) }
-        ensures lists { OnOk result (LooksFrom provider.old.queues provider.new.queues (events_of_batch (seen_database provider.old) batch) (batch_at provider.old.queues batch)) }
+        ensures looks { result ≢ Err ApplyFault.NoMemory → LooksFor provider.old.queues provider.new.queues batch }
+        ensures lists { result ≢ Err ApplyFault.NoMemory → LooksFrom provider.old.queues provider.new.queues (events_of_batch (seen_database provider.old) batch) (batch_at provider.old.queues batch) }
         ensures others { LooksAtNoOther provider.old.queues provider.new.queues (batch_at provider.old.queues batch) }
     {
         let Some(batch) = provider.queues.batch(batch) else {

@@ -3,10 +3,10 @@ use Rattle.sky_model.specs.BatchMoves.{events_of_batch}
 use Rattle.sky_state.specs.Seen.{seen}
 use Rattle.pgq_queues.specs.declared.batch.Span.{Span}
 use Rattle.pgq_queues.specs.Seen.{Stands, batch_at, reads_at}
-use Rattle.pgq_db.specs.Looks.{LooksFor, LooksFrom, LooksAtNoOther}
+use Rattle.pgq_db.specs.Looks.{LooksFrom}
 use Rattle.pgq_db.specs.Views.{DbView}
 use Rattle.pgq_db.specs.Seen.{with_node, seen_database}
-use Rattle.pgq_db.proofs.ApplySteps.{batch-recorded, batch-listed, none-recorded, on-ok}
+use Rattle.pgq_db.proofs.ApplySteps.{batch-recorded, batch-listed, none-recorded}
 use Rattle.pgq_db.proofs.Looking.{looks-for, lists-for, no-other-for, no-other-same}
 use Rattle.pgq_db.proofs.db.Db.apply_batch.Goals as goal
 
@@ -27,7 +27,7 @@ returns-in_default-clause-steps c = c.apply_recorded.ensures.steps (events_of_ba
 
 pub returns-in_default-clause-lists : goal.returns-in_default-clause-lists
 returns-in_default-clause-lists c =
-    on-ok c.apply_recorded.result _ (subst (LooksFrom c.args.provider.now.queues c.args.provider.now.queues (events_of_batch (seen_database c.args.provider.now) c.args.batch)) (c.in_default.ensures.batch ∙ ap (λ (v : DbView). batch_at v.queues c.args.batch) c.provider.view_is) tt)
+    λ _. subst (LooksFrom c.args.provider.now.queues c.args.provider.now.queues (events_of_batch (seen_database c.args.provider.now) c.args.batch)) (c.in_default.ensures.batch ∙ ap (λ (v : DbView). batch_at v.queues c.args.batch) c.provider.view_is) tt
 
 pub returns-in_default-clause-others : goal.returns-in_default-clause-others
 returns-in_default-clause-others c = no-other-same c.args.provider.now.queues (batch_at c.args.provider.now.queues c.args.batch)
@@ -47,35 +47,26 @@ returns-clause-steps c = c.apply_recorded-2.ensures.steps (events_of_batch (seen
 pub returns-clause-provider : goal.returns-clause-provider
 returns-clause-provider c = c.look.ensures.same (with_node c.provider.inside.node (seen c.provider.inside.rows)) ∙ ap seen_database c.provider.view_is
 
+pub returns-clause-looks : goal.returns-clause-looks
+returns-clause-looks c = λ _. looks-for _ _ c.provider.view_is c.args.batch c.in-Some.batch c.span-span.result c.in-Some.ensures.batch c.span-span.ensures c.look.new.self c.look.ensures.others c.in_ok-looks.ensures.upper
+
+pub returns-clause-lists : goal.returns-clause-lists
+returns-clause-lists c =
+    let listed = batch-listed _ _ c.provider.view_is c.args.batch c.in-Some.batch c.span-span.result c.in-Some.ensures.batch c.span-span.ensures in
+    λ _. lists-for _ _ c.provider.view_is c.args.batch c.in-Some.batch c.span-span.result c.in-Some.ensures.batch c.span-span.ensures c.look.new.self (events_of_batch (seen_database c.args.provider.now) c.args.batch)
+    (subst (λ es. reads_at c.look.new.self.queues c.span-span.result.queue < 2 ^ 64 - 1 → length es + reads_at c.provider.inside.queues.queues c.span-span.result.queue ≤ reads_at c.look.new.self.queues c.span-span.result.queue) listed c.in_ok-looks.ensures.lower)
+
 pub returns-clause-others : goal.returns-clause-others
-returns-clause-others c =
-    subst (λ (v : DbView). LooksAtNoOther v.queues c.look.new.self (batch_at v.queues c.args.batch)) c.provider.view_is
-    (no-other-for c.provider.inside.queues c.look.new.self c.args.batch c.in-Some.batch c.span-span.result c.in-Some.ensures.batch c.span-span.ensures c.look.ensures.others)
+returns-clause-others c = no-other-for _ _ c.provider.view_is c.args.batch c.in-Some.batch c.span-span.result c.in-Some.ensures.batch c.span-span.ensures c.look.new.self c.look.ensures.others
 
 pub returns-in_err-looks-clause-provider : goal.returns-in_err-looks-clause-provider
 returns-in_err-looks-clause-provider c = c.look.ensures.same (with_node c.provider.inside.node (seen c.provider.inside.rows)) ∙ ap seen_database c.provider.view_is
 
 pub returns-in_err-looks-clause-others : goal.returns-in_err-looks-clause-others
-returns-in_err-looks-clause-others c =
-    subst (λ (v : DbView). LooksAtNoOther v.queues c.look.new.self (batch_at v.queues c.args.batch)) c.provider.view_is
-    (no-other-for c.provider.inside.queues c.look.new.self c.args.batch c.in-Some.batch c.span-span.result c.in-Some.ensures.batch c.span-span.ensures c.look.ensures.others)
+returns-in_err-looks-clause-others c = no-other-for _ _ c.provider.view_is c.args.batch c.in-Some.batch c.span-span.result c.in-Some.ensures.batch c.span-span.ensures c.look.new.self c.look.ensures.others
 
 pub returns-in_err-recorded-clause-provider : goal.returns-in_err-recorded-clause-provider
 returns-in_err-recorded-clause-provider c = c.look.ensures.same (with_node c.provider.inside.node (seen c.provider.inside.rows)) ∙ ap seen_database c.provider.view_is
 
 pub returns-in_err-recorded-clause-others : goal.returns-in_err-recorded-clause-others
-returns-in_err-recorded-clause-others c =
-    subst (λ (v : DbView). LooksAtNoOther v.queues c.look.new.self (batch_at v.queues c.args.batch)) c.provider.view_is
-    (no-other-for c.provider.inside.queues c.look.new.self c.args.batch c.in-Some.batch c.span-span.result c.in-Some.ensures.batch c.span-span.ensures c.look.ensures.others)
-
-pub returns-clause-looks : goal.returns-clause-looks
-returns-clause-looks c =
-    on-ok c.apply_recorded-2.result _ (subst (λ (v : DbView). LooksFor v.queues c.look.new.self c.args.batch) c.provider.view_is
-    (looks-for c.provider.inside.queues c.look.new.self c.args.batch c.in-Some.batch c.span-span.result c.in-Some.ensures.batch c.span-span.ensures c.look.ensures.others c.in_ok-looks.ensures.upper))
-
-pub returns-clause-lists : goal.returns-clause-lists
-returns-clause-lists c =
-    let listed = batch-listed _ _ c.provider.view_is c.args.batch c.in-Some.batch c.span-span.result c.in-Some.ensures.batch c.span-span.ensures in
-    on-ok c.apply_recorded-2.result _ (subst (λ (v : DbView). LooksFrom v.queues c.look.new.self (events_of_batch (seen_database c.args.provider.now) c.args.batch) (batch_at v.queues c.args.batch)) c.provider.view_is
-    (lists-for c.provider.inside.queues c.look.new.self c.args.batch c.in-Some.batch c.span-span.result (events_of_batch (seen_database c.args.provider.now) c.args.batch) c.in-Some.ensures.batch c.span-span.ensures
-    (subst (λ es. reads_at c.look.new.self.queues c.span-span.result.queue < 2 ^ 64 - 1 → length es + reads_at c.provider.inside.queues.queues c.span-span.result.queue ≤ reads_at c.look.new.self.queues c.span-span.result.queue) listed c.in_ok-looks.ensures.lower)))
+returns-in_err-recorded-clause-others c = no-other-for _ _ c.provider.view_is c.args.batch c.in-Some.batch c.span-span.result c.in-Some.ensures.batch c.span-span.ensures c.look.new.self c.look.ensures.others

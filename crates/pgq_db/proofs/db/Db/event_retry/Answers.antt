@@ -19,7 +19,6 @@ use Rattle.pgq_db.proofs.RetrySteps.{no-event, gives-retry, asked-as}
 use Rattle.pgq_db.proofs.Agreeing.{agree-stay}
 use Rattle.pgq_queues.specs.Looked.{most_in}
 use Rattle.pgq_queues.specs.Views.{QueueView}
-use Rattle.pgq_db.specs.Looks.{LooksFor}
 use Rattle.pgq_db.proofs.Looking.{looks-for}
 use Rattle.pgq_db.proofs.db.Db.event_retry.Goals as goal
 
@@ -72,13 +71,11 @@ invariant_of-self-2 c = λ e.
 
 pub returns-in_default-2-clause-looks : goal.returns-in_default-2-clause-looks
 returns-in_default-2-clause-looks c =
-    subst (λ (v : DbView). LooksFor v.queues c.event_in.new.self c.args.id) c.self.view_is
-    (looks-for c.self.inside.queues c.event_in.new.self c.args.id c.in-Some.batch c.span-span.result c.in-Some.ensures.batch c.span-span.ensures c.event_in.ensures.others c.in_ok-found.ensures.upper)
+    looks-for _ _ c.self.view_is c.args.id c.in-Some.batch c.span-span.result c.in-Some.ensures.batch c.span-span.ensures c.event_in.new.self c.event_in.ensures.others c.in_ok-found.ensures.upper
 
 pub returns-clause-looks : goal.returns-clause-looks
 returns-clause-looks c =
-    subst (λ (v : DbView). LooksFor v.queues c.retry.new.self c.args.id) c.self.view_is
-    (looks-for c.self.inside.queues c.retry.new.self c.args.id c.in-Some.batch c.span-span.result c.in-Some.ensures.batch c.span-span.ensures
+    looks-for _ _ c.self.view_is c.args.id c.in-Some.batch c.span-span.result c.in-Some.ensures.batch c.span-span.ensures c.retry.new.self
     (λ n other. ap (λ queues. reads_at queues n) c.retry.ensures.queues ∙ c.event_in.ensures.others n other)
     (subst (λ (queues : List QueueView). reads_at queues c.span-span.result.queue ≤ reads_at c.self.inside.queues.queues c.span-span.result.queue + most_in (queue_at c.self.inside.queues c.span-span.result.queue) (seen_span c.span-span.result))
-    (sym c.retry.ensures.queues) c.in_ok-found.ensures.upper))
+    (sym c.retry.ensures.queues) c.in_ok-found.ensures.upper)

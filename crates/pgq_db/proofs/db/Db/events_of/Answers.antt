@@ -1,10 +1,9 @@
-use Rattle.std.proofs.Common.{◌∙◌, ap, option_map, subst}
+use Rattle.std.proofs.Common.{◌∙◌, ap, option_map}
 use Rattle.sky_model.specs.Selection.{selected}
 use Rattle.sky_model.specs.State.{Database}
 use Rattle.sky_state.specs.Seen.{seen}
 use Rattle.pgq_queues.specs.declared.batch.Span.{Span}
 use Rattle.pgq_queues.specs.Seen.{seen_batch, seen_span, seen_with, batch_at}
-use Rattle.pgq_db.specs.Looks.{LooksFor, LooksFrom, LooksAtNoOther}
 use Rattle.pgq_db.specs.Views.{DbView}
 use Rattle.pgq_db.specs.Seen.{with_node, seen_database}
 use Rattle.pgq_db.proofs.ConsumerSteps.{events-as}
@@ -22,14 +21,10 @@ returns-clause-events c =
     ∙ ap (λ (v : DbView). selected (seen_database v) (seen_batch c.in-Some.batch)) c.self.view_is)
 
 pub returns-clause-looks : goal.returns-clause-looks
-returns-clause-looks c =
-    subst (λ (v : DbView). LooksFor v.queues c.batch_events.new.self c.args.id) c.self.view_is
-    (looks-for c.self.inside.queues c.batch_events.new.self c.args.id c.in-Some.batch c.span-span.result c.in-Some.ensures.batch c.span-span.ensures c.batch_events.ensures.others c.in_ok-events.ensures.upper)
+returns-clause-looks c = looks-for _ _ c.self.view_is c.args.id c.in-Some.batch c.span-span.result c.in-Some.ensures.batch c.span-span.ensures c.batch_events.new.self c.batch_events.ensures.others c.in_ok-events.ensures.upper
 
 pub returns-clause-lists : goal.returns-clause-lists
-returns-clause-lists c =
-    subst (λ (v : DbView). LooksFrom v.queues c.batch_events.new.self c.in_ok-events.events.items (batch_at v.queues c.args.id)) c.self.view_is
-    (lists-for c.self.inside.queues c.batch_events.new.self c.args.id c.in-Some.batch c.span-span.result c.in_ok-events.events.items c.in-Some.ensures.batch c.span-span.ensures c.in_ok-events.ensures.lower)
+returns-clause-lists c = lists-for _ _ c.self.view_is c.args.id c.in-Some.batch c.span-span.result c.in-Some.ensures.batch c.span-span.ensures c.batch_events.new.self c.in_ok-events.events.items c.in_ok-events.ensures.lower
 
 pub returns-clause-same : goal.returns-clause-same
 returns-clause-same c = c.batch_events.ensures.same (with_node c.self.inside.node (seen c.self.inside.rows)) ∙ ap seen_database c.self.view_is
@@ -38,14 +33,10 @@ pub returns-in_err-events-clause-same : goal.returns-in_err-events-clause-same
 returns-in_err-events-clause-same c = c.batch_events.ensures.same (with_node c.self.inside.node (seen c.self.inside.rows)) ∙ ap seen_database c.self.view_is
 
 pub returns-clause-others : goal.returns-clause-others
-returns-clause-others c =
-    subst (λ (v : DbView). LooksAtNoOther v.queues c.batch_events.new.self (batch_at v.queues c.args.id)) c.self.view_is
-    (no-other-for c.self.inside.queues c.batch_events.new.self c.args.id c.in-Some.batch c.span-span.result c.in-Some.ensures.batch c.span-span.ensures c.batch_events.ensures.others)
+returns-clause-others c = no-other-for _ _ c.self.view_is c.args.id c.in-Some.batch c.span-span.result c.in-Some.ensures.batch c.span-span.ensures c.batch_events.new.self c.batch_events.ensures.others
 
 pub returns-in_err-events-clause-others : goal.returns-in_err-events-clause-others
-returns-in_err-events-clause-others c =
-    subst (λ (v : DbView). LooksAtNoOther v.queues c.batch_events.new.self (batch_at v.queues c.args.id)) c.self.view_is
-    (no-other-for c.self.inside.queues c.batch_events.new.self c.args.id c.in-Some.batch c.span-span.result c.in-Some.ensures.batch c.span-span.ensures c.batch_events.ensures.others)
+returns-in_err-events-clause-others c = no-other-for _ _ c.self.view_is c.args.id c.in-Some.batch c.span-span.result c.in-Some.ensures.batch c.span-span.ensures c.batch_events.new.self c.batch_events.ensures.others
 
 pub returns-in_default-clause-others : goal.returns-in_default-clause-others
 returns-in_default-clause-others c = no-other-same c.args.self.now.queues (batch_at c.args.self.now.queues c.args.id)
