@@ -74,7 +74,7 @@ impl ReplayWorker {
             return Ok(replies);
         };
         let tick = leaf_in(replica.node()).tick();
-        self.hand = go_through(provider, replica, tick, &Pick::Ready, hand, &mut replies)?;
+        self.hand = go_through(provider, replica, tick, &Pick::Synced, hand, &mut replies)?;
         Ok(replies)
     }
 

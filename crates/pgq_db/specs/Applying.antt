@@ -26,7 +26,7 @@ use Rattle.pgq_db.specs.Served.{Serves}
 
 -- the definitions' pick
 abbrev pub pick_of : Pick → history.Pick
-pick_of variants.Ready = history.of_synced
+pick_of variants.Synced = history.of_synced
 pick_of (variants.CopyOf table) = history.copy_of table
 
 -- the leaf, if a node is one

@@ -170,7 +170,7 @@ fn store_tick(node: &mut Option<Node>, pick: &Pick, tick: u64)
 {
     if let Some(Node::Leaf(leaf)) = node {
         match pick {
-            Pick::Ready => leaf.set_tick(tick),
+            Pick::Synced => leaf.set_tick(tick),
             Pick::CopyOf(table) => leaf.set_table_tick(table, tick),
         }
     }

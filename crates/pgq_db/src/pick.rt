@@ -15,7 +15,7 @@ use sky_val::Text;
 #[derive(Debug, Drop)]
 pub enum Pick {
     /// Those of the tables that are in sync. The tick is the leaf's.
-    Ready,
+    Synced,
     /// Those of one table that its copy's snapshot doesn't see. The tick is the table's.
     CopyOf(Text),
 }
@@ -26,7 +26,7 @@ impl Pick {
         ensures { result ≡ picks leaf.now (pick_of self.now) event.now }
     {
         match self {
-            Pick::Ready => is_change(event) && is_of_synced(leaf, event),
+            Pick::Synced => is_change(event) && is_of_synced(leaf, event),
             Pick::CopyOf(table) => {
                 is_change(event)
                     && is_of_table(table, event)

@@ -132,7 +132,7 @@ impl Db {
     }
 
     /// The events of the active batch of this id, if there is one. The same holds.
-    pub fn events_of(&mut self, id: u64) -> Result<Option<Vec<Event>>, NoMemory>
+    pub(crate) fn events_of(&mut self, id: u64) -> Result<Option<Vec<Event>>, NoMemory>
         ensures events { IfOk result (λ found. option_map (λ events. events.items) found ≡ (shown_by (seen_database self.old)).events id) }
         ensures moments { IfOk result (λ found. IfSome found (λ events. EventsHaveMoments events.items)) }
         ensures same { seen_database self.new ≡ seen_database self.old }

@@ -41,7 +41,7 @@ fn apply(alloc: Global, db: &mut Replica, words: &str) -> anyhow::Result<String>
 fn pick_in(alloc: Global, word: &str) -> anyhow::Result<Pick> {
     match word.strip_prefix("copy_of:") {
         Some(table) => Ok(Pick::CopyOf(Text::from_str(alloc, table)?)),
-        None if word == "ready" => Ok(Pick::Ready),
+        None if word == "synced" => Ok(Pick::Synced),
         None => Err(no_command()),
     }
 }
@@ -94,7 +94,7 @@ fn check_pick(db: &Db, pick: &Pick) -> anyhow::Result<()>
         bail!("no leaf");
     };
     match pick {
-        Pick::Ready => Ok(()),
+        Pick::Synced => Ok(()),
         Pick::CopyOf(table) if was_copied(leaf, table) => Ok(()),
         Pick::CopyOf(_) => bail!("not copied"),
     }
