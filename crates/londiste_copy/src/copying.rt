@@ -103,9 +103,9 @@ fn begin(
     provider.part(&consumer);
     let tick = match provider.join(&consumer) {
         Ok(tick) => tick,
+        Err(JoinFault::NoMemory) => return Err(WorkerFault::NoMemory),
         // It has just left, so there is room for it, and an id was left.
-        Err(fault) if fault != JoinFault::NoMemory => unreachable!(),
-        Err(_) => return Err(WorkerFault::NoMemory),
+        Err(_) => unreachable!(),
     };
     let hold = provider.hold()?;
     Ok(CopyHand {

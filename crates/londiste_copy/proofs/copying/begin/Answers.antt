@@ -7,7 +7,7 @@ use Rattle.londiste_copy.proofs.copying.begin.Goals as goal
 pub unreachable-requires : goal.unreachable-requires
 unreachable-requires c =
     not-refused (seen_database c.args.provider.now) (seen_database c.args.replica.now) c.args.table.now _ c.requires.provider_made c.requires.root (c.in_ok-consumer.ensures ∙ ap copy_consumer c.node.ensures)
-    (sym c.full.ensures ∙ c.if-full.false) (sym c.spent.ensures ∙ c.if-spent.false) (seen_database c.part.new.self) (seen_database c.join.new.self) c.part.ensures.serves c.in-Err.fault (λ is. search (rules, tests, is)) c.in-Err.ensures.fault
+    (sym c.full.ensures ∙ c.if-full.false) (sym c.spent.ensures ∙ c.if-spent.false) (seen_database c.part.new.self) (seen_database c.join.new.self) c.part.ensures.serves c.in-Err.field-0 (λ is. search (rules, tests, is)) c.in-Err.ensures.fault
 
 pub returns-clause-begun : goal.returns-clause-begun
 returns-clause-begun c =
