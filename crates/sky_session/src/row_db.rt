@@ -275,7 +275,8 @@ impl RowDb {
     }
 
     /// Records what a session writes elsewhere, in its transaction, which has this id or gets it: outside a block the
-    /// transaction then commits. It is the same as `take_txid`, and then `end_single`.
+    /// transaction then commits. It is the same as `take_txid`, and then `end_single`. No effect is reported for that
+    /// commit: the caller, pgq_db, made the write itself, and drops all effects.
     pub fn write_elsewhere(&mut self, who: SessionId, txid: u64) -> Result<(), NoMemory>
         requires { txid_for (seen self.old) who ≡ Ok txid }
         ensures marks { OnOk result (seen self.new ≡ after_part_marks (seen self.old) (in_own who txid ((seen self.old).session who) [])) }
@@ -288,7 +289,7 @@ impl RowDb {
     }
 
     /// Commits the session's transaction, if the session is in no block. Nothing happens in a block, or if no id was
-    /// taken.
+    /// taken. No effect is reported for the commit, as for the one of `write_elsewhere`: it is the caller's own.
     pub fn end_single(&mut self, who: SessionId)
         ensures marks { seen self.new ≡ after_part_marks (seen self.old) (ending (seen self.old) who).marks }
         ensures steps { RowSteps (seen self.old) (seen self.new) (single_ended who) (ending (seen self.old) who) }
