@@ -249,6 +249,28 @@ retried-dropped {rounds} queues new n rs empty lt none within = subst (λ qs. Re
       most = waits.most;
     }
 
+-- ---- all that a database keeps of its queues, after one of them changed
+
+abbrev pub AllWithin : QueuesView → Type 0
+AllWithin v = (HasMoment v.time × RetriedWithin v.rounds v.queues v.retries) × (AreNumbers v.names v.queues × (BatchesWithin v.last_batch_id v.queues v.batches × TracedWithin v.queues v.triggers v.traced_tables))
+
+queue-within : (v : QueuesView) (i : ℕ) (new : QueueView) → StillStand v.queues (slice_set v.queues i new) → BoundOn v.rounds v.queues (slice_set v.queues i new) → AllWithin v → AllWithin (record v { queues = slice_set v.queues i new })
+queue-within v i new still bound within =
+    ((within.0.0, retried-still v.queues (slice_set v.queues i new) v.retries still bound within.0.1), within-still v.names v.queues (slice_set v.queues i new) v.batches v.triggers v.traced_tables still within.1)
+
+-- it has the ticks, subscriptions and events that it had
+pub alike-within : (v now : QueuesView) (i : ℕ) (old new : QueueView) → v ≡ now → Stands now.queues i → i < length v.queues → old ≡ get_or v.queues i old → new.ticks ≡ old.ticks → new.subs ≡ old.subs
+    → new.event_tables.tables ≡ old.event_tables.tables → AllWithin v → AllWithin (record v { queues = slice_set v.queues i new })
+alike-within v now i old new same stands lt at ticks subs tables within =
+    queue-within v i new (stand-set v.queues i old new (stands-kept v now i same stands) lt at (stays-alike old new ticks subs))
+    (bound-set v.queues i old new lt at (same-tables old.event_tables.tables new.event_tables.tables tables)) within
+
+-- its events were looked at
+pub looked-within : (v now : QueuesView) (i : ℕ) (old new : QueueView) → v ≡ now → Stands now.queues i → i < length v.queues → old ≡ get_or v.queues i old
+    → new ≡ record old { event_tables = record old.event_tables { reads = new.event_tables.reads } } → AllWithin v → AllWithin (record v { queues = slice_set v.queues i new })
+looked-within v now i old new same stands lt at but within =
+    alike-within v now i old new same stands lt at (ap QueueView.ticks but) (ap QueueView.subs but) (ap (λ (q : QueueView). q.event_tables.tables) but) within
+
 -- ---- an event is put in a queue
 
 -- the queue has one event more, or is as it was because memory has run out
@@ -270,15 +292,10 @@ put-stands v now i e old new same stands lt at more = stand-set v.queues i old n
 pub put-still : (v now : QueuesView) (i : ℕ) (e : Event) (old new : QueueView) → v ≡ now → Stands now.queues i → i < length v.queues → old ≡ get_or v.queues i old → HasMore e old new → StillStand now.queues (slice_set v.queues i new)
 put-still v now i e old new same stands lt at more = stand-shown v now (slice_set v.queues i new) same (put-stands v now i e old new same stands lt at more)
 
-abbrev pub AllWithin : QueuesView → Type 0
-AllWithin v = (HasMoment v.time × RetriedWithin v.rounds v.queues v.retries) × (AreNumbers v.names v.queues × (BatchesWithin v.last_batch_id v.queues v.batches × TracedWithin v.queues v.triggers v.traced_tables))
-
 pub put-within : (v now : QueuesView) (i : ℕ) (e : Event) (old new : QueueView) → v ≡ now → Stands now.queues i → i < length v.queues → old ≡ get_or v.queues i old → HasMore e old new → RetriedAtMost now.rounds e
     → AllWithin v → AllWithin (record v { queues = slice_set v.queues i new })
 put-within v now i e old new same stands lt at more most within =
-    let still = put-stands v now i e old new same stands lt at more in
-    let bound = bound-set v.queues i old new lt at (more-events e old new (most-kept v now e same most) more) in
-    ((within.0.0, retried-still v.queues (slice_set v.queues i new) v.retries still bound within.0.1), within-still v.names v.queues (slice_set v.queues i new) v.batches v.triggers v.traced_tables still within.1)
+    queue-within v i new (put-stands v now i e old new same stands lt at more) (bound-set v.queues i old new lt at (more-events e old new (most-kept v now e same most) more)) within
 
 -- ---- triggers record a write
 

@@ -1,19 +1,5 @@
-use Rattle.std.proofs.Common.{ap, slice_set}
-use Rattle.pgq_queues.specs.Views.{QueueView}
-use Rattle.pgq_queues.proofs.TracedLists.{stays-alike, stand-set, within-still, stands-kept}
-use Rattle.pgq_queues.proofs.Waiting.{same-tables, retried-stays}
+use Rattle.pgq_queues.proofs.Waiting.{looked-within}
 use Rattle.pgq_queues.proofs.queues.Queues.batch_events.Goals as goal
 
 pub invariant_of-self : goal.invariant_of-self
-invariant_of-self c =
-    let ticks = ap QueueView.ticks c.select.ensures.but in
-    let subs = ap QueueView.subs c.select.ensures.but in
-    let stands = stands-kept _ _ c.args.span.queue c.self.view_is c.requires in (
-      (
-        c.self.invariant.0.0,
-        retried-stays c.self.inside.slots c.args.span.queue c.get_mut.result.now c.select.new.self c.self.inside.retries stands c.get_mut.ensures.within c.get_mut.ensures.value (stays-alike _ _ ticks subs)
-            (same-tables _ _ (ap (λ (q : QueueView). q.event_tables.tables) c.select.ensures.but)) c.self.invariant.0.1,
-      ),
-      within-still c.self.inside.names c.self.inside.slots (slice_set c.self.inside.slots c.args.span.queue c.select.new.self) c.self.inside.batches.entries c.self.inside.triggers.items c.self.inside.traced_tables.entries
-          (stand-set c.self.inside.slots c.args.span.queue c.get_mut.result.now c.select.new.self stands c.get_mut.ensures.within c.get_mut.ensures.value (stays-alike _ _ ticks subs)) c.self.invariant.1,
-    )
+invariant_of-self c = looked-within _ _ c.args.span.queue c.get_mut.result.now c.select.new.self c.self.view_is c.requires c.get_mut.ensures.within c.get_mut.ensures.value c.select.ensures.but c.self.invariant

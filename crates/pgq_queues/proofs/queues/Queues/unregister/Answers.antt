@@ -1,21 +1,18 @@
-use Rattle.std.proofs.Common.{None, Some, sym, option_map, ◌∙◌, ap, slice_set, refl}
+use Rattle.std.proofs.Common.{None, Some, sym, option_map, ◌∙◌, ap, refl}
 use Rattle.pgq_sub.specs.declared.sub.OpenBatch.{OpenBatch}
 use Rattle.pgq_sub.specs.Views.{SubView}
 use Rattle.pgq_queues.specs.Views.{QueueView}
 use Rattle.pgq_queues.specs.Batches.{open_id}
 use Rattle.pgq_queues.proofs.Marked.{queue-kept}
-use Rattle.pgq_queues.proofs.TracedLists.{stays-alike, stand-set, within-still, stands-kept}
+use Rattle.pgq_queues.proofs.TracedLists.{stands-kept}
 use Rattle.pgq_queues.proofs.Consumed.{becomes, within-less, unregistered-as, if-not}
-use Rattle.pgq_queues.proofs.Waiting.{same-events, retried-stays, retried-leave}
+use Rattle.pgq_queues.proofs.Waiting.{alike-within, retried-leave}
 use Rattle.pgq_queues.proofs.queues.Queues.unregister.Goals as goal
 
 pub invariant_of-self : goal.invariant_of-self
-invariant_of-self c = (
-  (c.self.invariant.0.0, retried-stays c.self.inside.slots c.args.queue c.get_mut.result.now c.unregister.new.self c.self.inside.retries (stands-kept _ _ c.args.queue c.self.view_is c.requires) c.get_mut.ensures.within c.get_mut.ensures.value (stays-alike _ _ (ap QueueView.ticks c.in_err-sub.ensures.none) (ap QueueView.subs c.in_err-sub.ensures.none)) (same-events _ _ (ap QueueView.event_tables c.in_err-sub.ensures.none)) c.self.invariant.0.1),
-  within-still c.self.inside.names c.self.inside.slots (slice_set c.self.inside.slots c.args.queue c.unregister.new.self) c.self.inside.batches.entries c.self.inside.triggers.items c.self.inside.traced_tables.entries
-      (stand-set c.self.inside.slots c.args.queue c.get_mut.result.now c.unregister.new.self (stands-kept _ _ c.args.queue c.self.view_is c.requires) c.get_mut.ensures.within c.get_mut.ensures.value
-      (stays-alike _ _ (ap QueueView.ticks c.in_err-sub.ensures.none) (ap QueueView.subs c.in_err-sub.ensures.none))) c.self.invariant.1,
-)
+invariant_of-self c =
+    let same = c.in_err-sub.ensures.none in
+    alike-within _ _ c.args.queue c.get_mut.result.now c.unregister.new.self c.self.view_is c.requires c.get_mut.ensures.within c.get_mut.ensures.value (ap QueueView.ticks same) (ap QueueView.subs same) (ap (λ (q : QueueView). q.event_tables.tables) same) c.self.invariant
 
 pub returns-in_err-sub-clause-none : goal.returns-in_err-sub-clause-none
 returns-in_err-sub-clause-none c = if-not c.from_residual.result _ (queue-kept _ _ c.args.queue c.get_mut.result.now c.unregister.new.self c.self.view_is c.get_mut.ensures.value c.in_err-sub.ensures.none)
