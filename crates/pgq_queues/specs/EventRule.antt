@@ -42,7 +42,7 @@ ids_left seq (e ∷ es) = not (nat_le (2 ^ 62) (seq e.queue + 1)) && ids_left (c
 
 -- a queue with one more event of a trigger, at a time, of a transaction: it takes the next id
 abbrev pub telling : ℤ → ℕ → RowEvent → QueueView → QueueView
-telling now t e q = record q { seq = q.seq + 1; tables = record q.tables { tables = with_stored (told_event (q.seq + 1) now t e) q.event_tables.tables } }
+telling now t e q = record q { seq = q.seq + 1; event_tables = record q.event_tables { tables = with_stored (told_event (q.seq + 1) now t e) q.event_tables.tables } }
 
 -- queues with events, each in its own
 abbrev pub telling_all : ℤ → ℕ → List RowEvent → List QueueView → List QueueView

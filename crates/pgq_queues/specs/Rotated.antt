@@ -8,7 +8,7 @@ use Rattle.pgq_queues.specs.Seen.{no_queue}
 
 -- a queue with its event tables changed; how often events were looked at stays
 abbrev pub retabled : (Tables → Tables) → QueueView → QueueView
-retabled change q = record q { event_tables = record q.tables { tables = change q.event_tables.tables } }
+retabled change q = record q { event_tables = record q.event_tables { tables = change q.event_tables.tables } }
 
 -- a queue once a transaction was rolled back
 abbrev pub undone_in : ℕ → QueueView → QueueView

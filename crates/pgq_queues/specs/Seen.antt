@@ -22,7 +22,7 @@ abbrev pub seen_queue : QueueView → Queue
 seen_queue q = record {
   config = q.config;
   seq = q.seq;
-  tables = q.event_tables.tables;
+  event_tables = q.event_tables.tables;
   tick_list = q.ticks;
   members = (seen_subs q.subs).members;
   sub = shown (seen_subs q.subs).kept;

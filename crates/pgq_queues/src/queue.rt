@@ -324,7 +324,8 @@ impl Queue {
         let ticks = (self.ticks.get(span.prev), self.ticks.get(span.cur));
         match ticks {
             (Some(prev), Some(cur)) => {
-                pgq_batch::look(alloc, &mut self.event_tables, prev.snapshot(), cur.snapshot())
+                let (prev, cur) = (prev.snapshot(), cur.snapshot());
+                pgq_batch::look(alloc, &mut self.event_tables, prev, cur)
             }
             _ => Ok(Vec::new(alloc)),
         }
@@ -403,7 +404,8 @@ impl Queue {
         requires pending { is_some self.old.event_tables.tables.pending ≡ true }
         ensures { self.new ≡ switched_in now self.old }
     {
-        self.ticks.drop_below(self.event_tables.step2_id().unwrap_or(0));
+        self.ticks
+            .drop_below(self.event_tables.step2_id().unwrap_or(0));
         self.event_tables.commit_switch(now);
     }
 
