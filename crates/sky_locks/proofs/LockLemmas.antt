@@ -1,5 +1,5 @@
 -- Who holds which key, once a key or all keys of a session were given back.
-use Rattle.std.proofs.Common.{◌≡◌, ◌≢◌, ℕ, true, false, cond, Option, Some, None, refl, sym, ◌∙◌, ap}
+use Rattle.std.proofs.Common.{◌≡◌, ◌≢◌, ℕ, true, false, cond, Option, Some, None, is_some, refl, sym, ◌∙◌, ap}
 use Rattle.std.specs.Prelude.{◌==◌}
 use Rattle.std.specs.Ordering.{eq_by_cmp}
 use Rattle.std.proofs.lemmas.Bool.{eqb-true, eq-eqb}
@@ -71,6 +71,10 @@ taken_again held who key own i table k = (
     ∙ ap (λ b. cond b (Some who) (holders held table k)) (sym (is_same_key-ties key (record { table = table; key = k })))
     ) i
 
--- and no other holds it
-pub own_is_free : (held : Held) (who : ℕ) (key : LockKey) → holder_of held key ≡ Some who → other_than who (holder_of held key) ≡ None
-own_is_free held who key own = ap (other_than who) own ∙ not_itself who
+-- a key that is held, but by no other session, is its own
+pub held_itself : (who : ℕ) (o : Option ℕ) → other_than who o ≡ None → is_some o ≡ true → o ≡ Some who
+held_itself who None free held = absurd (cc held)
+held_itself who (Some s) free held = elim (s == who) as (λ b. (s == who) ≡ b → cond b None (Some s) ≡ None → Some s ≡ Some who) [
+  | true ↦ λ same _. ap Some (eqb-true s who same)
+  | false ↦ λ _ none. absurd (cc none)
+] refl free

@@ -1,4 +1,4 @@
--- What row locks are seen as, and what a call of `try_key` answers.
+-- What row locks are seen as, and what happens when a session asks for a key.
 use Rattle.std.specs.Prelude.{◌≡◌, ℕ, List, [], ◌∷◌, ◌++◌, None, Some, Option}
 use Rattle.std.specs.Map.{lookup}
 use Rattle.std.specs.BTreeMap.{is_at}
@@ -36,19 +36,18 @@ pub record WaitsForKey (old : LocksView) (who table : ℕ) (key : List Val) (oth
   pub waiting : new.waiting ≡ old.waiting ++ record { who = who; table = table; key = key } ∷ []
 
 -- another one holds it, a path leads back from that one, and nothing changes: the deadlock cycle is the asking one, and the path
-pub record ClosesRing (old : LocksView) (who table : ℕ) (key : List Val) (ring : List ℕ) (new : LocksView) : Type 0 where
-  pub other : ℕ
+pub record ClosesRing (old : LocksView) (who table : ℕ) (key : List Val) (other : ℕ) (ring : List ℕ) (new : LocksView) : Type 0 where
   pub way : List ℕ
   pub holds : other_holder (holder old) who table key ≡ Some other
   pub leads : LeadsBack (waits_for_in old) who other way
   pub closed : ring ≡ who ∷ way
   pub same : new ≡ old
 
--- what an answer says of the locks before and after
+-- what an answer of `try_key` says of the locks before and after
 abbrev pub Takes : LocksView → ℕ → ℕ → List Val → Taken → LocksView → Type 0
 Takes old who table key Got new = TakesKey old who table key new
 Takes old who table key (Waits other) new = WaitsForKey old who table key other new
-Takes old who table key (Cycle ring) new = ClosesRing old who table key ring new
+Takes old who table key (Cycle ring) new = (other : ℕ) × ClosesRing old who table key other ring new
 
 -- an entry with its key as one
 abbrev pub entry : ℕ → LockKey → Waiting

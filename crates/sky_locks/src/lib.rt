@@ -12,6 +12,7 @@ mod entries;
 mod held_keys;
 mod lock_key;
 mod locks;
+mod ring;
 mod session_arrivals;
 mod slots;
 mod table;
@@ -19,4 +20,5 @@ mod taken;
 
 pub use lock_key::LockKey;
 pub use locks::Locks;
-pub use taken::{Ring, Taken};
+pub use ring::Ring;
+pub use taken::Taken;

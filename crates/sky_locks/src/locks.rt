@@ -1,11 +1,12 @@
-ghost use Rattle.std.specs.Prelude.{◌≡◌, ◌↔◌, ◌<◌, [], ◌∷◌, ◌++◌, if◌then◌else◌, true, false, None, Some, length, is_some, option_map, vec_len, vec_capacity, IsTrue, IfOk, OnOk, OnErr};
+ghost use Rattle.std.specs.Prelude.{◌≡◌, ◌↔◌, ◌<◌, [], ◌∷◌, ◌++◌, if◌then◌else◌, true, false, None, Some, length, is_some, option_map, vec_len, vec_capacity, IsTrue, IfNone, IfOk, IfSome, OnOk, OnErr};
 ghost use Rattle.sky_keys.specs.Waits.{is_waiting, entry_of, without, first_waiter, ready, other_holder, taken, given_back, released, way_back};
 ghost use Rattle.sky_locks.specs.Waiters.{entry};
-ghost use Rattle.sky_locks.specs.Locks.{LocksView, Takes, holder, waits_for_in};
+ghost use Rattle.sky_locks.specs.Locks.{LocksView, Takes, TakesKey, WaitsForKey, ClosesRing, holder, waits_for_in};
 
 use crate::lock_key::LockKey;
+use crate::ring::Ring;
 use crate::table::Table;
-use crate::taken::{Ring, Taken};
+use crate::taken::Taken;
 use sky_val::{NoMemory, SessionId};
 use std::alloc::Global;
 use std::marker::Model;
@@ -80,42 +81,57 @@ impl Locks {
         self.table.first_of(&self.freed)
     }
 
-    /// Takes the key for the session, or makes it wait for the one that holds it. If that would close a cycle, nothing
-    /// changes. Nor does anything after an error.
+    /// Takes the key for the session, or makes it wait for the one that holds it, for a caller that doesn't know whether
+    /// one does. If its wait would close a cycle, nothing changes. Nor does anything after an error.
     pub fn try_key(&mut self, who: SessionId, key: &LockKey) -> Result<Taken, NoMemory>
         requires { is_waiting who self.old.waiting ≡ false }
         ensures ok { IfOk result (λ taken. Takes self.old who key.now.table key.now.key taken self.new) }
         ensures err { OnErr result (self.new ≡ self.old) }
     {
-        match self.table.hold(who, key)? {
-            Some(holder) if holder != who => self.wait(who, holder, key),
-            Some(_) => Ok(Taken::Got),
-            None => {
-                self.freed.retain(|freed| freed != key);
+        match self.holder(key) {
+            Some(holder) if holder != who => match self.wait(who, holder, key)? {
+                None => Ok(Taken::Waits(holder)),
+                Some(ring) => Ok(Taken::Cycle(ring)),
+            },
+            _ => {
+                self.take(who, key)?;
                 Ok(Taken::Got)
             }
         }
     }
 
-    /// Makes the session wait for the key, which this other one holds, as `try_key` does for a caller that doesn't know
-    /// the holder. If it would wait for itself, nothing changes. Nor does anything after an error.
+    /// Takes the key, which no other session holds, for the session. After an error nothing has changed.
+    pub fn take(&mut self, who: SessionId, key: &LockKey) -> Result<(), NoMemory>
+        requires { other_holder (holder self.old) who key.now.table key.now.key ≡ None }
+        ensures ok { OnOk result (TakesKey self.old who key.now.table key.now.key self.new) }
+        ensures err { OnErr result (self.new ≡ self.old) }
+    {
+        if self.table.hold(who, key)?.is_none() {
+            self.freed.retain(|freed| freed != key);
+        }
+        Ok(())
+    }
+
+    /// Makes the session wait for the key, which this other one holds. If that would close a deadlock cycle, nothing
+    /// changes, and the answer is the cycle. Nor does anything change after an error.
     pub fn wait(
         &mut self,
         who: SessionId,
         other: SessionId,
         key: &LockKey,
-    ) -> Result<Taken, NoMemory>
+    ) -> Result<Option<Ring>, NoMemory>
         requires idle { is_waiting who self.old.waiting ≡ false }
         requires holds { other_holder (holder self.old) who key.now.table key.now.key ≡ Some other }
-        ensures ok { IfOk result (λ taken. Takes self.old who key.now.table key.now.key taken self.new) }
+        ensures waits { IfOk result (λ ring. IfNone ring (WaitsForKey self.old who key.now.table key.now.key other self.new)) }
+        ensures closes { IfOk result (λ ring. IfSome ring (λ ring. ClosesRing self.old who key.now.table key.now.key other ring self.new)) }
         ensures err { OnErr result (self.new ≡ self.old) }
     {
         if let Some(ring) = self.ring(who, other)? {
-            return Ok(Taken::Cycle(ring));
+            return Ok(Some(ring));
         }
         self.freed.reserve(self.table.count() + 1)?;
         self.table.arrive(who, key)?;
-        Ok(Taken::Waits(other))
+        Ok(None)
     }
 
     /// The deadlock cycle that would close if `who` waited for the other session, if one would.

@@ -1,8 +1,8 @@
 //! Which statements a session may make, and the transaction of a statement: the one of its session's block, or one of
 //! its own.
 
-ghost use Rattle.std.specs.Prelude.{◌≡◌, ◌<◌, ◌++◌, [], ◌∷◌, true, false, None, Ok, Err, length, IfOk, IfErr, OnOk, OnErr, MatchOption};
-ghost use Rattle.sky_keys.specs.Waits.{other_holder, is_waiting};
+ghost use Rattle.std.specs.Prelude.{◌≡◌, ◌<◌, ◌++◌, [], ◌∷◌, true, None, Ok, Err, length, IfOk, IfErr, OnOk, OnErr, MatchOption};
+ghost use Rattle.sky_keys.specs.Waits.{other_holder};
 ghost use Rattle.sky_model.specs.declared.reply.Refusal.TheVariants.{TxidsSpent};
 ghost use Rattle.sky_model.specs.History.{of_session, tabled, wrote};
 ghost use Rattle.sky_model.specs.Outcome.{end_of};
@@ -140,7 +140,6 @@ pub(crate) fn write_own(
     requires within { key.table < length (seen state.old).tables }
     requires found { place ≡ found_in state.old key.table key.key }
     requires free { other_holder (seen state.old).holder who key.table key.key ≡ None }
-    requires awake { is_waiting who (seen state.old).waiting ≡ false }
     ensures marks { OnOk result (seen state.new ≡ after_part_marks (seen state.old)
         (in_own who txid ((seen state.old).session who) (tabled (wrote (of_session who) txid key.table key.key None row) ∷ []))) }
     ensures told { OnOk result (effects.new ≡ with_effects effects.old (commit_of who txid ((seen state.old).session who).block)) }

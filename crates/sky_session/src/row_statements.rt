@@ -170,7 +170,6 @@ pub(crate) fn write_key(
     requires within { key.table < length (seen state.old).tables }
     requires found { place ≡ found_in state.old key.table key.key }
     requires free { other_holder (seen state.old).holder who key.table key.key ≡ None }
-    requires awake { is_waiting who (seen state.old).waiting ≡ false }
     ensures marks { (old : Option (List Val)) → OnOk result (seen state.new ≡ after_part_marks (seen state.old) (in_own who txid ((seen state.old).session who) (tabled (wrote (of_session who) txid key.table key.key old row) ∷ []))) }
     ensures told { (old : Option (List Val)) (before : EffectsView) → step.old.effects ≡ with_effects before (tabled (wrote (of_session who) txid key.table key.key old row) ∷ [])
         → OnOk result (step.new.effects ≡ with_effects before (in_own who txid ((seen state.old).session who) (tabled (wrote (of_session who) txid key.table key.key old row) ∷ []))) }

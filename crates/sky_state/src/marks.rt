@@ -2,7 +2,7 @@
 //! `waiting`, those of workers are in `work`. Out of memory, nothing is said of the state.
 
 ghost use Rattle.std.specs.Prelude.{◌≡◌, ◌+◌, ◌-◌, ◌<◌, ◌^◌, [], ◌∷◌, true, false, None, Some, IfOk, OnOk, OnErr, length};
-ghost use Rattle.sky_keys.specs.Waits.{other_holder, is_waiting};
+ghost use Rattle.sky_keys.specs.Waits.{other_holder};
 ghost use Rattle.sky_names.specs.Places.{place_of};
 ghost use Rattle.sky_model.specs.History.{of_session, began, ended, block_begun, repeats, sight_taken, block_failed, block_ended, connected, disconnected, tabled, table_made, wrote, waited, read_only};
 ghost use Rattle.sky_model.specs.State.{after_part, after_part_marks};
@@ -13,7 +13,7 @@ ghost use Rattle.sky_state.specs.Seen.{seen, found_in, columns_of, versions_of};
 use crate::row_state::RowState;
 use crate::session::Sight;
 use sky_fits::Block;
-use sky_locks::{LockKey, Taken};
+use sky_locks::LockKey;
 use sky_model::Attempt;
 use sky_names::Named;
 use sky_rows::Table;
@@ -140,13 +140,9 @@ impl RowState {
         requires within { key.table < length (seen self.old).tables }
         requires found { place ≡ found_in self.old key.table key.key }
         requires free { other_holder (seen self.old).holder who key.table key.key ≡ None }
-        requires awake { is_waiting who (seen self.old).waiting ≡ false }
         ensures { OnOk result (seen self.new ≡ after_part (seen self.old) (tabled (wrote (of_session who) txid key.table key.key None row))) }
     {
-        match self.locks.try_key(who, &key)? {
-            Taken::Got => {}
-            Taken::Waits(_) | Taken::Cycle(_) => unreachable!(),
-        }
+        self.locks.take(who, &key)?;
         self.writers.add(key.table, txid)?;
         let least = self.trans.least().unwrap_or(txid);
         let table = self.tables.get_mut(key.table as usize);

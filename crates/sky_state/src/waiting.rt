@@ -10,7 +10,7 @@ ghost use Rattle.sky_model.specs.StepLocks.{ring};
 ghost use Rattle.sky_state.specs.Seen.{seen};
 
 use crate::row_state::RowState;
-use sky_locks::{LockKey, Taken};
+use sky_locks::LockKey;
 use sky_model::{Attempt, Waiters};
 use sky_val::{NoMemory, SessionId};
 
@@ -67,13 +67,10 @@ impl RowState {
         ensures mark { IfOk result (λ closed. IfNone closed (seen self.new ≡ after_part (seen self.old) (tabled (waits who key.now.table key.now.key attempt)))) }
         ensures same { IfOk result (λ closed. IfSome closed (λ ring. seen self.new ≡ seen self.old)) }
     {
-        match self.locks.wait(who, holder, key)? {
-            Taken::Got => unreachable!(),
-            Taken::Waits(_) => {
-                self.attempts.set(who, attempt)?;
-                Ok(None)
-            }
-            Taken::Cycle(ring) => Ok(Some(Waiters::new(ring.into_sessions()))),
+        if let Some(ring) = self.locks.wait(who, holder, key)? {
+            return Ok(Some(Waiters::new(ring.into_sessions())));
         }
+        self.attempts.set(who, attempt)?;
+        Ok(None)
     }
 }

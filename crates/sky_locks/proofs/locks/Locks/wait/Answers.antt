@@ -16,11 +16,10 @@ invariant_of-self-2 c =
     (other_holds c.args.who c.args.other (holder_of c.self.inside.table.held c.args.key.now) (ap (λ (l : LocksView). other_than c.args.who (holder_of l.held c.args.key.now)) c.self.view_is ∙ c.requires.holds))
     c.in_ok-arrive.ensures.ok c.reserve.ensures.items fits) c.arrive.ensures.holders
 
-pub returns-in-Some-clause-ok : goal.returns-in-Some-clause-ok
-returns-in-Some-clause-ok c =
+pub returns-in-Some-clause-closes : goal.returns-in-Some-clause-closes
+returns-in-Some-clause-closes c =
     let found = ring_way (waits_for_in c.args.self.now) c.args.who (length c.args.self.now.waiting) c.args.other c.in-Some.ring (sym c.in-Some.is ∙ c.in_ok-ring.ensures) in
     record {
-      other = c.args.other;
       way = found.0;
       holds = c.requires.holds;
       leads = found.1;
@@ -28,8 +27,8 @@ returns-in-Some-clause-ok c =
       same = refl;
     }
 
-pub returns-clause-ok : goal.returns-clause-ok
-returns-clause-ok c = record {
+pub returns-clause-waits : goal.returns-clause-waits
+returns-clause-waits c = record {
   holds = c.requires.holds;
   apart = no_way (holder c.args.self.now) c.args.self.now.waiting c.args.who c.args.other
       (no_ring (waits_for_in c.args.self.now) c.args.who (length c.args.self.now.waiting) c.args.other (sym c.in_default.is ∙ c.in_ok-ring.ensures));

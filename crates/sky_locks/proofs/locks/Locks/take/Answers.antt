@@ -1,4 +1,4 @@
-use Rattle.std.proofs.Common.{◌≡◌, ◌∙◌, ap, sym, subst, not, rules, cond, Some, vec_capacity}
+use Rattle.std.proofs.Common.{◌≡◌, ◌∙◌, ap, sym, subst, refl, not, rules, cond, false, Option, Some, None, is_some, vec_capacity}
 use Rattle.std.specs.Prelude.{filter, IfNone, OnSome}
 use Rattle.std.specs.Ordering.{eq_by_cmp}
 use Rattle.std.proofs.lemmas.Fn.{filter_same}
@@ -9,28 +9,34 @@ use Rattle.sky_locks.specs.Holders.{holder_of}
 use Rattle.sky_locks.specs.Locks.{LocksView}
 use Rattle.sky_locks.proofs.Orders.{lock_eq-ties}
 use Rattle.sky_locks.proofs.ListedLemmas.{listed_taken, listed_waiting}
-use Rattle.sky_locks.proofs.LockLemmas.{holders, taken_again, own_is_free}
-use Rattle.sky_locks.proofs.locks.Locks.try_key.Goals as goal
+use Rattle.sky_locks.proofs.LockLemmas.{holders, taken_again, held_itself}
+use Rattle.sky_locks.proofs.locks.Locks.take.Goals as goal
 
-pub invariant_of-self-in-None : goal.invariant_of-self-in-None
-invariant_of-self-in-None c =
+none-is : {X : Type 0} (o : Option X) → is_some o ≡ false → o ≡ None
+none-is None none = refl
+none-is (Some x) none = absurd (cc none)
+
+pub invariant_of-self-then-is_none : goal.invariant_of-self-then-is_none
+invariant_of-self-then-is_none c =
     let kept = filter_same _ (λ f. not (equality.ghosts.eq f c.args.key.now)) _ (λ x b f' t. search rules) _ _ c.retain.ensures.filtered in
+    let none = none-is c.in_ok-hold.field-0 (c.is_none.ensures ∙ ap not c.if-is_none.true) in
     let holds =
     subst (λ before. IfNone before ((q : LockKey) → holder_of c.hold.new.self.held q ≡ cond (eq_by_cmp lock_cmp c.args.key.now q) (Some c.args.who) (holder_of c.self.inside.table.held q)))
-    c.in-None.is c.in_ok-holder.ensures.free in
+    none c.in_ok-hold.ensures.free in
     listed_waiting c.hold.new.self.held c.self.inside.table.waiting c.hold.new.self.waiting c.retain.new.self.items (vec_capacity c.retain.new.self)
     (listed_taken c.self.inside.table.held c.hold.new.self.held c.self.inside.table.waiting c.self.inside.freed.items c.retain.new.self.items (vec_capacity c.self.inside.freed) (vec_capacity c.retain.new.self) c.args.who c.args.key.now c.self.invariant
     holds
     (kept ∙ (λ i. filter (λ f. not (lock_eq-ties f c.args.key.now i)) c.self.inside.freed.items))
     c.retain.ensures.capacity) c.hold.ensures.waiting
 
-pub returns-in-Some-2-clause-ok : goal.returns-in-Some-2-clause-ok
-returns-in-Some-2-clause-ok c =
+pub returns-else-is_none-clause-ok : goal.returns-else-is_none-clause-ok
+returns-else-is_none-clause-ok c =
+    let before : c.in_ok-hold.field-0 ≡ holder_of c.args.self.now.held c.args.key.now = c.in_ok-hold.ensures.before ∙ ap (λ (l : LocksView). holder_of l.held c.args.key.now) c.self.view_is in
     let own : holder_of c.args.self.now.held c.args.key.now ≡ Some c.args.who =
-    sym (ap (λ (l : LocksView). holder_of l.held c.args.key.now) c.self.view_is) ∙ sym c.in_ok-holder.ensures.before ∙ c.in-Some.is ∙ ap Some c.if-holder-who.false in
-    let same : c.hold.new.self.held ≡ c.self.inside.table.held = subst (λ before. OnSome before (c.hold.new.self.held ≡ c.self.inside.table.held)) c.in-Some.is c.in_ok-holder.ensures.same in
+    held_itself c.args.who (holder_of c.args.self.now.held c.args.key.now) c.requires (ap is_some (sym before) ∙ c.is_none.ensures ∙ ap not c.if-is_none.false) in
+    let same : c.hold.new.self.held ≡ c.self.inside.table.held = subst (λ before. OnSome before (c.hold.new.self.held ≡ c.self.inside.table.held)) (before ∙ own) c.in_ok-hold.ensures.same in
     record {
-      free = own_is_free c.args.self.now.held c.args.who c.args.key.now own;
+      free = c.requires;
       held = ap holders (same ∙ ap (λ (l : LocksView). l.held) c.self.view_is) ∙ taken_again c.args.self.now.held c.args.who c.args.key.now own;
       waiting = c.hold.ensures.waiting ∙ ap (λ (l : LocksView). l.waiting) c.self.view_is;
     }
