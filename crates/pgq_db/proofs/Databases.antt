@@ -42,8 +42,9 @@ use Rattle.pgq_queues.specs.Seen.{seen_with, Beside}
 use Rattle.pgq_db.specs.Views.{DbView}
 use Rattle.pgq_db.specs.Seen.{with_node, seen_database}
 use Rattle.pgq_db.specs.Gives.{Gives, Adds, Answers, Does}
-use Rattle.sky_model.specs.Stops.{Refuses, Stops}
+use Rattle.sky_model.specs.Stops.{Refuses, Stops, StopsAs, Keeps}
 use Rattle.sky_model.specs.declared.stop.Stop.{Stop}
+use Rattle.sky_model.specs.declared.stop.Stop.TheVariants as stops
 use Rattle.pgq_tick.specs.declared.ticks.TickFault.{TickFault}
 use Rattle.pgq_tick.specs.declared.ticks.TickFault.TheVariants as tick
 use Rattle.pgq_tick.specs.Faults.{stop_of}
@@ -370,19 +371,26 @@ table-there v now table n same there = subst (λ (w : DbView). place_of table (s
 pub queue-known : (v now : DbView) (queue : List ℕ) (q : ℕ) → v ≡ now → ((beside : Beside) → queue_called queue (seen_with beside v.queues) ≡ Ok q) → queue_called queue (seen_database now) ≡ Ok q
 queue-known v now queue q same known = subst (λ (w : DbView). queue_called queue (seen_database w) ≡ Ok q) same (known (with_node v.node (seen v.rows)))
 
--- a trigger that is to ignore a column that it may not
-pub bad-column : (d : Database) (name table queue : List ℕ) (backup : Bool) (ignored : List (List ℕ)) (n q : ℕ) (column : List ℕ) → place_of table d.part.tables ≡ Some n → queue_called queue d ≡ Ok q
-    → is_set_queue queue d.node ≡ false → has_trigger name (triggers_of n d.triggers) ≡ false → length (triggers_of n d.triggers) < 8 → find (λ x. not (may_ignore (d.part.columns n) x)) ignored ≡ Some column
-    → add_trigger d name table queue backup ignored ≡ Err (BadColumn column)
-bad-column d name table queue backup ignored n q column there known unset new few bad =
-    ap (λ o. found_or o (NoTable table) >>= (λ t. queue_called queue d >>= (λ x. refused_if (is_set_queue queue d.node) SetQueue >> rest t x (has_trigger name (triggers_of t d.triggers)) (nat_le 8 (length (triggers_of t d.triggers))) (find (λ y. not (may_ignore (d.part.columns t) y)) ignored)))) there
-    ∙ ap (λ c. c >>= (λ x. refused_if (is_set_queue queue d.node) SetQueue >> rest n x (has_trigger name (triggers_of n d.triggers)) (nat_le 8 (length (triggers_of n d.triggers))) (find (λ y. not (may_ignore (d.part.columns n) y)) ignored))) known
-    ∙ ap (λ b. refused_if b SetQueue >> rest n q (has_trigger name (triggers_of n d.triggers)) (nat_le 8 (length (triggers_of n d.triggers))) (find (λ y. not (may_ignore (d.part.columns n) y)) ignored)) unset
-    ∙ (λ i. rest n q (new i) (free i) (bad i))
+-- a trigger that is to ignore a column that it may not, or memory ran out
+pub bad-column : {A : Type 0} (d : Database) (name table queue : List ℕ) (backup : Bool) (ignored : List (List ℕ)) (n q : ℕ) → place_of table d.part.tables ≡ Some n → queue_called queue d ≡ Ok q
+    → is_set_queue queue d.node ≡ false → has_trigger name (triggers_of n d.triggers) ≡ false → length (triggers_of n d.triggers) < 8 → (stop : Stop) (replies : A)
+    → StopsAs stop (refused_by (option_map BadColumn (find (λ x. not (may_ignore (d.part.columns n) x)) ignored))) → Stops stop d d (add_trigger d name table queue backup ignored) × Keeps stop replies replies
+bad-column d name table queue backup ignored n q there known unset new few stops.NoMemory replies bad = (tt, tt)
+bad-column d name table queue backup ignored n q there known unset new few (stops.Refused refusal) replies bad = (record { refused = refused; same = refl }, refl)
   where
-    rest : ℕ → ℕ → Bool → Bool → Option (List ℕ) → Checked Outcome
-    rest t x has full found = refused_if has (TriggerExists name) >> (refused_if full (TooMany Triggers) >> (refused_by (option_map BadColumn found) >> (refused_by (option_map TableBusy (least_writer d.part t))
+    checked : ℕ → Checked (Unit {0})
+    checked t = refused_by (option_map BadColumn (find (λ y. not (may_ignore (d.part.columns t) y)) ignored))
+
+    rest : ℕ → ℕ → Bool → Bool → Checked (Unit {0}) → Checked Outcome
+    rest t x has full ignores = refused_if has (TriggerExists name) >> (refused_if full (TooMany Triggers) >> (ignores >> (refused_by (option_map TableBusy (least_writer d.part t))
         >> does_marks Done (queued (traced t (Some name) (record { queue = x; backup = backup; ignored = ignored })) ∷ []))))
 
     free : nat_le 8 (length (triggers_of n d.triggers)) ≡ false
     free = grind (arith, nat_tests)
+
+    refused : add_trigger d name table queue backup ignored ≡ Err refusal
+    refused =
+        ap (λ o. found_or o (NoTable table) >>= (λ t. queue_called queue d >>= (λ x. refused_if (is_set_queue queue d.node) SetQueue >> rest t x (has_trigger name (triggers_of t d.triggers)) (nat_le 8 (length (triggers_of t d.triggers))) (checked t)))) there
+        ∙ ap (λ c. c >>= (λ x. refused_if (is_set_queue queue d.node) SetQueue >> rest n x (has_trigger name (triggers_of n d.triggers)) (nat_le 8 (length (triggers_of n d.triggers))) (checked n))) known
+        ∙ ap (λ b. refused_if b SetQueue >> rest n q (has_trigger name (triggers_of n d.triggers)) (nat_le 8 (length (triggers_of n d.triggers))) (checked n)) unset
+        ∙ (λ i. rest n q (new i) (free i) (bad i))

@@ -28,6 +28,7 @@ mod provider;
 mod retries;
 mod rotation;
 mod statements;
+mod triggers;
 
 pub use db::Db;
 pub use faults::{ApplyFault, CopyFault, FetchFault, JoinFault, RootFault, WorkerFault};

@@ -1,7 +1,7 @@
 //! The statements, each in the database that its session has open. A refusal changes nothing there but
 //! that it may abort the session's block.
 
-ghost use Rattle.std.specs.Prelude.{◌≡◌, ◌&&◌, ◌+◌, ◌<◌, find, not, option_copied, [], ◌∷◌, ◌++◌, true, false, if◌then◌else◌, None, Some, Ok, Err, IfOk, IfErr, OnOk, length};
+ghost use Rattle.std.specs.Prelude.{◌≡◌, ◌&&◌, ◌+◌, ◌<◌, [], ◌∷◌, ◌++◌, true, false, if◌then◌else◌, None, Some, Ok, Err, IfOk, IfErr, OnOk, length};
 ghost use Rattle.sky_model.specs.declared.stmt.Where.TheVariants.{WhenReading, WhenOutside};
 ghost use Rattle.sky_model.specs.Nodes.{is_set_queue};
 ghost use Rattle.sky_model.specs.Queues.{queue_number};
@@ -11,7 +11,6 @@ ghost use Rattle.sky_model.specs.Outcome.{reply_of, or_refused};
 ghost use Rattle.sky_model.specs.Printed.{HaveMoments};
 ghost use Rattle.sky_model.specs.OwnTransaction.{txid_for, in_own};
 ghost use Rattle.sky_model.specs.StepQueue.{queue_called, create_queue, drop_queue, shown_name, set_queue_config, queue_info, insert_event, ticker, force_tick, tells_of_rows, made_event};
-ghost use Rattle.sky_model.specs.StepTrigger.{may_ignore, add_trigger};
 ghost use Rattle.sky_model.specs.InForm.{IsInForm};
 ghost use Rattle.sky_model.specs.Allowed.{where_of};
 ghost use Rattle.sky_model.specs.Reader.{shown_by, database_by_itself};
@@ -29,12 +28,10 @@ ghost use Rattle.sky_model.specs.Stops.{StopsAs};
 
 use crate::change::tells_of_rows;
 use crate::db::Db;
-use crate::node::is_set_queue;
 use pgq_queues::{EVENT_ID_END, Queues, TableTrigger};
 use pgq_tables::PlainEvent;
-use sky_model::{BoxedExtra, ColumnNames, Limit, Refusal, Replies, Reply, Stmt, Stop};
-use sky_urlenc::Trigger;
-use sky_val::{Event, NoMemory, Schema, SessionId, Text, copy_option};
+use sky_model::{BoxedExtra, Limit, Refusal, Replies, Reply, Stmt, Stop};
+use sky_val::{Event, NoMemory, SessionId, Text, copy_option};
 use std::alloc::{AllocError, Global};
 
 impl Db {
@@ -485,74 +482,10 @@ impl Db {
         replies.push(who, Reply::Number(newest))?;
         Ok(())
     }
-
-    /// `add_trigger NAME TABLE NAME`: from now on events of the queue record the table's writes.
-    fn add_trigger(
-        &mut self,
-        who: SessionId,
-        name: &Text,
-        table: &Text,
-        queue: &Text,
-        backup: bool,
-        ignored: &ColumnNames,
-        replies: &mut Replies,
-    ) -> Result<(), Stop>
-        ensures { Ran self.old self.new replies.old replies.new who result (add_trigger (seen_database self.old) name.now table.now queue.now backup ignored.now) }
-    {
-        let Some((number, schema)) = self.rows.table(table) else {
-            return Err(Stop::Refused(Refusal::NoTable(table.copy(self.alloc)?)));
-        };
-        let number_of_queue = queue_called(self.alloc, &self.queues, queue)?;
-        if is_set_queue(&self.node.own, queue) {
-            return Err(Stop::Refused(Refusal::SetQueue));
-        }
-        if self.queues.has_trigger(number, name) {
-            let name = name.copy(self.alloc)?;
-            return Err(Stop::Refused(Refusal::TriggerExists(name)));
-        }
-        if self.queues.trigger_count(number) >= Limit::Triggers.most() {
-            return Err(Stop::Refused(Refusal::TooMany(Limit::Triggers)));
-        }
-        if let Some(column) = first_bad(schema, ignored.as_slice()) {
-            let column = column.copy(self.alloc)?;
-            return Err(Stop::Refused(Refusal::BadColumn(column)));
-        }
-        if let Some(txid) = self.rows.least_writer(number) {
-            return Err(Stop::Refused(Refusal::TableBusy(txid)));
-        }
-        let trigger = new_trigger(
-            self.alloc,
-            number,
-            name,
-            number_of_queue,
-            backup,
-            ignored.as_slice(),
-        )?;
-        self.queues.trace(table, schema, trigger)?;
-        replies.push(who, Reply::Done)?;
-        Ok(())
-    }
-}
-
-/// The first of the names that a trigger may not ignore.
-fn first_bad<'a>(schema: &Schema, names: &'a [Text]) -> Option<&'a Text>
-    ensures { option_copied result ≡ find (λ name. not (may_ignore schema.now name)) names.now }
-{
-    names.iter().find(|name| !may_ignore(schema, name))
-}
-
-/// Whether a trigger may ignore the column of this name.
-fn may_ignore(schema: &Schema, name: &Text) -> bool
-    ensures { result ≡ may_ignore schema.now name.now }
-{
-    schema
-        .columns()
-        .iter()
-        .any(|column| column.name == *name && !column.key)
 }
 
 /// The number of the queue of this name, of the queues alone, since `add_trigger` borrows a table meanwhile.
-fn queue_called(alloc: Global, queues: &Queues, queue: &Text) -> Result<usize, Stop>
+pub(crate) fn queue_called(alloc: Global, queues: &Queues, queue: &Text) -> Result<usize, Stop>
     ensures ok { (beside : Beside) → IfOk result (λ number. queue_called queue.now (seen_with beside queues.now) ≡ Ok number) }
     ensures stands { IfOk result (λ number. Stands queues.now.queues number) }
     ensures err { (beside : Beside) → IfErr result (λ stop. StopsAs stop (queue_called queue.now (seen_with beside queues.now))) }
@@ -561,28 +494,6 @@ fn queue_called(alloc: Global, queues: &Queues, queue: &Text) -> Result<usize, S
         Some(number) => Ok(number),
         None => Err(Stop::Refused(Refusal::NoQueue(queue.copy(alloc)?))),
     }
-}
-
-/// A trigger of this name of a table, whose events go to the queue of this number.
-fn new_trigger(
-    alloc: Global,
-    table: u32,
-    name: &Text,
-    queue: usize,
-    backup: bool,
-    ignored: &[Text],
-) -> Result<TableTrigger, NoMemory>
-    ensures { IfOk result (λ trigger. trigger ≡ record { table = table; name = Some name.now; trigger = record { queue = queue; backup = backup; ignored = ignored.now } }) }
-{
-    let mut names = Vec::with_capacity(alloc, ignored.len())?;
-    for column in ignored {
-        names.push(column.copy(alloc)?)?;
-    }
-    Ok(TableTrigger {
-        table,
-        name: Some(name.copy(alloc)?),
-        trigger: Trigger::new(queue, backup, names),
-    })
 }
 
 /// The name that a refusal shows for a trigger.
