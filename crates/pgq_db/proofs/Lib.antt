@@ -16,3 +16,4 @@ pub mod NodeSteps
 pub mod ProviderSteps
 pub mod CopySteps
 pub mod ApplySteps
+pub mod Idle

@@ -9,3 +9,4 @@ pub mod Waiters
 pub mod Served
 pub mod Copying
 pub mod Applying
+pub mod Idle

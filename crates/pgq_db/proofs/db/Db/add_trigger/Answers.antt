@@ -53,12 +53,14 @@ returns-in_err-check_ignored c =
     let there = table-there _ _ c.args.table.now n c.self.view_is c.in-Some.ensures.0 in
     let known = queue-known _ _ c.args.queue.now c.in_ok-into.into c.self.view_is c.in_ok-into.ensures.ok in
     let columns = c.in-Some.ensures.1 ∙ ap (λ (v : DbView). (seen v.rows).columns n) c.self.view_is in
+    let stops =
     bad-column (seen_database c.args.self.now) c.args.name.now c.args.table.now c.args.queue.now c.args.backup c.args.ignored.now n c.in_ok-into.into there known
     (subst (λ (v : DbView). is_set_queue c.args.queue.now v.node.own ≡ false) c.self.view_is (sym c.is_set_queue.ensures ∙ c.if-is_set_queue.false))
     (ap (λ (v : DbView). has_trigger c.args.name.now (triggers_of n v.queues.triggers)) (sym c.self.view_is) ∙ sym c.has_trigger.ensures ∙ c.if-has_trigger.false)
     (subst (λ m. m < 8) (c.trigger_count.ensures ∙ ap (λ (v : DbView). length (triggers_of n v.queues.triggers)) c.self.view_is) (subst (λ m. c.trigger_count.result < m) c.most.ensures c.if-trigger_count-most.false))
-    c.in_err-check_ignored.field-0 c.args.replies.now
-    (subst (λ (x : List Column × List (List ℕ)). StopsAs c.in_err-check_ignored.field-0 (refused_by (option_map BadColumn (find (λ y. not (may_ignore x.0 y)) x.1)))) (λ i. (columns i, c.as_slice-ignored.ensures i)) c.in_err-check_ignored.ensures.err)
+    c.in_err-check_ignored.field-0.0 c.args.replies.now
+    (subst (λ (x : List Column × List (List ℕ)). StopsAs c.in_err-check_ignored.field-0.0 (refused_by (option_map BadColumn (find (λ y. not (may_ignore x.0 y)) x.1)))) (λ i. (columns i, c.as_slice-ignored.ensures i)) c.in_err-check_ignored.ensures.err) in
+    search (rules, stops)
 
 pub invariant_of-self : goal.invariant_of-self
 invariant_of-self c =

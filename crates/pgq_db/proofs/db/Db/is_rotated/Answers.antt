@@ -1,0 +1,11 @@
+use Rattle.std.proofs.Common.{◌==◌, length, ap, ◌∙◌}
+use Rattle.sky_model.specs.StepRotation.{lack_second_step}
+use Rattle.sky_state.specs.Seen.{seen}
+use Rattle.pgq_db.specs.Views.{DbView}
+use Rattle.pgq_db.specs.Seen.{with_node, seen_database}
+use Rattle.pgq_db.proofs.db.Db.is_rotated.Goals as goal
+
+pub returns : goal.returns
+returns c =
+    ap (λ n. n == 0) (c.unfinished.ensures (with_node c.self.inside.node (seen c.self.inside.rows)))
+    ∙ ap (λ (v : DbView). length (lack_second_step (seen_database v)) == 0) c.self.view_is
