@@ -19,12 +19,15 @@ use Rattle.sky_model.specs.StepRetry.{most_back, maint_retry_events}
 use Rattle.sky_model.specs.StepRotation.{rotates_by_itself}
 use Rattle.sky_model.specs.StepQueue.{next_tick}
 use Rattle.sky_model.specs.Daemon.{quietly, ticks_of, moved_by, again_if, retries_of, first_steps_of, daemon_does, is_due_at, first_after, earlier, next_due}
+use Rattle.sky_model.specs.LawsOfDaemons.{AreOnSince, NextDueIsFirst}
 use Rattle.sky_model.specs.Clock.{deed_in, part_works, daemon_works, daemons_work, at_moment, goes_to, through, clock_goes, clock}
 use Rattle.sky_world.specs.Views.{WorldView}
 use Rattle.sky_world.specs.Seen.{seen_world}
 use Rattle.sky_world.specs.Adds.{AddsDeed}
 use Rattle.sky_world.specs.Works.{Works}
+use Rattle.sky_world.specs.Idle.{Skips}
 use Rattle.sky_world.proofs.Worlds.{after_facts-append}
+use Rattle.sky_world.proofs.Skipping.{is_late, is_in_time, idle-none, idle-late, way, IsSkipped, through-skipped}
 
 -- ---- the next moment
 
@@ -45,22 +48,6 @@ earlier-is P due other new both is_due is_other = subst (λ o. IfSome o P) (sym 
         by : (b : Bool) → P (if b then second else moment)
         by true = is_other
         by false = is_due
-
--- ---- tests
-
-is_late : (a b : ℤ) → a <ℤ b → int_lt a b ≡ true
-is_late a b lt = by (int_lt a b) refl
-  where
-    by : (t : Bool) → int_lt a b ≡ t → t ≡ true
-    by true e = refl
-    by false e = absurd (omega (arith, ints, e, lt))
-
-is_in_time : (a b : ℤ) → b ≤ℤ a → int_lt a b ≡ false
-is_in_time a b le = by (int_lt a b) refl
-  where
-    by : (t : Bool) → int_lt a b ≡ t → t ≡ false
-    by true e = absurd (omega (arith, ints, e, le))
-    by false e = refl
 
 -- ---- the daemons at a moment
 
@@ -119,13 +106,16 @@ working-last start cur moment d le working =
 
 -- ---- from moment to moment
 
+-- the world once the clock is at a moment
+abbrev pub whole_way : WorldView → ℤ → World
+whole_way start last = way last (unsigned_abs (last -ℤ start.now)) (seen_world start)
+
 -- what is left to be done up to a moment ends where all does, however many more moments than there are it may take
 pub record IsGoing (start cur : WorldView) (last : ℤ) : Type 0 where
   pub left : ℕ
   pub enough : unsigned_abs (last -ℤ cur.now) ≤ left
   pub earlier : cur.now ≤ℤ last
-  pub same : after_facts (seen_world start) (through by_world last (unsigned_abs (last -ℤ start.now)) (seen_world start)).facts
-      ≡ after_facts (seen_world cur) (through by_world last left (seen_world cur)).facts
+  pub same : whole_way start last ≡ way last left (seen_world cur)
   pub sessions : cur.sessions.names ≡ start.sessions.names
   pub failed : cur.has_failed ≡ start.has_failed
 
@@ -148,7 +138,7 @@ going-next start cur new last moment passed going due later same_moment le chang
     first = at_moment by_world moment (seen_world cur)
 
     by : (left : ℕ) → unsigned_abs (last -ℤ cur.now) ≤ left
-        → after_facts (seen_world start) (through by_world last (unsigned_abs (last -ℤ start.now)) (seen_world start)).facts ≡ after_facts (seen_world cur) (through by_world last left (seen_world cur)).facts
+        → whole_way start last ≡ way last left (seen_world cur)
         → IsGoing start new last
     by zero enough same = absurd (omega (arith, ints, enough, later, le))
     by (suc n) enough same = record {
@@ -156,10 +146,10 @@ going-next start cur new last moment passed going due later same_moment le chang
       enough = subst (λ t. unsigned_abs (last -ℤ t) ≤ n) (sym (now ∙ same_moment)) (omega (arith, ints, enough, later, le));
       earlier = subst (λ t. t ≤ℤ last) (sym (now ∙ same_moment)) le;
       same = same
-          ∙ ap (λ o. after_facts (seen_world cur) (goes_to by_world last (through by_world last n) (seen_world cur) o).facts) (sym due)
-          ∙ ap (λ b. after_facts (seen_world cur) (facts_of (if b then idles else followed by_world (seen_world cur) (through by_world last n) first))) (is_in_time last moment le)
-          ∙ after_facts-append (seen_world cur) first.facts (through by_world last n (after_facts (seen_world cur) first.facts)).facts
-          ∙ ap (λ w. after_facts w (through by_world last n w).facts) (sym (changed ∙ ap (λ t. after_facts (seen_world cur) (at_moment by_world t (seen_world cur)).facts) same_moment));
+          ∙ ap (λ o. stood (after_facts (seen_world cur) (goes_to by_world last (through by_world last n) (seen_world cur) o).facts)) (sym due)
+          ∙ ap (λ b. stood (after_facts (seen_world cur) (facts_of (if b then idles else followed by_world (seen_world cur) (through by_world last n) first)))) (is_in_time last moment le)
+          ∙ ap stood (after_facts-append (seen_world cur) first.facts (through by_world last n (after_facts (seen_world cur) first.facts)).facts)
+          ∙ ap (λ w. stood (after_facts w (through by_world last n w).facts)) (sym (changed ∙ ap (λ t. after_facts (seen_world cur) (at_moment by_world t (seen_world cur)).facts) same_moment));
       sessions = sessions ∙ going.sessions;
       failed = failed ∙ going.failed;
     }
@@ -167,28 +157,34 @@ going-next start cur new last moment passed going due later same_moment le chang
         facts_of : Deed → List Fact
         facts_of deed = deed.facts
 
--- there is no further moment
-idle-none : (last : ℤ) (n : ℕ) (w : World) → None ≡ next_due w.now w.daemons (length w.databases) → through by_world last n w ≡ idles
-idle-none last zero w none = refl
-idle-none last (suc n) w none = ap (goes_to by_world last (through by_world last n) w) (sym none)
+        stood : World → World
+        stood w = after_fact w (clock_at last)
 
-idle-late : (last moment : ℤ) (n : ℕ) (w : World) → Some moment ≡ next_due w.now w.daemons (length w.databases) → int_lt last moment ≡ true → through by_world last n w ≡ idles
-idle-late last moment zero w due late = refl
-idle-late last moment (suc n) w due late =
-    ap (goes_to by_world last (through by_world last n) w) (sym due)
-    ∙ ap (λ b. if b then idles else followed by_world w (through by_world last n) (at_moment by_world moment w)) late
+-- moments at which daemons are idle are passed over
+pub going-skipped : NextDueIsFirst → (start cur new : WorldView) (last : ℤ) → IsGoing start cur last → Skips cur new last → AreOnSince cur.now (seen_world cur).daemons → IsGoing start new last
+going-skipped law start cur new last going skips since = subst (λ v. IsGoing start v last) (sym skips.only) (record {
+  left = skipped.left;
+  enough = skipped.enough;
+  earlier = skips.most;
+  same = going.same ∙ skipped.same;
+  sessions = going.sessions;
+  failed = going.failed;
+})
+  where
+    skipped : IsSkipped (seen_world cur) last new.now going.left
+    skipped = through-skipped law last new.now going.left (seen_world cur) skips.later skips.most since going.enough skips.idle
 
-going-last : (start cur : WorldView) (last : ℤ) (going : IsGoing start cur last) → through by_world last going.left (seen_world cur) ≡ idles
-    → seen_world cur ≡ after_facts (seen_world start) (through by_world last (unsigned_abs (last -ℤ start.now)) (seen_world start)).facts
-going-last start cur last going idle = ap (λ (deed : Deed). after_facts (seen_world cur) deed.facts) (sym idle) ∙ sym going.same
+-- there is no further moment: the clock is set to the last one
+going-last : (start cur new : WorldView) (last : ℤ) (going : IsGoing start cur last) → through by_world last going.left (seen_world cur) ≡ idles → new ≡ record cur { now = last } → seen_world new ≡ whole_way start last
+going-last start cur new last going idle stands = ap seen_world stands ∙ ap (λ (deed : Deed). after_fact (after_facts (seen_world cur) deed.facts) (clock_at last)) (sym idle) ∙ sym going.same
 
-pub going-none : (start cur : WorldView) (last : ℤ) → IsGoing start cur last → None ≡ next_due cur.now (seen_world cur).daemons (length cur.databases.names)
-    → seen_world cur ≡ after_facts (seen_world start) (through by_world last (unsigned_abs (last -ℤ start.now)) (seen_world start)).facts
-going-none start cur last going none = going-last start cur last going (idle-none last going.left (seen_world cur) none)
+pub going-none : (start cur new : WorldView) (last : ℤ) → IsGoing start cur last → None ≡ next_due cur.now (seen_world cur).daemons (length cur.databases.names) → new ≡ record cur { now = last }
+    → seen_world new ≡ whole_way start last
+going-none start cur new last going none stands = going-last start cur new last going (idle-none last going.left (seen_world cur) none) stands
 
-pub going-late : (start cur : WorldView) (last moment : ℤ) → IsGoing start cur last → Some moment ≡ next_due cur.now (seen_world cur).daemons (length cur.databases.names) → last <ℤ moment
-    → seen_world cur ≡ after_facts (seen_world start) (through by_world last (unsigned_abs (last -ℤ start.now)) (seen_world start)).facts
-going-late start cur last moment going due late = going-last start cur last going (idle-late last moment going.left (seen_world cur) due (is_late last moment late))
+pub going-late : (start cur new : WorldView) (last moment : ℤ) → IsGoing start cur last → Some moment ≡ next_due cur.now (seen_world cur).daemons (length cur.databases.names) → last <ℤ moment
+    → new ≡ record cur { now = last } → seen_world new ≡ whole_way start last
+going-late start cur new last moment going due late stands = going-last start cur new last going (idle-late last moment going.left (seen_world cur) due (is_late last moment late)) stands
 
 -- ---- daemons answer nothing
 
@@ -281,10 +277,10 @@ clock-spent v who time to waits before after lt free at late is =
     (subst (λ b. AddsDeed v v before after (going_if (seen_world v) who to b)) (sym (is_late last_moment to late)) (adds-refusal v who (Refused ClockSpent) before after lt tt is)))
 
 -- the clock moves
-pub clock-moved : (v worked new : WorldView) (who : ℕ) (time to : ℤ) (waits : Bool) (before after : List (ℕ × Reply)) → who < length v.sessions.names → false ≡ waits → to ≡ v.now +ℤ time → to ≤ℤ last_moment → HasMoment to
-    → seen_world worked ≡ after_facts (seen_world v) (through by_world to (unsigned_abs (to -ℤ v.now)) (seen_world v)).facts → worked.sessions.names ≡ v.sessions.names → new ≡ record worked { now = to }
+pub clock-moved : (v new : WorldView) (who : ℕ) (time to : ℤ) (waits : Bool) (before after : List (ℕ × Reply)) → who < length v.sessions.names → false ≡ waits → to ≡ v.now +ℤ time → to ≤ℤ last_moment → HasMoment to
+    → seen_world new ≡ whole_way v to → new.sessions.names ≡ v.sessions.names
     → after ≡ before ++ (who, Moment to) ∷ [] → AddsDeed v new before after (clock by_world (seen_world v) who time waits)
-clock-moved v worked new who time to waits before after lt free at in_time printed changed sessions stands is =
+clock-moved v new who time to waits before after lt free at in_time printed changed sessions is =
     subst (λ b. AddsDeed v new before after (clock by_world (seen_world v) who time b)) free
     (subst (λ t. AddsDeed v new before after (clock_goes by_world (seen_world v) who t)) at
     (subst (λ b. AddsDeed v new before after (going_if (seen_world v) who to b)) (sym (is_in_time last_moment to in_time)) (record {
@@ -293,10 +289,9 @@ clock-moved v worked new who time to waits before after lt free at in_time print
           (All-from_recursion (λ (answer : ℕ × Reply). answer.0 < length v.sessions.names) ((who, Moment to) ∷ []) (lt, tt));
       moments = subst (λ answers. HaveMoments (answers ++ (who, Moment to) ∷ [])) silent
           (All-from_recursion (λ (answer : ℕ × Reply). ReplyHasMoments answer.1) ((who, Moment to) ∷ []) (printed, tt));
-      changed = ap seen_world stands
-          ∙ ap (λ w. after_fact w (clock_at to)) changed
+      changed = changed
           ∙ sym (after_facts-append (seen_world v) (through by_world to (unsigned_abs (to -ℤ v.now)) (seen_world v)).facts (clock_at to ∷ []));
-      sessions = ap (λ (w : WorldView). w.sessions.names) stands ∙ sessions;
+      sessions = sessions;
     })))
   where
     silent : [] ≡ (through by_world to (unsigned_abs (to -ℤ v.now)) (seen_world v)).answers

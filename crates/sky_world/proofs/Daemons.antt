@@ -81,7 +81,7 @@ works-idle v d part other =
     (record { changed = refl; now = refl; sessions = refl; databases = refl })
 
 -- within the world the daemon of a database does what it does in the database
-daemon-within : (w : World) (d : ℕ) (part : DaemonPart) (now : ℤ) → daemon_does (within_database by_world d) w part now ≡ daemon_does database_by_itself (w.database d) part now
+pub daemon-within : (w : World) (d : ℕ) (part : DaemonPart) (now : ℤ) → daemon_does (within_database by_world d) w part now ≡ daemon_does database_by_itself (w.database d) part now
 daemon-within w d part now =
     same-daemon_does (within_database by_world d) database_by_itself (λ (v : World). v.database d) (λ v. refl)
     (λ v mark. ap (λ b. if b then after_mark (v.database d) mark else v.database d) (same-session d)) w part now

@@ -4,6 +4,7 @@ pub mod Resting
 pub mod Made
 pub mod Refusals
 pub mod Daemons
+pub mod Skipping
 pub mod Clocks
 pub mod ServedNodes
 pub mod CallsInTurn

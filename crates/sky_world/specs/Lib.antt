@@ -9,3 +9,4 @@ pub mod Made
 pub mod Adds
 pub mod Nodes
 pub mod Workers
+pub mod Idle

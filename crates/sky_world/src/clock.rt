@@ -1,19 +1,23 @@
 //! The clock, and the daemons that are due as it moves.
 
-ghost use Rattle.std.specs.Prelude.{◌≡◌, ◌<◌, ◌-ℤ◌, ◌≤ℤ◌, ◌<ℤ◌, true, Some, OnOk, IfSome, length, option_map, unsigned_abs};
-ghost use Rattle.sky_model.specs.Moment.{HasMoment, IsTime};
+ghost use Rattle.std.specs.Prelude.{◌≡◌, ◌⊎◌, ◌<◌, ◌+ℤ◌, ◌-ℤ◌, ◌≤ℤ◌, ◌<ℤ◌, true, pos, Some, OnOk, IfSome, length, option_map, unsigned_abs};
+ghost use Rattle.sky_model.specs.Moment.{HasMoment, IsTime, last_moment};
 ghost use Rattle.sky_model.specs.Kinds.{Advance};
 ghost use Rattle.sky_model.specs.InForm.{IsOf};
 ghost use Rattle.sky_model.specs.Reader.{by_world};
-ghost use Rattle.sky_model.specs.World.{after_facts};
+ghost use Rattle.sky_model.specs.History.{clock_at};
+ghost use Rattle.sky_model.specs.World.{after_fact, after_facts};
+ghost use Rattle.sky_model.specs.LawsOfDaemons.{AreOnSince};
 ghost use Rattle.sky_model.specs.Daemon.{period, is_due_at, first_after, earlier, next_due};
 ghost use Rattle.sky_model.specs.Clock.{part_works, daemon_works, at_moment, through, clock, waits_at};
 ghost use Rattle.sky_world.specs.Seen.{seen_world};
 ghost use Rattle.sky_world.specs.Adds.{AddsDeed};
 ghost use Rattle.sky_world.specs.Works.{Works};
+ghost use Rattle.pgq_db.specs.Idle.{IsIdleUntil};
+ghost use Rattle.sky_world.specs.Idle.{AreIdle, IsLeap, IsReach, Skips};
 
 use crate::world::World;
-use sky_model::{DaemonPart, Refusal, Replies, Reply};
+use sky_model::{DaemonPart, Refusal, Replies, Reply, laws};
 use sky_val::{NoMemory, SessionId};
 
 /// The last moment of the clock, in the year 2043.
@@ -21,6 +25,9 @@ const LAST_MOMENT: i64 = 1_000_000_000_000_000;
 
 /// A second, in microseconds: a daemon is due once in each.
 const SECOND: u64 = 1_000_000;
+
+/// By how much the clock is moved on at least where daemons are idle.
+const LEAST_REACH: i64 = 1_000_000;
 
 impl World {
     /// Runs `clock`. It is refused if its session waits, or if the clock would pass its last moment. Otherwise the
@@ -47,7 +54,6 @@ impl World {
             return Ok(());
         }
         self.work_until(to)?;
-        self.stand_at(to);
         replies.push(who, Reply::Moment(to))?;
         Ok(())
     }
@@ -61,22 +67,126 @@ impl World {
         self.clock = moment;
     }
 
-    /// The daemons work at each moment up to this one at which one is due, one moment after another.
+    /// The daemons work at each moment up to this one at which one is due, one moment after another, and then the clock
+    /// is set to it. Moments at which none would change anything are passed over.
     fn work_until(&mut self, last: i64) -> Result<(), NoMemory>
         requires last { IsTime last }
         requires later { self.old.now ≤ℤ last }
-        ensures changed { OnOk result (seen_world self.new ≡ after_facts (seen_world self.old) (through by_world last (unsigned_abs (last -ℤ self.old.now)) (seen_world self.old)).facts) }
-        ensures earlier { OnOk result (self.new.now ≤ℤ last) }
+        ensures changed { OnOk result (seen_world self.new
+            ≡ after_fact (after_facts (seen_world self.old) (through by_world last (unsigned_abs (last -ℤ self.old.now)) (seen_world self.old)).facts) (clock_at last)) }
         ensures sessions { OnOk result (self.new.sessions.names ≡ self.old.sessions.names) }
         ensures failed { OnOk result (self.new.has_failed ≡ self.old.has_failed) }
     {
+        let mut reach = LEAST_REACH;
         while let Some(moment) = self.next_due() {
             if moment > last {
                 break;
             }
             self.work_at(moment)?;
+            // A law, which the proof cites: the next moment is the first one.
+            laws::daemons_work_when_due();
+            reach = self.skip_idle(reach, last);
         }
+        self.stand_at(last);
         Ok(())
+    }
+
+    /// Moves the clock on, not beyond a moment, while no daemon would change anything. The answer is how far it moved,
+    /// or the least reach if that is more. How far it moved the last time is tried first.
+    fn skip_idle(&mut self, reach: i64, last: i64) -> i64
+        requires reach { IsReach reach }
+        requires last { IsTime last }
+        requires later { self.old.now ≤ℤ last }
+        ensures skips { Skips self.old self.new last }
+        ensures since { AreOnSince self.old.now (seen_world self.old).daemons }
+        ensures reach { IsReach result }
+    {
+        let start = self.clock;
+        let leap = self.skip_first(reach, last);
+        self.skip_less(leap, last);
+        longer(self.clock - start, LEAST_REACH)
+    }
+
+    /// Moves the clock on by a leap, and then further, as long as it can. The answer is a leap by which it can't.
+    fn skip_first(&mut self, reach: i64, last: i64) -> i64
+        requires reach { IsReach reach }
+        requires last { IsTime last }
+        requires later { self.old.now ≤ℤ last }
+        ensures skips { Skips self.old self.new last }
+        ensures leap { IsReach result }
+    {
+        if !self.skip(reach, last) {
+            return reach;
+        }
+        self.skip_more(last)
+    }
+
+    /// Moves the clock on by leaps that double, as long as it can. The answer is the one by which it can't.
+    fn skip_more(&mut self, last: i64) -> i64
+        requires last { IsTime last }
+        requires later { self.old.now ≤ℤ last }
+        ensures skips { Skips self.old self.new last }
+        ensures leap { IsReach result }
+    {
+        let mut leap = LEAST_REACH;
+        while self.skip(leap, last) {
+            leap = doubled(leap);
+        }
+        leap
+    }
+
+    /// Moves the clock on by halves of a leap, quarters and so on, by each if it can.
+    fn skip_less(&mut self, whole: i64, last: i64)
+        requires whole { IsReach whole }
+        requires last { IsTime last }
+        requires later { self.old.now ≤ℤ last }
+        ensures { Skips self.old self.new last }
+    {
+        let mut leap = whole;
+        while leap > LEAST_REACH {
+            leap = half(leap);
+            self.skip(leap, last);
+        }
+    }
+
+    /// Moves the clock on by a leap, unless it would come behind a moment, or a daemon would change something on the
+    /// way. The answer is whether it moved.
+    fn skip(&mut self, leap: i64, last: i64) -> bool
+        requires leap { IsLeap leap }
+        requires last { IsTime last }
+        requires later { self.old.now ≤ℤ last }
+        ensures skips { Skips self.old self.new last }
+        ensures moved { result ≡ true → self.new.now ≡ self.old.now +ℤ leap }
+        ensures short { result ≡ true → leap ≤ℤ last_moment }
+    {
+        let to = self.clock + leap;
+        if to > last || !self.is_idle_until(to) {
+            return false;
+        }
+        self.stand_at(to);
+        true
+    }
+
+    /// Whether no daemon that is on would change anything at a moment, or at one before it.
+    fn is_idle_until(&self, moment: i64) -> bool
+        requires { IsTime moment }
+        ensures { result ≡ true → AreIdle moment (seen_world self.now) }
+    {
+        for database in 0..self.databases.len() {
+            if !self.idles(database, moment) {
+                return false;
+            }
+        }
+        true
+    }
+
+    /// The same of the daemon of a database alone.
+    fn idles(&self, database: usize, moment: i64) -> bool
+        requires database { database < length self.now.databases.names }
+        requires time { IsTime moment }
+        ensures { result ≡ true → IfSome ((seen_world self.now).daemons database) (λ start. IsIdleUntil moment ((seen_world self.now).database database)) }
+    {
+        !self.daemons.contains_key(&database) || self.store(database).is_idle_until(moment)
     }
 
     /// The first moment after the present one at which a daemon is due.
@@ -176,6 +286,30 @@ impl World {
             None => false,
         }
     }
+}
+
+/// The longer of two leaps.
+fn longer(leap: i64, other: i64) -> i64
+    ensures either { (result ≡ leap) ⊎ (result ≡ other) }
+    ensures least { other ≤ℤ result }
+{
+    if other < leap { leap } else { other }
+}
+
+fn doubled(leap: i64) -> i64
+    requires least { pos 1_000_000 ≤ℤ leap }
+    requires most { leap ≤ℤ last_moment }
+    ensures { IsReach result }
+{
+    2 * leap
+}
+
+fn half(leap: i64) -> i64
+    requires { IsReach leap }
+    ensures leap { IsLeap result }
+    ensures less { result <ℤ leap }
+{
+    leap / 2
 }
 
 /// The microseconds from one turn of a part to the next.

@@ -19,6 +19,6 @@ returns-clause-adds c =
     let sum_is : to_z w64 (of_z w64 (to_z w64 (of_z w64 c.self.inside.clock) +ℤ to_z w64 (of_z w64 c.args.time))) ≡ c.self.inside.clock +ℤ c.args.time =
     ap (λ t. to_z w64 (of_z w64 t)) (λ i. clock_read i +ℤ time_read i)
     ∙ to_z-of_z w64 (c.self.inside.clock +ℤ c.args.time) (omega (arith, ints, c.self.invariant.0.0, c.self.invariant.0.1, c.requires.time.0, c.requires.time.1)) in
-    clock-moved c.args.self.now c.work_until.new.self c.stand_at.new.self c.args.who c.args.time _ _ c.args.replies.now _ c.requires.who (sym c.if-is_waiting.false ∙ c.is_waiting.ensures) (sum_is ∙ ap (λ t. t +ℤ c.args.time) clock_is)
+    clock-moved c.args.self.now c.work_until.new.self c.args.who c.args.time _ _ c.args.replies.now _ c.requires.who (sym c.if-is_waiting.false ∙ c.is_waiting.ensures) (sum_is ∙ ap (λ t. t +ℤ c.args.time) clock_is)
     (omega (arith, ints, c.if-to-gt-LAST_MOMENT.false)) (omega (arith, ints, sum_is, c.self.invariant.0.0, c.requires.time.0), omega (arith, ints, c.if-to-gt-LAST_MOMENT.false))
-    c.in_ok-work_until.ensures.changed c.in_ok-work_until.ensures.sessions c.stand_at.ensures c.in_ok-push-3.ensures.ok
+    c.in_ok-work_until.ensures.changed c.in_ok-work_until.ensures.sessions c.in_ok-push-3.ensures.ok
