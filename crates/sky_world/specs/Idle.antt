@@ -10,11 +10,11 @@ use Rattle.sky_world.specs.Seen.{seen_world}
 abbrev pub AreIdle : ℤ → World → Type 0
 AreIdle moment w = (d : ℕ) → d < length w.databases → IfSome (w.daemons d) (λ start. IsIdleUntil moment (w.database d))
 
--- a time by which the clock may be moved on
+-- a time by which moving the clock on is tried: at most twice its last moment, since one by which it was moved is doubled at most
 abbrev pub IsLeap : ℤ → Type 0
 IsLeap leap = (pos 0 <ℤ leap) × (leap ≤ℤ (last_moment +ℤ last_moment))
 
--- one that is tried before shorter ones: a second at least
+-- one that is a second at least
 abbrev pub IsReach : ℤ → Type 0
 IsReach leap = (pos 1_000_000 ≤ℤ leap) × (leap ≤ℤ (last_moment +ℤ last_moment))
 

@@ -26,7 +26,7 @@ const LAST_MOMENT: i64 = 1_000_000_000_000_000;
 /// A second, in microseconds: a daemon is due once in each.
 const SECOND: u64 = 1_000_000;
 
-/// By how much the clock is moved on at least where daemons are idle.
+/// The leap with which skipping begins, in microseconds, and the longest that isn't halved any more: a second.
 const LEAST_REACH: i64 = 1_000_000;
 
 impl World {
@@ -67,8 +67,8 @@ impl World {
         self.clock = moment;
     }
 
-    /// The daemons work at each moment up to this one at which one is due, one moment after another, and then the clock
-    /// is set to it. Moments at which none would change anything are passed over.
+    /// The daemons work at the moments up to this one at which one is due, one moment after another, but for some at
+    /// which none would change anything: these are skipped. Then the clock is set to the last moment.
     fn work_until(&mut self, last: i64) -> Result<(), NoMemory>
         requires last { IsTime last }
         requires later { self.old.now ≤ℤ last }
@@ -92,7 +92,7 @@ impl World {
     }
 
     /// Moves the clock on, not beyond a moment, while no daemon would change anything. The answer is how far it moved,
-    /// or the least reach if that is more. How far it moved the last time is tried first.
+    /// or a second if that is more. The reach, how far it moved the last time, is tried first.
     fn skip_idle(&mut self, reach: i64, last: i64) -> i64
         requires reach { IsReach reach }
         requires last { IsTime last }
@@ -103,7 +103,7 @@ impl World {
     {
         let start = self.clock;
         let leap = self.skip_first(reach, last);
-        self.skip_less(leap, last);
+        self.skip_halving(leap, last);
         longer(self.clock - start, LEAST_REACH)
     }
 
@@ -118,11 +118,11 @@ impl World {
         if !self.skip(reach, last) {
             return reach;
         }
-        self.skip_more(last)
+        self.skip_doubling(last)
     }
 
     /// Moves the clock on by leaps that double, as long as it can. The answer is the one by which it can't.
-    fn skip_more(&mut self, last: i64) -> i64
+    fn skip_doubling(&mut self, last: i64) -> i64
         requires last { IsTime last }
         requires later { self.old.now ≤ℤ last }
         ensures skips { Skips self.old self.new last }
@@ -136,7 +136,7 @@ impl World {
     }
 
     /// Moves the clock on by halves of a leap, quarters and so on, by each if it can.
-    fn skip_less(&mut self, whole: i64, last: i64)
+    fn skip_halving(&mut self, whole: i64, last: i64)
         requires whole { IsReach whole }
         requires last { IsTime last }
         requires later { self.old.now ≤ℤ last }
@@ -149,7 +149,7 @@ impl World {
         }
     }
 
-    /// Moves the clock on by a leap, unless it would come behind a moment, or a daemon would change something on the
+    /// Moves the clock on by a leap, unless it would pass a moment, or a daemon would change something on the
     /// way. The answer is whether it moved.
     fn skip(&mut self, leap: i64, last: i64) -> bool
         requires leap { IsLeap leap }
@@ -173,7 +173,7 @@ impl World {
         ensures { result ≡ true → AreIdle moment (seen_world self.now) }
     {
         for database in 0..self.databases.len() {
-            if !self.idles(database, moment) {
+            if !self.is_idle_in(database, moment) {
                 return false;
             }
         }
@@ -181,7 +181,7 @@ impl World {
     }
 
     /// The same of the daemon of a database alone.
-    fn idles(&self, database: usize, moment: i64) -> bool
+    fn is_idle_in(&self, database: usize, moment: i64) -> bool
         requires database { database < length self.now.databases.names }
         requires time { IsTime moment }
         ensures { result ≡ true → IfSome ((seen_world self.now).daemons database) (λ start. IsIdleUntil moment ((seen_world self.now).database database)) }

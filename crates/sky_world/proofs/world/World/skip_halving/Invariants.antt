@@ -1,6 +1,6 @@
 use Rattle.std.proofs.Common.{unsigned_abs}
 use Rattle.sky_world.specs.Idle.{IsLeap, Skips}
-use Rattle.sky_world.proofs.world.World.skip_less.Given as goal
+use Rattle.sky_world.proofs.world.World.skip_halving.Given as goal
 
 abbrev pub decreases-loop-leap : goal.decreases-loop-leap
 decreases-loop-leap l = unsigned_abs l.leap

@@ -2,7 +2,7 @@ use Rattle.std.proofs.Common.{◌≡◌, subst, arith, w64, to_z, of_z}
 use Rattle.std.proofs.lemmas.Int.{ints, to_z-of_z}
 use Rattle.sky_world.specs.Idle.{Skips}
 use Rattle.sky_world.proofs.Skipping.{skips-none, skips-then}
-use Rattle.sky_world.proofs.world.World.skip_more.Goals as goal
+use Rattle.sky_world.proofs.world.World.skip_doubling.Goals as goal
 
 pub loop-leap-init : goal.loop-leap-init
 loop-leap-init c =

@@ -1,6 +1,6 @@
 use Rattle.std.proofs.Common.{◌-ℤ◌, unsigned_abs}
 use Rattle.sky_world.specs.Idle.{IsReach, Skips}
-use Rattle.sky_world.proofs.world.World.skip_more.Given as goal
+use Rattle.sky_world.proofs.world.World.skip_doubling.Given as goal
 
 abbrev pub decreases-loop-leap : goal.decreases-loop-leap
 decreases-loop-leap l = unsigned_abs (l.fn.last -ℤ l.self.now)
