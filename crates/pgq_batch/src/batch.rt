@@ -36,8 +36,8 @@ pub fn look(
     Ok(looks)
 }
 
-/// Of the events that were looked at those that a batch lists: they are between two snapshots, for a subscription and not
-/// dead, and are in order of their ids.
+/// The events that a batch lists, of those that were looked at: those between two snapshots that are for a subscription
+/// and not dead, in order of their ids.
 pub fn lend<'a>(
     alloc: Global,
     tables: &'a EventTables,

@@ -13,7 +13,7 @@ use sky_txid::Snapshot;
 use sky_val::{Event, NoMemory};
 use std::alloc::Global;
 
-/// Of a table's events that were looked at those that a batch lists, each with its place there, in order of their
+/// The events that a batch lists, of those of a table that were looked at, each with its place there, in order of their
 /// transactions.
 pub(crate) fn collect<'a>(
     alloc: Global,

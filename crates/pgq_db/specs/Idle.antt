@@ -19,7 +19,7 @@ abbrev pub all_idle : ℤ → Database → List NamedQueue → Bool
 all_idle moment d [] = true
 all_idle moment d (q ∷ queues) = queue_idles moment (d.queue q.number) && all_idle moment d queues
 
--- nothing is to be done in a database at a moment: nor in its queues, none of which lacks the second step of a switch, and no retry is due
+-- a database is idle at a moment: nothing is to be done in a queue, none lacks the second step of a switch, and no retry is due
 abbrev pub idles_at : ℤ → Database → Bool
 idles_at moment d = all_idle moment d d.queues && ((length (lack_second_step d) == 0) && (length (due_now moment most_back d.retries) == 0))
 

@@ -50,6 +50,7 @@ impl Db {
         self.idles_at(moment)
     }
 
+    /// Whether nothing is to be done at a moment.
     fn idles_at(&self, moment: i64) -> bool
         requires { IsTime moment }
         ensures { result ≡ idles_at moment (seen_database self.now) }

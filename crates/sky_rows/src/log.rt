@@ -1,7 +1,7 @@
-//! The keys that one transaction wrote, in the order of its writes. They are read only to roll it back: adding a key
+//! The keys that one transaction wrote, in the order of its writes. They are read only to roll it back. Adding a key
 //! takes no search, and none is looked up here.
 
-ghost use Rattle.std.specs.Prelude.{◌≡◌, ◌<◌, ◌&&◌, ◌||◌, ◌==◌, not, ℕ, true, false, None, Some, List, OnOk, IfNone, IfSome};
+ghost use Rattle.std.specs.Prelude.{◌≡◌, ◌≤◌, ◌<◌, ◌&&◌, ◌||◌, ◌==◌, not, ℕ, true, false, None, Some, List, OnOk, IfNone, IfSome};
 ghost use Rattle.std.specs.List.{list_any};
 ghost use Rattle.std.specs.BTreeMap.{is_at};
 ghost use Rattle.sky_val.specs.Order.{key_cmp};
@@ -78,6 +78,7 @@ fn begin(log: &mut Option<Log>, alloc: Global, txid: u64, key: Key) -> Result<()
 pub(crate) fn drop_below(log: &mut Option<Log>, below: u64)
     ensures kept { (t : ℕ) (q : List Val) → logged log.new t q ≡ false → logged log.old t q ≡ false }
     ensures dropped { (t : ℕ) (q : List Val) → t < below → logged log.new t q ≡ true }
+    ensures others { (t : ℕ) (q : List Val) → below ≤ t → logged log.new t q ≡ logged log.old t q }
 {
     let is_below = match log {
         Some(log) => log.txid < below,

@@ -226,7 +226,7 @@ impl Table {
             .put(&mut self.older, place, key, Version { txid, row }, again)
     }
 
-    /// The same for a transaction that ends with it while no other one runs. No key of it is recorded, and those of
+    /// The same for a transaction that ends with it while no other one runs. No key of it is indexed or logged, and those of
     /// all before it are forgotten, as by `prune`: if one of these does run, what it wrote is then looked for in the
     /// versions, and `forget` goes through all keys for it.
     pub fn write_last_at(

@@ -276,7 +276,7 @@ impl RowDb {
 
     /// Records what a session writes elsewhere, in its transaction, which has this id or gets it: outside a block the
     /// transaction then commits. It is the same as `take_txid`, and then `end_single`. No effect is reported for that
-    /// commit: the caller, pgq_db, made the write itself, and drops all effects.
+    /// commit: the caller made the write itself.
     pub fn write_elsewhere(&mut self, who: SessionId, txid: u64) -> Result<(), NoMemory>
         requires { txid_for (seen self.old) who ≡ Ok txid }
         ensures marks { OnOk result (seen self.new ≡ after_part_marks (seen self.old) (in_own who txid ((seen self.old).session who) [])) }

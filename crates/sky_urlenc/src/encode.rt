@@ -71,7 +71,7 @@ fn append_text(text: &Text, into: &mut String) -> Result<(), NoMemory>
         (string_bytes into.new ≡ string_bytes into.old ++ byte_serialize text.now) }
     ensures word { OnOk result (IsWord text.now) }
 {
-    if is_unchanged(text.bytes()) {
+    if are_unchanged(text.bytes()) {
         into.push_str(text.as_str())
     } else {
         append_escaped(text.bytes(), into)
@@ -79,7 +79,7 @@ fn append_text(text: &Text, into: &mut String) -> Result<(), NoMemory>
 }
 
 /// Whether a form changes none of the bytes.
-fn is_unchanged(bytes: &[u8]) -> bool
+fn are_unchanged(bytes: &[u8]) -> bool
     ensures { result ≡ list_all is_unchanged bytes.now }
 {
     bytes.iter().all(|byte| byte.is_ascii_alphanumeric()

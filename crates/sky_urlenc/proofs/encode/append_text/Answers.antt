@@ -5,7 +5,7 @@ use Rattle.form_urlencoded.specs.Form.{is_unchanged}
 use Rattle.sky_urlenc.proofs.Escaping.{unchanged_as}
 use Rattle.sky_urlenc.proofs.encode.append_text.Goals as goal
 
-pub returns-then-is_unchanged-clause-text : goal.returns-then-is_unchanged-clause-text
-returns-then-is_unchanged-clause-text c =
-    let same = unchanged_as c.args.text.now (sym (c.if-is_unchanged.ensures ∙ ap (list_all is_unchanged) c.bytes.ensures.value)) in
+pub returns-then-are_unchanged-clause-text : goal.returns-then-are_unchanged-clause-text
+returns-then-are_unchanged-clause-text c =
+    let same = unchanged_as c.args.text.now (sym (c.if-are_unchanged.ensures ∙ ap (list_all is_unchanged) c.bytes.ensures.value)) in
     subst (λ text. OnOk c.push_str.result (string_bytes c.push_str.new.self ≡ string_bytes c.args.into.now ++ text)) (sym same) (search rules)
