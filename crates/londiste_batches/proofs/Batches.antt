@@ -12,7 +12,7 @@ use Rattle.sky_model.specs.StepNode.{NodeCall, applying, node_does}
 use Rattle.sky_model.specs.DatabaseSteps.{IsMade}
 use Rattle.sky_model.specs.WorkerMoves.{Move}
 use Rattle.sky_model.specs.BatchMoves.{Follower, events_of_batch, has_applied, applies_in_hand}
-use Rattle.sky_model.proofs.MadeCopies.{picked-uncopied}
+use Rattle.sky_histories.proofs.MadeCopies.{picked-uncopied}
 use Rattle.pgq_db.specs.Applying.{IsBad}
 use Rattle.pgq_db.specs.Served.{Serves}
 use Rattle.londiste_batches.specs.Moved.{MovesBy}

@@ -5,7 +5,7 @@ use Rattle.sky_model.specs.StepNode.{NodeCall, node_does}
 use Rattle.sky_model.specs.Daemon.{quietly}
 use Rattle.sky_model.specs.DatabaseCalls.{served}
 use Rattle.sky_model.specs.DatabaseSteps.{IsMade}
-use Rattle.sky_model.proofs.MadeCopies.{made-after}
+use Rattle.sky_histories.proofs.MadeCopies.{made-after}
 use Rattle.pgq_db.specs.Served.{Serves}
 use Rattle.pgq_db.proofs.NodeSteps.{serves-steps}
 use Rattle.londiste_batches.specs.Moved.{after_call, after_calls, AllAccepted, ServesAll}

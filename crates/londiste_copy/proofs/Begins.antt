@@ -31,8 +31,8 @@ use Rattle.sky_model.specs.WorkerMoves.{Move, behind_calls}
 use Rattle.sky_model.specs.CopyMoves.{copy_running, held_snapshot, newest_of, first_hand, copy_consumer, next_piece, starts_copy}
 use Rattle.sky_model.specs.DatabaseSteps.{IsMade}
 use Rattle.sky_model.proofs.LeastNumbers.{least-free}
-use Rattle.sky_model.proofs.NodeDeeds.{is-served}
-use Rattle.sky_model.proofs.MadeCopies.{room-without}
+use Rattle.sky_histories.proofs.NodeDeeds.{is-served}
+use Rattle.sky_histories.proofs.MadeCopies.{room-without}
 use Rattle.pgq_db.specs.declared.faults.JoinFault.{JoinFault}
 use Rattle.pgq_db.specs.declared.faults.JoinFault.TheVariants as join
 use Rattle.pgq_db.specs.Served.{Serves, JoinRefused}

@@ -24,8 +24,8 @@ use Rattle.sky_model.specs.State.{Database}
 use Rattle.sky_model.specs.Promises.{after_all}
 use Rattle.sky_model.specs.DatabaseCalls.{database_part}
 use Rattle.sky_model.specs.DatabaseSteps.{IsMade}
-use Rattle.sky_model.proofs.RowKeys.{is_in_order-versions}
-use Rattle.sky_model.proofs.MadeCopies.{read-fits}
+use Rattle.sky_histories.proofs.RowKeys.{is_in_order-versions}
+use Rattle.sky_histories.proofs.MadeCopies.{read-fits}
 use Rattle.londiste_copy.specs.Copying.{last_row_key}
 
 -- each entry is a row of a table of these columns, under its key

@@ -16,9 +16,9 @@ use Rattle.sky_model.specs.ReplayMoves.{first_in, is_absent, is_met, is_on_way, 
 use Rattle.sky_model.specs.DatabaseSteps.{IsMade}
 use Rattle.sky_model.specs.DatabaseCalls.{database_part}
 use Rattle.sky_model.specs.Promises.{after_all}
-use Rattle.sky_model.proofs.Legal.{NodeFits, nodes, Legal, start, next}
-use Rattle.sky_model.proofs.Histories.{legal_calls}
-use Rattle.sky_model.proofs.NodeReadings.{same-tables, leaf-added, leaf-removed, leaf-other}
+use Rattle.sky_histories.proofs.Legal.{NodeFits, nodes, Legal, start, next}
+use Rattle.sky_histories.proofs.Histories.{legal_calls}
+use Rattle.sky_histories.proofs.NodeReadings.{same-tables, leaf-added, leaf-removed, leaf-other}
 use Rattle.sky_model.proofs.Cases.{by_test}
 
 -- ---- no name comes twice

@@ -14,7 +14,7 @@ use Rattle.sky_model.specs.OwnTransaction.{next_id}
 use Rattle.sky_model.specs.Gates.{passed, passed_all}
 use Rattle.sky_model.specs.SessionMarks.{sight_marks, Enters}
 use Rattle.sky_model.specs.Settling.{Turn}
-use Rattle.sky_model.proofs.Telling.{SameTold}
+use Rattle.sky_histories.proofs.Telling.{SameTold}
 use Rattle.pgq_queues.specs.Views.{QueuesView}
 use Rattle.pgq_queues.specs.Seen.{seen_with, no_queues}
 use Rattle.pgq_queues.specs.Traced.{AreTables, KeepsRest}

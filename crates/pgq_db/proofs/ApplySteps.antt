@@ -42,10 +42,10 @@ use Rattle.sky_model.specs.StepApply.{picks, picked, may_meet, row_left, change_
 use Rattle.sky_model.specs.StepNode.{applying, table_number, may_serve, node_does}
 use Rattle.sky_model.specs.DatabaseSteps.{IsMade}
 use Rattle.sky_model.proofs.Cases.{by_test, by_same}
-use Rattle.sky_model.proofs.ApplyCalls.{IsWritten, event-written}
-use Rattle.sky_model.proofs.DatabaseStanding.{after_marks-append}
-use Rattle.sky_model.proofs.NodeDeeds.{is-served}
-use Rattle.sky_model.proofs.MadeCopies.{CopyMayBegin, picked-may-write, picked-uncopied}
+use Rattle.sky_histories.proofs.ApplyCalls.{IsWritten, event-written}
+use Rattle.sky_histories.proofs.DatabaseStanding.{after_marks-append}
+use Rattle.sky_histories.proofs.NodeDeeds.{is-served}
+use Rattle.sky_histories.proofs.MadeCopies.{CopyMayBegin, picked-may-write, picked-uncopied}
 use Rattle.sky_state.specs.Views.{RowStateView}
 use Rattle.sky_state.specs.Seen.{seen}
 use Rattle.pgq_tables.specs.Tables.{recorded_part}

@@ -35,15 +35,15 @@ use Rattle.sky_model.specs.StepNode.{beginning_copy, copying_rows, ending_copy, 
 use Rattle.sky_model.specs.Promises.{after_all}
 use Rattle.sky_model.specs.DatabaseCalls.{database_part}
 use Rattle.sky_model.specs.DatabaseSteps.{IsMade}
-use Rattle.sky_model.proofs.Legal.{Legal}
-use Rattle.sky_model.proofs.Snapshots.{sound, runs-unended, copys-of}
-use Rattle.sky_model.proofs.KeyVersions.{kept, key_holds}
-use Rattle.sky_model.proofs.Guarded.{copy_txid-some}
-use Rattle.sky_model.proofs.Histories.{legal_calls}
+use Rattle.sky_histories.proofs.Legal.{Legal}
+use Rattle.sky_histories.proofs.Snapshots.{sound, runs-unended, copys-of}
+use Rattle.sky_histories.proofs.KeyVersions.{kept, key_holds}
+use Rattle.sky_histories.proofs.Guarded.{copy_txid-some}
+use Rattle.sky_histories.proofs.Histories.{legal_calls}
 use Rattle.sky_trans.specs.declared.trans.TransFault.{TransFault}
 use Rattle.sky_trans.specs.declared.trans.TransFault.TheVariants as trans
-use Rattle.sky_model.proofs.NodeDeeds.{is-served}
-use Rattle.sky_model.proofs.MadeCopies.{CopyMayBegin, copy-may-begin, CopyGoesOn, copy-goes-on}
+use Rattle.sky_histories.proofs.NodeDeeds.{is-served}
+use Rattle.sky_histories.proofs.MadeCopies.{CopyMayBegin, copy-may-begin, CopyGoesOn, copy-goes-on}
 use Rattle.sky_state.specs.Views.{RowStateView}
 use Rattle.sky_state.specs.Seen.{seen}
 use Rattle.pgq_queues.specs.Views.{QueuesView}

@@ -4,8 +4,8 @@ use Rattle.sky_model.specs.declared.reply.Reply.TheVariants.{Number, Null}
 use Rattle.sky_model.specs.declared.reply.Refusal.TheVariants.{IdsSpent}
 use Rattle.sky_model.specs.declared.daemon.DaemonPart.{DaemonPart}
 use Rattle.sky_model.specs.History.{Mark, QueueMark, of_worker, began, ended, queued, ticked, made, raised, put, registered, moved, unregistered, opened, closed, asked, returned, switching, switched, second_step, configured, dropped, traced, untraced}
-use Rattle.sky_model.proofs.StatementMarks.{EachMark}
-use Rattle.sky_model.proofs.DaemonTurns.{each-daemon_does}
+use Rattle.sky_histories.proofs.StatementMarks.{EachMark}
+use Rattle.sky_histories.proofs.DaemonTurns.{each-daemon_does}
 use Rattle.sky_model.specs.Queues.{NamedQueue}
 use Rattle.sky_model.specs.State.{Database, after_mark, after_marks}
 use Rattle.sky_model.specs.Outcome.{Checked, ◌>>=◌, ◌>>◌, refused_if, answers, does_marks, reply_of, marks_of}
@@ -16,11 +16,11 @@ use Rattle.sky_model.specs.declared.reply.HeldBack.{HeldBack}
 use Rattle.sky_model.specs.StepRetry.{brings, most_back, maint_retry_events}
 use Rattle.pgq_retry.specs.declared.retry.Retry.{Retry}
 use Rattle.pgq_retry.specs.Retries.{due_now}
-use Rattle.sky_model.proofs.RetryRounds.{fewer-wait}
+use Rattle.sky_histories.proofs.RetryRounds.{fewer-wait}
 use Rattle.sky_model.specs.StepQueue.{next_tick, is_due, newest_id}
 use Rattle.sky_model.specs.Reader.{database_by_itself}
 use Rattle.sky_model.specs.Daemon.{quietly, ticks_of, moved_by, again_if, retries_of, first_steps_of, daemon_does}
-use Rattle.sky_model.proofs.DatabaseStanding.{after_marks-append, behind-all}
+use Rattle.sky_histories.proofs.DatabaseStanding.{after_marks-append, behind-all}
 use Rattle.std.proofs.lemmas.List.{drop_more}
 use Rattle.std.proofs.Math.ListN.{drop_of_length-le}
 use Rattle.pgq_queues.specs.Seen.{unnamed}

@@ -33,7 +33,7 @@ use Rattle.sky_model.specs.Settling.{Turn, behind_marks, settling, with_settling
 use Rattle.sky_model.specs.Calls.{form, making, statement}
 use Rattle.sky_model.specs.DatabaseCalls as call
 use Rattle.sky_model.specs.DatabaseSteps.{DatabaseSteps}
-use Rattle.sky_model.proofs.DatabaseStanding.{after_marks-append, behind-all, database_enter_from_exact}
+use Rattle.sky_histories.proofs.DatabaseStanding.{after_marks-append, behind-all, database_enter_from_exact}
 use Rattle.sky_model.specs.SessionMarks.{look_of, failure, Enters, entry, entry_place}
 use Rattle.sky_state.specs.Views.{RowStateView}
 use Rattle.sky_state.specs.Seen.{seen}

@@ -23,13 +23,13 @@ use Rattle.sky_model.specs.Settling.{Turn, settling}
 use Rattle.sky_model.specs.Calls.{row_turn, database_turn}
 use Rattle.sky_model.specs.declared.stmt.RowStmt.{RowStmt}
 use Rattle.sky_model.specs.declared.stmt.Stmt.TheVariants.{Row}
-use Rattle.sky_model.proofs.RowOutcomes.{RowMarks, TurnOfRows, failure-rows, itself-rows, by_gate-rows, settling-rows-by, row_turn-rows-by}
-use Rattle.sky_model.proofs.Telling.{IsOther, TellsAlike, SameTold, settling-told, row_turn-told}
-use Rattle.sky_model.proofs.DatabaseStanding.{after_marks-append}
-use Rattle.sky_model.proofs.Inserted.{Inserted}
-use Rattle.sky_model.proofs.Inserted as inserted
-use Rattle.sky_model.proofs.GatedLemmas.{is_no_write, WritesNone, plain-if}
-use Rattle.sky_model.proofs.StatementMarks.{AnyReply, no_more, each-failure}
+use Rattle.sky_histories.proofs.RowOutcomes.{RowMarks, TurnOfRows, failure-rows, itself-rows, by_gate-rows, settling-rows-by, row_turn-rows-by}
+use Rattle.sky_histories.proofs.Telling.{IsOther, TellsAlike, SameTold, settling-told, row_turn-told}
+use Rattle.sky_histories.proofs.DatabaseStanding.{after_marks-append}
+use Rattle.sky_histories.proofs.Inserted.{Inserted}
+use Rattle.sky_histories.proofs.Inserted as inserted
+use Rattle.sky_histories.proofs.GatedLemmas.{is_no_write, WritesNone, plain-if}
+use Rattle.sky_histories.proofs.StatementMarks.{AnyReply, no_more, each-failure}
 use Rattle.sky_model.specs.SessionMarks.{failure}
 use Rattle.sky_model.specs.Sessions.{Block}
 use Rattle.pgq_queues.specs.Views.{QueueView, TracedTableView, QueuesView}

@@ -1,5 +1,5 @@
 -- Where nothing is to be done at a moment, the daemon does nothing at it, nor before it.
-use Rattle.std.proofs.Common.{◌≡◌, ℕ, zero, suc, ℤ, pos, ◌-ℤ◌, ◌*ℤ◌, ◌≤ℤ◌, ◌-◌, int_lt, nat_le, nat_lt, Bool, true, false, not, ◌&&◌, ◌||◌, ◌==◌, is_some, List, [], ◌∷◌, ◌++◌, length, take, filter, Option, Some, None, Ok, Err, option_map, refl, sym, ◌∙◌, ap, arith, if◌then◌else◌}
+use Rattle.std.proofs.Common.{◌≡◌, ℕ, zero, suc, ℤ, pos, ◌-ℤ◌, ◌*ℤ◌, ◌≤ℤ◌, ◌-◌, int_lt, nat_le, nat_lt, Bool, true, false, not, ◌&&◌, ◌||◌, ◌==◌, is_some, List, [], ◌∷◌, ◌++◌, length, take, filter, Option, Some, None, option_map, refl, ◌∙◌, ap, arith, if◌then◌else◌}
 use Rattle.std.specs.Option.{option_or}
 use Rattle.std.specs.Prelude.{int_le}
 use Rattle.std.proofs.lemmas.Int.{ints}
@@ -7,7 +7,6 @@ use Rattle.std.proofs.lemmas.Bool.{eqb-true}
 use Rattle.pgq_retry.specs.declared.retry.Retry as retry
 use Rattle.pgq_retry.specs.Retries as retries
 use Rattle.pgq_retry.specs.Retries.{by_due, due_now}
-use Rattle.sky_model.specs.declared.daemon.DaemonPart.{DaemonPart}
 use Rattle.sky_model.specs.declared.daemon.DaemonPart.TheVariants.{Tick, Retry, Maintain}
 use Rattle.sky_model.specs.declared.reply.HeldBack.{HeldBack}
 use Rattle.sky_model.specs.declared.reply.HeldBack.TheVariants.{Pending, Period}
@@ -16,14 +15,14 @@ use Rattle.sky_model.specs.Config.{Config}
 use Rattle.sky_model.specs.Queues as model
 use Rattle.sky_model.specs.Queues.{NamedQueue}
 use Rattle.sky_model.specs.State.{Queue, Database}
-use Rattle.sky_model.specs.Outcome.{Outcome, Checked, reply_of, marks_of, answers}
+use Rattle.sky_model.specs.Outcome.{Outcome, Checked, reply_of, answers}
 use Rattle.sky_model.specs.declared.reply.Reply.TheVariants.{Null}
 use Rattle.sky_model.specs.StepQueue.{is_idle_due, is_due_after, last_two, due_of, is_due, next_tick}
-use Rattle.sky_model.specs.StepRetry.{brings, most_back, maint_retry_events}
-use Rattle.sky_model.specs.StepRotation.{period_ends, held_by_second_step, held_back, rotates_alone, rotates_by_itself, lack_second_step, ends_switches, maint_rotate_step2}
+use Rattle.sky_model.specs.StepRetry.{brings, most_back}
+use Rattle.sky_model.specs.StepRotation.{period_ends, held_by_second_step, held_back, rotates_alone, rotates_by_itself, lack_second_step, ends_switches}
 use Rattle.sky_model.specs.Reader.{PartReader, database_by_itself, within_part}
 use Rattle.sky_model.specs.Settling.{Turn, behind_marks, and_then}
-use Rattle.sky_model.specs.Daemon.{quietly, ticks_of, moved_by, again_if, retries_of, first_steps_of, second_step_of_all, daemon_does}
+use Rattle.sky_model.specs.Daemon.{quietly, ticks_of, moved_by, again_if, retries_of, first_steps_of, second_step_of_all}
 use Rattle.pgq_db.specs.Idle.{queue_idles, all_idle, idles_at, IsIdleUntil}
 
 -- ---- tests

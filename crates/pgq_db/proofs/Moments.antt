@@ -6,7 +6,7 @@ use Rattle.sky_model.specs.Printed.{ReplyHasMoments, HaveMoments}
 use Rattle.sky_model.specs.State.{Database, after_marks}
 use Rattle.sky_model.specs.Reader.{database_by_itself, within_part}
 use Rattle.sky_model.specs.Settling.{Turn, settling, with_settling}
-use Rattle.sky_model.proofs.DatabaseStanding.{behind-all}
+use Rattle.sky_histories.proofs.DatabaseStanding.{behind-all}
 
 abbrev HasMoments : ℕ × Reply → Type 0
 HasMoments answer = ReplyHasMoments answer.1

@@ -23,8 +23,8 @@ use Rattle.sky_model.specs.Daemon.{quietly}
 use Rattle.sky_model.specs.DatabaseCalls.{served}
 use Rattle.sky_model.specs.DatabaseSteps.{DatabaseSteps}
 use Rattle.sky_model.specs.Stops.{Refuses}
-use Rattle.sky_model.proofs.DatabaseStanding.{database_steps_from_exact, after_marks-append}
-use Rattle.sky_model.proofs.NodeDeeds.{is-served}
+use Rattle.sky_histories.proofs.DatabaseStanding.{database_steps_from_exact, after_marks-append}
+use Rattle.sky_histories.proofs.NodeDeeds.{is-served}
 use Rattle.sky_state.specs.Views.{RowStateView}
 use Rattle.sky_state.specs.Seen.{seen}
 use Rattle.pgq_queues.specs.Views.{QueuesView}

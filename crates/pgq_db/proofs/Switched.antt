@@ -20,8 +20,8 @@ use Rattle.sky_model.specs.StepRotation.{switches_by, switches_of, committed_by}
 use Rattle.sky_model.specs.StepSession.{commit}
 use Rattle.sky_model.specs.Telling.{tells}
 use Rattle.sky_model.proofs.Cases.{by_test}
-use Rattle.sky_model.proofs.DatabaseStanding.{after_marks-append, behind-all}
-use Rattle.sky_model.proofs.StatementMarks.{SwitchesNone, none-first}
+use Rattle.sky_histories.proofs.DatabaseStanding.{after_marks-append, behind-all}
+use Rattle.sky_histories.proofs.StatementMarks.{SwitchesNone, none-first}
 use Rattle.pgq_db.specs.Switches.{first_switches}
 
 -- ---- they change queues alone

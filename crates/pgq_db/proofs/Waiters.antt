@@ -14,10 +14,10 @@ use Rattle.sky_model.specs.Allowed.{where_of, allowed}
 use Rattle.sky_model.specs.Reader.{PartReader, database_by_itself, within_part, shown_by}
 use Rattle.sky_model.specs.Settling.{Turn, turn_of, behind_marks, ready, resumed, goes_on, settles, settling, with_settling}
 use Rattle.sky_model.specs.Calls.{form, making, statement, database_turn}
-use Rattle.sky_model.proofs.StatementMarks.{EachMark, when-true, each-rest, Gives as Leaves, AnyReply, gives-map, Kinds, no_more, may_leave, kinds, gives-form, each-failure, given-runs}
-use Rattle.sky_model.proofs.Resting.{is-ready, KeepsPart, waiting-resumed, behind-append}
-use Rattle.sky_model.proofs.DatabaseResting.{database-keeps}
-use Rattle.sky_model.proofs.DatabaseStanding.{after_marks-append, behind-all}
+use Rattle.sky_histories.proofs.StatementMarks.{EachMark, when-true, each-rest, Gives as Leaves, AnyReply, gives-map, Kinds, no_more, may_leave, kinds, gives-form, each-failure, given-runs}
+use Rattle.sky_histories.proofs.Resting.{is-ready, KeepsPart, waiting-resumed, behind-append}
+use Rattle.sky_histories.proofs.DatabaseResting.{database-keeps}
+use Rattle.sky_histories.proofs.DatabaseStanding.{after_marks-append, behind-all}
 use Rattle.sky_model.specs.SessionMarks.{failure, failing}
 use Rattle.pgq_db.specs.Waiters.{WaitersWithin, AnswersWithin, StaysWithin}
 

@@ -10,10 +10,10 @@ use Rattle.sky_model.specs.Transactions.{has_ended, has_committed, snapshot}
 use Rattle.sky_model.specs.Queues.{events, at_tick}
 use Rattle.sky_model.specs.Rows.{columns_of, rows}
 use Rattle.sky_model.specs.Batches.{batch_events}
-use Rattle.sky_model.proofs.Legal.{Legal}
-use Rattle.sky_model.proofs.Snapshots.{sees-snapshot}
-use Rattle.sky_model.proofs.SnapshotLaws.{legal_place}
-use Rattle.sky_model.proofs.RowSights.{Since, here, legal-since}
+use Rattle.sky_histories.proofs.Legal.{Legal}
+use Rattle.sky_histories.proofs.Snapshots.{sees-snapshot}
+use Rattle.sky_histories.proofs.SnapshotLaws.{legal_place}
+use Rattle.sky_histories.proofs.RowSights.{Since, here, legal-since}
 use Rattle.sky_model.proofs.Cases.{by_test}
 use Rattle.sky_changes.specs.TableEvents.{changes_table, table_events, unseen_events}
 use Rattle.sky_changes.specs.Listing.{later_of}

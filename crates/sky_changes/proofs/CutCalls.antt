@@ -53,20 +53,20 @@ use Rattle.sky_model.specs.Telling.{events_of_write, told_of, with_told, tells}
 use Rattle.sky_model.specs.Reader.{shown_in, part_by_history, database_by_history, within_part}
 use Rattle.sky_model.specs.Settling.{Turn, turn_of, behind_marks, marked, and_then, ready, resumed, goes_on, settles, settling, with_settling}
 use Rattle.sky_model.specs.Calls.{row_form, form, making, statement}
-use Rattle.sky_model.proofs.NodeReadings.{same-node}
-use Rattle.sky_model.proofs.NodeCalls.{is_for_consumers, is_consumers, gives-consumers}
-use Rattle.sky_model.proofs.CopyCalls.{is_for_copies, is_copies, gives-copies}
-use Rattle.sky_model.proofs.ApplyCalls.{is_for_applying, gives-applies, applies-leaf}
-use Rattle.sky_model.proofs.Histories.{stands_calls}
-use Rattle.sky_model.proofs.Legal.{queue_of_set}
-use Rattle.sky_model.proofs.Marks.{database_of-mark, database_of-marks}
-use Rattle.sky_model.proofs.Lawful.{database-reads, past-behind}
-use Rattle.sky_model.proofs.Resting.{behind-append}
-use Rattle.sky_model.proofs.StatementMarks.{EachMark, when-true, each-rest, each-given, AnyReply, by_commit, none-first}
-use Rattle.sky_model.proofs.SetQueues.{not-sets}
-use Rattle.sky_model.proofs.Good.{same-session}
-use Rattle.sky_model.proofs.Inserted.{none, with_raised, with_put}
-use Rattle.sky_model.proofs.Telling.{EventMarks, told_by-events}
+use Rattle.sky_histories.proofs.NodeReadings.{same-node}
+use Rattle.sky_histories.proofs.NodeCalls.{is_for_consumers, is_consumers, gives-consumers}
+use Rattle.sky_histories.proofs.CopyCalls.{is_for_copies, is_copies, gives-copies}
+use Rattle.sky_histories.proofs.ApplyCalls.{is_for_applying, gives-applies, applies-leaf}
+use Rattle.sky_histories.proofs.Histories.{stands_calls}
+use Rattle.sky_histories.proofs.Legal.{queue_of_set}
+use Rattle.sky_histories.proofs.Marks.{database_of-mark, database_of-marks}
+use Rattle.sky_histories.proofs.Lawful.{database-reads, past-behind}
+use Rattle.sky_histories.proofs.Resting.{behind-append}
+use Rattle.sky_histories.proofs.StatementMarks.{EachMark, when-true, each-rest, each-given, AnyReply, by_commit, none-first}
+use Rattle.sky_histories.proofs.SetQueues.{not-sets}
+use Rattle.sky_histories.proofs.Good.{same-session}
+use Rattle.sky_histories.proofs.Inserted.{none, with_raised, with_put}
+use Rattle.sky_histories.proofs.Telling.{EventMarks, told_by-events}
 use Rattle.sky_model.proofs.Cases.{by_test, by_block, ok-then}
 use Rattle.sky_changes.proofs.HeldValues.{AreHeld, HeldAttempt}
 use Rattle.sky_changes.proofs.HeldRows.{shown-held}

@@ -25,14 +25,14 @@ use Rattle.sky_model.specs.Telling.{told_event, told_of}
 use Rattle.sky_model.specs.Settling.{marked}
 use Rattle.sky_model.specs.LawsOfNodes.{triggers_into}
 use Rattle.sky_model.specs.LawsOfWrites.{IsRowOf}
-use Rattle.sky_model.proofs.Legal.{Fine, writes as session_writes, returns as comes_back, Legal, legal-below_mark, fine_mark}
-use Rattle.sky_model.proofs.Inserted.{none, with_raised, with_put}
-use Rattle.sky_model.proofs.NodeReadings.{IsSameNode, same-node}
-use Rattle.sky_model.proofs.WrittenRows.{all-left, read-left}
-use Rattle.sky_model.proofs.RetryCopies.{owned}
-use Rattle.sky_model.proofs.StandingQueues.{beyond}
-use Rattle.sky_model.proofs.RowSights.{here, later}
-use Rattle.sky_model.proofs.Good.{same-session}
+use Rattle.sky_histories.proofs.Legal.{Fine, writes as session_writes, returns as comes_back, Legal, legal-below_mark, fine_mark}
+use Rattle.sky_histories.proofs.Inserted.{none, with_raised, with_put}
+use Rattle.sky_histories.proofs.NodeReadings.{IsSameNode, same-node}
+use Rattle.sky_histories.proofs.WrittenRows.{all-left, read-left}
+use Rattle.sky_histories.proofs.RetryCopies.{owned}
+use Rattle.sky_histories.proofs.StandingQueues.{beyond}
+use Rattle.sky_histories.proofs.RowSights.{here, later}
+use Rattle.sky_histories.proofs.Good.{same-session}
 use Rattle.sky_model.proofs.Cases.{by_test, by_same}
 use Rattle.sky_changes.specs.TableEvents.{is_name, changes_table, table_events}
 use Rattle.sky_changes.proofs.HeldValues.{AreHeld}

@@ -15,10 +15,10 @@ use Rattle.sky_model.specs.Rows.{table_names}
 use Rattle.sky_model.specs.LawsOfNodes.{is_one_of, triggers_into}
 use Rattle.sky_model.specs.Telling.{events_of_write, told_of}
 use Rattle.sky_model.specs.Settling.{marked}
-use Rattle.sky_model.proofs.Legal.{queue_of_set}
-use Rattle.sky_model.proofs.NodeReadings.{same-node}
-use Rattle.sky_model.proofs.Telling.{EventMarks, told_by-events}
-use Rattle.sky_model.proofs.Inserted.{Inserted, none, with_raised, with_put}
+use Rattle.sky_histories.proofs.Legal.{queue_of_set}
+use Rattle.sky_histories.proofs.NodeReadings.{same-node}
+use Rattle.sky_histories.proofs.Telling.{EventMarks, told_by-events}
+use Rattle.sky_histories.proofs.Inserted.{Inserted, none, with_raised, with_put}
 use Rattle.sky_changes.proofs.HeldValues.{AreHeld}
 use Rattle.sky_changes.proofs.HeldRows.{AllHeld}
 use Rattle.sky_changes.proofs.RowMarks.{Plain}

@@ -8,7 +8,7 @@ use Rattle.sky_model.specs.History.{Mark, tabled, wrote, History}
 use Rattle.sky_model.specs.Sessions.{own_txid}
 use Rattle.sky_model.specs.Rows.{Write, committed, writes as writes_of, put, put_all, in_turn, rows, own_writes}
 use Rattle.sky_model.specs.ShownRows.{rows_in}
-use Rattle.sky_model.proofs.RowSights.{Since, here, later, place, place-since}
+use Rattle.sky_histories.proofs.RowSights.{Since, here, later, place, place-since}
 use Rattle.sky_model.proofs.Cases.{by_test}
 use Rattle.sky_changes.proofs.HeldValues.{AreHeld}
 use Rattle.sky_changes.proofs.WriteLists.{at-put_one}

@@ -14,13 +14,13 @@ use Rattle.sky_model.specs.Nodes.{after_node, node, is_root, set_tables}
 use Rattle.sky_model.specs.LawsOfNodes.{is_at, is_one_of}
 use Rattle.sky_model.specs.ShownRows.{least_writer}
 use Rattle.sky_model.specs.State.{part_of}
-use Rattle.sky_model.proofs.Legal.{Fine, makes_table, NodeFits, nodes, Legal, start, next, legal-below_mark, fine_mark}
-use Rattle.sky_model.proofs.NodeReadings.{set-listed, set-unlisted}
-use Rattle.sky_model.proofs.NodeTables.{one-push, one-less, one-kept, have-tables}
-use Rattle.sky_model.proofs.Snapshots.{sound}
-use Rattle.sky_model.proofs.WrittenTables.{some, is-written, unwritten-by}
-use Rattle.sky_model.proofs.RowKeys.{begun}
-use Rattle.sky_model.proofs.RowSights.{Since, here, later, ended-behind}
+use Rattle.sky_histories.proofs.Legal.{Fine, makes_table, NodeFits, nodes, Legal, start, next, legal-below_mark, fine_mark}
+use Rattle.sky_histories.proofs.NodeReadings.{set-listed, set-unlisted}
+use Rattle.sky_histories.proofs.NodeTables.{one-push, one-less, one-kept, have-tables}
+use Rattle.sky_histories.proofs.Snapshots.{sound}
+use Rattle.sky_histories.proofs.WrittenTables.{some, is-written, unwritten-by}
+use Rattle.sky_histories.proofs.RowKeys.{begun}
+use Rattle.sky_histories.proofs.RowSights.{Since, here, later, ended-behind}
 use Rattle.sky_model.proofs.Cases.{by_test}
 use Rattle.sky_changes.proofs.WriteLists.{Written}
 use Rattle.sky_changes.proofs.TableWrites.{is_listed, written}

@@ -3,9 +3,9 @@ use Rattle.std.proofs.Common.{length, ◌≤◌, ◌≡◌, ℕ, ◌⊎◌, inl,
 use Rattle.std.proofs.lemmas.Bool.{or_right, and_parts, false_from_ne_true}
 use Rattle.sky_model.specs.History.{Mark, ended, History}
 use Rattle.sky_model.specs.Transactions.{has_ended, has_committed, has_rolled_back}
-use Rattle.sky_model.proofs.Legal.{Legal}
-use Rattle.sky_model.proofs.Snapshots.{has_committed-ended}
-use Rattle.sky_model.proofs.RowSights.{Since, here, later, legal-since}
+use Rattle.sky_histories.proofs.Legal.{Legal}
+use Rattle.sky_histories.proofs.Snapshots.{has_committed-ended}
+use Rattle.sky_histories.proofs.RowSights.{Since, here, later, legal-since}
 use Rattle.sky_changes.specs.Listing.{IsBelow}
 
 pub since-below : {mark : Mark} {k h : History} → Since (mark ∷ k) h → Since k h

@@ -19,14 +19,14 @@ use Rattle.sky_model.specs.Rows as rows_of
 use Rattle.sky_model.specs.State.{database_of}
 use Rattle.sky_model.specs.Promises.{after_all}
 use Rattle.sky_model.specs.DatabaseCalls.{database_part}
-use Rattle.sky_model.proofs.Legal.{queue_of_set, Fine, puts, puts_back, Legal, legal-below_mark, fine_mark}
-use Rattle.sky_model.proofs.Histories.{legal_calls}
-use Rattle.sky_model.proofs.Holders.{alone}
-use Rattle.sky_model.proofs.NodeReadings.{set-number}
-use Rattle.sky_model.proofs.Snapshots.{sound, runs-unended, own-unended}
-use Rattle.sky_model.proofs.RowSights.{Since, here, later, legal-since, ended-since}
+use Rattle.sky_histories.proofs.Legal.{queue_of_set, Fine, puts, puts_back, Legal, legal-below_mark, fine_mark}
+use Rattle.sky_histories.proofs.Histories.{legal_calls}
+use Rattle.sky_histories.proofs.Holders.{alone}
+use Rattle.sky_histories.proofs.NodeReadings.{set-number}
+use Rattle.sky_histories.proofs.Snapshots.{sound, runs-unended, own-unended}
+use Rattle.sky_histories.proofs.RowSights.{Since, here, later, legal-since, ended-since}
 use Rattle.sky_model.proofs.Cases.{by_test, by_same}
-use Rattle.sky_model.proofs.Good.{same-session}
+use Rattle.sky_histories.proofs.Good.{same-session}
 use Rattle.sky_changes.specs.TableEvents.{table_events}
 use Rattle.sky_changes.specs.Listing.{IsListed, StaysListed}
 use Rattle.sky_changes.specs.LawsOfChanges.{Give, EventsGiveRows}

@@ -13,15 +13,15 @@ use Rattle.sky_model.specs.Triggers.{TableTrigger, is_sets, triggers}
 use Rattle.sky_model.specs.StepNode.{set_trigger}
 use Rattle.sky_model.specs.Settling.{marked}
 use Rattle.sky_model.specs.LawsOfNodes.{is_one_of, triggers_into}
-use Rattle.sky_model.proofs.Legal.{queue_of_set, Fine, makes, makes_table, drops, traces, untraces, nodes, Legal, start, next, legal-below_mark, fine_mark}
-use Rattle.sky_model.proofs.Inserted.{none, with_raised, with_put}
-use Rattle.sky_model.proofs.NodeReadings.{IsSameNode, same-node, same-tables, set-other}
-use Rattle.sky_model.proofs.SetQueues.{set-made, set-dropped}
-use Rattle.sky_model.proofs.NodeTables.{one-kept, has-queue, HaveTables, have-tables}
-use Rattle.sky_model.proofs.QueueNumbers.{queue-below}
-use Rattle.sky_model.proofs.RowSights.{Since, here, later}
+use Rattle.sky_histories.proofs.Legal.{queue_of_set, Fine, makes, makes_table, drops, traces, untraces, nodes, Legal, start, next, legal-below_mark, fine_mark}
+use Rattle.sky_histories.proofs.Inserted.{none, with_raised, with_put}
+use Rattle.sky_histories.proofs.NodeReadings.{IsSameNode, same-node, same-tables, set-other}
+use Rattle.sky_histories.proofs.SetQueues.{set-made, set-dropped}
+use Rattle.sky_histories.proofs.NodeTables.{one-kept, has-queue, HaveTables, have-tables}
+use Rattle.sky_histories.proofs.QueueNumbers.{queue-below}
+use Rattle.sky_histories.proofs.RowSights.{Since, here, later}
 use Rattle.sky_model.proofs.Cases.{by_test}
-use Rattle.sky_model.proofs.Good.{same-session}
+use Rattle.sky_histories.proofs.Good.{same-session}
 use Rattle.sky_changes.proofs.RowMarks.{Plain}
 use Rattle.sky_changes.proofs.TableWrites.{is_listed}
 use Rattle.sky_changes.proofs.Cuts.{write_of, Tracing, Cut, nothing, plain, writes, leaf_writes, inserts, returns, lists, unlists, roots, Events, node-events, told-only}

@@ -6,10 +6,10 @@ use Rattle.londiste_state.specs.Nodes.{is_among, all_but}
 use Rattle.sky_model.specs.History.{Mark, NodeMark, noded, root_made, set_added, set_removed, leaf_made, History}
 use Rattle.sky_model.specs.Nodes.{after_node, node, set_tables}
 use Rattle.sky_model.specs.State.{database_of}
-use Rattle.sky_model.proofs.Legal.{Fine, NodeFits, Legal, legal-below_mark, fine_mark}
-use Rattle.sky_model.proofs.NodeReadings.{set-number, set-listed, set-unlisted}
-use Rattle.sky_model.proofs.SnapshotLaws.{legal_place}
-use Rattle.sky_model.proofs.RowSights.{Since, here, later}
+use Rattle.sky_histories.proofs.Legal.{Fine, NodeFits, Legal, legal-below_mark, fine_mark}
+use Rattle.sky_histories.proofs.NodeReadings.{set-number, set-listed, set-unlisted}
+use Rattle.sky_histories.proofs.SnapshotLaws.{legal_place}
+use Rattle.sky_histories.proofs.RowSights.{Since, here, later}
 use Rattle.sky_model.proofs.Cases.{by_test}
 use Rattle.sky_changes.specs.Listing.{IsListed, is_unlisting}
 use Rattle.sky_changes.specs.LawsOfChanges.{TablesStayInSets}

@@ -15,12 +15,12 @@ use Rattle.sky_model.specs.Rows.{table_names, committed, writes as writes_of, ha
 use Rattle.sky_model.specs.Nodes.{node, set_tables}
 use Rattle.sky_model.specs.LawsOfNodes.{is_one_of}
 use Rattle.sky_model.specs.ShownRows.{RowsShown}
-use Rattle.sky_model.proofs.Legal.{Fine, writes, copies_row, applies_row, Legal, legal-below_mark, fine_mark}
-use Rattle.sky_model.proofs.Snapshots.{ender-unended, sound, runs-unended, copy-runs}
-use Rattle.sky_model.proofs.Holders.{IsAlone, alone, has_written-push}
-use Rattle.sky_model.proofs.KeyVersions.{same-writes}
-use Rattle.sky_model.proofs.RowWrites.{over, last_of, at-put_all, last_of-push, has_written-last_of, in_turn-push, in_turn-same, is_in_order-in_turn}
-use Rattle.sky_model.proofs.RowSights.{Since, here, later, legal-since, ended-since, read-at, same-rows}
+use Rattle.sky_histories.proofs.Legal.{Fine, writes, copies_row, applies_row, Legal, legal-below_mark, fine_mark}
+use Rattle.sky_histories.proofs.Snapshots.{ender-unended, sound, runs-unended, copy-runs}
+use Rattle.sky_histories.proofs.Holders.{IsAlone, alone, has_written-push}
+use Rattle.sky_histories.proofs.KeyVersions.{same-writes}
+use Rattle.sky_histories.proofs.RowWrites.{over, last_of, at-put_all, last_of-push, has_written-last_of, in_turn-push, in_turn-same, is_in_order-in_turn}
+use Rattle.sky_histories.proofs.RowSights.{Since, here, later, legal-since, ended-since, read-at, same-rows}
 use Rattle.sky_model.proofs.Cases.{by_same}
 use Rattle.sky_changes.proofs.WriteLists.{Written, Set, but, Within, left_by, after, FirstIn, OldIs, at-after, in_order-after}
 use Rattle.sky_changes.proofs.Places.{since-below, since-joined, either-since, committed-since, committed-ended, uncommitted-since, committed-then}

@@ -8,11 +8,11 @@ use Rattle.pgq_tables.specs.ById.{with_event, by_id_onto, by_id}
 use Rattle.sky_model.specs.History.{queued, made, ticked, History}
 use Rattle.sky_model.specs.Queues.{queues_made, events, at_tick}
 use Rattle.sky_model.specs.Retries.{brought_by}
-use Rattle.sky_model.proofs.Legal.{makes, ticks_next, puts, puts_back, Legal, start, next}
-use Rattle.sky_model.proofs.RetryCopies.{owned}
-use Rattle.sky_model.proofs.TickOrder.{is_made, is_made-tick, unmade_above, unmade_beyond}
-use Rattle.sky_model.proofs.SnapshotLaws.{legal_place}
-use Rattle.sky_model.proofs.RowSights.{Since, here, later}
+use Rattle.sky_histories.proofs.Legal.{makes, ticks_next, puts, puts_back, Legal, start, next}
+use Rattle.sky_histories.proofs.RetryCopies.{owned}
+use Rattle.sky_histories.proofs.TickOrder.{is_made, is_made-tick, unmade_above, unmade_beyond}
+use Rattle.sky_histories.proofs.SnapshotLaws.{legal_place}
+use Rattle.sky_histories.proofs.RowSights.{Since, here, later}
 use Rattle.sky_model.proofs.Cases.{by_test, by_same}
 use Rattle.sky_changes.specs.TableEvents.{changes_table, table_events}
 use Rattle.sky_changes.specs.LawsOfChanges.{TicksAreInOrder}

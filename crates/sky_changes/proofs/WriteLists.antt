@@ -10,7 +10,7 @@ use Rattle.sky_val.proofs.Orders.{key_cmp-IsTotalOrder}
 use Rattle.sky_val.proofs.EntryLemmas.{same_entries}
 use Rattle.sky_keys.proofs.EntryLemmas.{key_ties-is}
 use Rattle.sky_model.specs.Rows.{put}
-use Rattle.sky_model.proofs.RowWrites.{over, at-put_all, is_in_order-put_all}
+use Rattle.sky_histories.proofs.RowWrites.{over, at-put_all, is_in_order-put_all}
 use Rattle.sky_model.proofs.Cases.{by_test}
 
 -- a write: whose transaction made it, the row that the key had, and the row that it has; and whether the table was in the set

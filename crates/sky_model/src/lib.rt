@@ -10,7 +10,6 @@
 mod daemon;
 mod gate;
 mod items;
-pub mod laws;
 mod line;
 mod reply;
 mod stmt;

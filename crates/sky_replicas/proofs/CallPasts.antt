@@ -21,11 +21,11 @@ use Rattle.sky_model.specs.WorkerMoves.{Move}
 use Rattle.sky_model.specs.WorkersOfWorld.{calls_facts, move_facts}
 use Rattle.sky_model.specs.Settling.{marked}
 use Rattle.sky_model.specs.World.{world_of, after_facts, history_in, on_top}
-use Rattle.sky_model.proofs.Marks.{world_of-facts}
-use Rattle.sky_model.proofs.PastHistories.{on_top-append, history-marks}
-use Rattle.sky_model.proofs.Good.{same-session}
-use Rattle.sky_model.proofs.NodeCalls.{is_for_consumers, is_consumers, gives-consumers}
-use Rattle.sky_model.proofs.StatementMarks.{EachMark, When, gives-map, AnyReply, Gives}
+use Rattle.sky_histories.proofs.Marks.{world_of-facts}
+use Rattle.sky_histories.proofs.PastHistories.{on_top-append, history-marks}
+use Rattle.sky_histories.proofs.Good.{same-session}
+use Rattle.sky_histories.proofs.NodeCalls.{is_for_consumers, is_consumers, gives-consumers}
+use Rattle.sky_histories.proofs.StatementMarks.{EachMark, When, gives-map, AnyReply, Gives}
 use Rattle.sky_model.proofs.Cases.{by_test}
 use Rattle.sky_replicas.proofs.Keeping.{Kept, is_quiet}
 use Rattle.sky_replicas.proofs.Others.{other_than, KeptFree, kept-alone, is_own, ends-hold}

@@ -27,11 +27,11 @@ use Rattle.sky_model.specs.World.{history_in}
 use Rattle.sky_model.specs.Daemon.{daemon_does}
 use Rattle.sky_model.specs.Calls.{database_turn, Call, past_of}
 use Rattle.sky_model.specs.StepApply.{applies_batch}
-use Rattle.sky_model.proofs.Histories.{histories_are_made_by_own_calls}
-use Rattle.sky_model.proofs.ApplyCalls.{is_for_applying, gives-applies}
-use Rattle.sky_model.proofs.NodeCalls.{is_for_consumers, is_consumers, gives-consumers}
-use Rattle.sky_model.proofs.CopyCalls.{gives-there}
-use Rattle.sky_model.proofs.StatementMarks.{EachMark, each-map, each-rest, each-given, when-true, Gives, gives-map, AnyReply, after, either}
+use Rattle.sky_histories.proofs.Histories.{histories_are_made_by_own_calls}
+use Rattle.sky_histories.proofs.ApplyCalls.{is_for_applying, gives-applies}
+use Rattle.sky_histories.proofs.NodeCalls.{is_for_consumers, is_consumers, gives-consumers}
+use Rattle.sky_histories.proofs.CopyCalls.{gives-there}
+use Rattle.sky_histories.proofs.StatementMarks.{EachMark, each-map, each-rest, each-given, when-true, Gives, gives-map, AnyReply, after, either}
 use Rattle.sky_model.proofs.Cases.{by_test}
 use Rattle.std.specs.List.{list_any}
 use Rattle.std.proofs.Common.{◌==◌}

@@ -14,7 +14,7 @@ use Rattle.sky_model.specs.CopyMoves.{newest_of, held_snapshot, next_piece, copy
 use Rattle.sky_model.specs.NodesOfWorld.{Located, node_called}
 use Rattle.sky_model.specs.World.{world_of, history_in, hands, nodes}
 use Rattle.sky_model.specs.Calls.{past_of}
-use Rattle.sky_model.proofs.Histories.{AllLegal, legal_past}
+use Rattle.sky_histories.proofs.Histories.{AllLegal, legal_past}
 use Rattle.sky_replicas.specs.LawsOfReplicas.{CopyBegan, copy_in_hand, InHand, HasInHand, HandsAreOfRunningCopies, RunningCopiesAreInHand, IsHandsHold, HoldsAreInHand, GoesOn, CopiesGoOn}
 use Rattle.sky_replicas.proofs.NodeNames.{provider_of, database_among, names_in, source_of, called-database}
 use Rattle.sky_replicas.proofs.Copying.{copy-found}

@@ -22,11 +22,11 @@ use Rattle.sky_model.specs.CopyMoves.{newest_of, rows_of, last_key, lets_go_for}
 use Rattle.sky_model.specs.WorkersOfWorld.{move_facts}
 use Rattle.sky_model.specs.Settling.{marked}
 use Rattle.sky_model.specs.World.{world_of, history_in, on_top}
-use Rattle.sky_model.proofs.Legal.{Legal}
-use Rattle.sky_model.proofs.Histories.{AllLegal}
-use Rattle.sky_model.proofs.Good.{same-session}
-use Rattle.sky_model.proofs.Guarded.{copy_txid-some, copy_txid-none, gone}
-use Rattle.sky_model.proofs.RowKeys.{begun}
+use Rattle.sky_histories.proofs.Legal.{Legal}
+use Rattle.sky_histories.proofs.Histories.{AllLegal}
+use Rattle.sky_histories.proofs.Good.{same-session}
+use Rattle.sky_histories.proofs.Guarded.{copy_txid-some, copy_txid-none, gone}
+use Rattle.sky_histories.proofs.RowKeys.{begun}
 use Rattle.sky_model.proofs.Cases.{by_test}
 use Rattle.sky_replicas.specs.LawsOfReplicas.{CopyBegan, copy_in_hand}
 use Rattle.sky_replicas.proofs.Pieces.{put-next, put-append, put-deletions, AreKeyed}

@@ -13,9 +13,9 @@ use Rattle.sky_model.specs.Copies.{Copy, copies, is_copied, is_copied_by, is_cop
 use Rattle.sky_model.specs.Rows.{table_names, writes as writes_of, put_all}
 use Rattle.sky_model.specs.Nodes.{node}
 use Rattle.sky_model.specs.StepNode.{may_copy}
-use Rattle.sky_model.proofs.Legal.{Fine, begins_copy, ends_copy, copies_row, applies_row, writes, makes_table, nodes, Legal, start, next}
-use Rattle.sky_model.proofs.Snapshots.{sound, next-apart, copys-of}
-use Rattle.sky_model.proofs.Guarded.{copied_by-push, copied_by-without, copied-by, one-copy, copy_txid-some, copy_txid-none}
+use Rattle.sky_histories.proofs.Legal.{Fine, begins_copy, ends_copy, copies_row, applies_row, writes, makes_table, nodes, Legal, start, next}
+use Rattle.sky_histories.proofs.Snapshots.{sound, next-apart, copys-of}
+use Rattle.sky_histories.proofs.Guarded.{copied_by-push, copied_by-without, copied-by, one-copy, copy_txid-some, copy_txid-none}
 use Rattle.sky_model.proofs.Cases.{by_test, by_same}
 use Rattle.sky_replicas.proofs.InCopyTables.{keeps_in_copy, may-stays}
 

@@ -32,17 +32,17 @@ use Rattle.sky_model.specs.NodesOfWorld.{Located, WorldOutcome, node_called}
 use Rattle.sky_model.specs.WorkersOfWorld.{move_facts, moves, source, leaf_table, restarting, restart_table}
 use Rattle.sky_model.specs.Settling.{marked}
 use Rattle.sky_model.specs.World.{World, world_of, history_in, hands, on_top}
-use Rattle.sky_model.proofs.Legal.{Fine, writes, copies_row, applies_row, ends_copy, Legal, legal-below_mark, fine_mark}
-use Rattle.sky_model.proofs.Snapshots.{sound, ender-unended, begun-next}
-use Rattle.sky_model.proofs.SnapshotLaws.{legal_place}
-use Rattle.sky_model.proofs.Guarded.{copied_by-push, copied_by-without, copied-by, IsGuarded, copies-guarded, one-copy, gone}
-use Rattle.sky_model.proofs.Holders.{copy-alone}
-use Rattle.sky_model.proofs.RowKeys.{begun, is_in_order-versions}
-use Rattle.sky_model.proofs.RowWrites.{has_written-last_of}
-use Rattle.sky_model.proofs.KeyVersions.{kept, key_holds}
-use Rattle.sky_model.proofs.NodeDeeds.{called-there}
-use Rattle.sky_model.proofs.Histories.{AllLegal}
-use Rattle.sky_model.proofs.Good.{same-session}
+use Rattle.sky_histories.proofs.Legal.{Fine, writes, copies_row, applies_row, ends_copy, Legal, legal-below_mark, fine_mark}
+use Rattle.sky_histories.proofs.Snapshots.{sound, ender-unended, begun-next}
+use Rattle.sky_histories.proofs.SnapshotLaws.{legal_place}
+use Rattle.sky_histories.proofs.Guarded.{copied_by-push, copied_by-without, copied-by, IsGuarded, copies-guarded, one-copy, gone}
+use Rattle.sky_histories.proofs.Holders.{copy-alone}
+use Rattle.sky_histories.proofs.RowKeys.{begun, is_in_order-versions}
+use Rattle.sky_histories.proofs.RowWrites.{has_written-last_of}
+use Rattle.sky_histories.proofs.KeyVersions.{kept, key_holds}
+use Rattle.sky_histories.proofs.NodeDeeds.{called-there}
+use Rattle.sky_histories.proofs.Histories.{AllLegal}
+use Rattle.sky_histories.proofs.Good.{same-session}
 use Rattle.sky_model.proofs.Cases.{by_test, by_same}
 use Rattle.sky_replicas.specs.LawsOfReplicas.{IsUndone, GivenUpCopiesLeaveNothing, copy_in_hand, InHand, IsGivenUp, IsRestarted}
 use Rattle.sky_replicas.proofs.HandsAt.{at-itself, hands-are}

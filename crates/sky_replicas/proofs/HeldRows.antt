@@ -13,12 +13,12 @@ use Rattle.sky_model.specs.Versions.{versions}
 use Rattle.sky_model.specs.State.{database_of}
 use Rattle.sky_model.specs.CopyMoves.{last_key, rows_from}
 use Rattle.sky_model.specs.LawsOfWrites.{IsRowOf}
-use Rattle.sky_model.proofs.Legal.{Legal}
-use Rattle.sky_model.proofs.SnapshotLaws.{legal-below}
-use Rattle.sky_model.proofs.RowKeys.{is_in_order-versions}
-use Rattle.sky_model.proofs.RowWrites.{is_in_order-in_turn}
-use Rattle.sky_model.proofs.RowSights.{Since, here, later, rows-under}
-use Rattle.sky_model.proofs.WrittenRows.{all-left, read-left}
+use Rattle.sky_histories.proofs.Legal.{Legal}
+use Rattle.sky_histories.proofs.SnapshotLaws.{legal-below}
+use Rattle.sky_histories.proofs.RowKeys.{is_in_order-versions}
+use Rattle.sky_histories.proofs.RowWrites.{is_in_order-in_turn}
+use Rattle.sky_histories.proofs.RowSights.{Since, here, later, rows-under}
+use Rattle.sky_histories.proofs.WrittenRows.{all-left, read-left}
 use Rattle.sky_model.proofs.Cases.{by_same}
 use Rattle.sky_replicas.proofs.Pieces.{above-done, values-above}
 use Rattle.sky_replicas.proofs.FittingRows.{AllFit, fit-entries}

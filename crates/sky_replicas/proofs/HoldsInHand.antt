@@ -26,11 +26,11 @@ use Rattle.sky_model.specs.CopyMoves.{piece_size, held_snapshot, rows_from, rows
 use Rattle.sky_model.specs.WorkersOfWorld.{move_facts}
 use Rattle.sky_model.specs.Settling.{marked}
 use Rattle.sky_model.specs.World.{world_of, history_in, on_top}
-use Rattle.sky_model.proofs.Legal.{Fine}
-use Rattle.sky_model.proofs.Histories.{AllLegal}
-use Rattle.sky_model.proofs.NodeCalls.{is_for_consumers, is_consumers, gives-consumers}
-use Rattle.sky_model.proofs.CopyCalls.{gives-there}
-use Rattle.sky_model.proofs.StatementMarks.{EachMark, each-rest, each-given, when-true, Gives, gives-map, AnyReply, either}
+use Rattle.sky_histories.proofs.Legal.{Fine}
+use Rattle.sky_histories.proofs.Histories.{AllLegal}
+use Rattle.sky_histories.proofs.NodeCalls.{is_for_consumers, is_consumers, gives-consumers}
+use Rattle.sky_histories.proofs.CopyCalls.{gives-there}
+use Rattle.sky_histories.proofs.StatementMarks.{EachMark, each-rest, each-given, when-true, Gives, gives-map, AnyReply, either}
 use Rattle.sky_model.proofs.Cases.{by_test, by_same}
 use Rattle.sky_replicas.specs.LawsOfReplicas.{copy_in_hand}
 use Rattle.sky_replicas.proofs.NodeNames.{source_of}

@@ -15,7 +15,7 @@ use Rattle.sky_model.specs.State.{Database}
 use Rattle.sky_model.specs.Hands.{Hand, of_copy, copy_in}
 use Rattle.sky_model.specs.WorkerMoves.{handing}
 use Rattle.sky_model.specs.CopyMoves.{copy_running, starts_or_continues, moves_in, table_move, table_at, copy_move}
-use Rattle.sky_model.proofs.Legal.{NodeFits}
+use Rattle.sky_histories.proofs.Legal.{NodeFits}
 use Rattle.sky_model.proofs.Cases.{by_test}
 use Rattle.sky_replicas.specs.LawsOfReplicas.{takes_out}
 

@@ -17,15 +17,15 @@ use Rattle.sky_model.specs.Hands.{CopyHand, Hand, copy_in}
 use Rattle.sky_model.specs.CopyMoves.{newest_of, last_key}
 use Rattle.sky_model.specs.StepNode.{may_move, may_copy}
 use Rattle.sky_model.specs.World.{history_in, nodes, on_top}
-use Rattle.sky_model.proofs.Legal.{Fine, nodes as noding, Legal, legal-below_mark, fine_mark}
-use Rattle.sky_model.proofs.Histories.{AllLegal}
-use Rattle.sky_model.proofs.Good.{same-session}
+use Rattle.sky_histories.proofs.Legal.{Fine, nodes as noding, Legal, legal-below_mark, fine_mark}
+use Rattle.sky_histories.proofs.Histories.{AllLegal}
+use Rattle.sky_histories.proofs.Good.{same-session}
 use Rattle.sky_model.proofs.Cases.{by_test, by_same}
 use Rattle.sky_replicas.specs.LawsOfReplicas.{CopyBegan, copy_in_hand}
 use Rattle.sky_replicas.proofs.NodeNames.{provider_of, IsNamedAs, named-stays, database_among, names_in, source_of, among-same, among-more}
 use Rattle.sky_replicas.proofs.InCopyTables.{ends_copying, other-moved}
 use Rattle.sky_replicas.proofs.Copying.{Runs, spares, runs-step, Holds, leaves_held, holds-step}
-use Rattle.sky_model.proofs.Snapshots.{contains-push}
+use Rattle.sky_histories.proofs.Snapshots.{contains-push}
 use Rattle.sky_replicas.proofs.HandsAt.{is_at, AreOne, one-at, hand-is}
 use Rattle.sky_replicas.proofs.RunningCopies.{IsCopied, begins_no_copy, copied-before}
 

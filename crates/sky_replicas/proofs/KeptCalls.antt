@@ -38,14 +38,14 @@ use Rattle.sky_model.specs.World.{World, world_of, session_names, database_names
 use Rattle.sky_model.specs.Calls.{opening, opens, outside_does, left_if, is_leaving, may_make, of_daemon_if, beside, database_turn, gets_node, node_if, world_does, does_at, session_does, turn, Call, called as call_does, past_of}
 use Rattle.sky_keys.specs.Waits.{is_waiting}
 use Rattle.sky_model.specs.LawsOfCopies.{HasCopied}
-use Rattle.sky_model.proofs.Histories.{AllLegal, same-turn-within, same-daemon-within, world_place, legal_past}
-use Rattle.sky_model.proofs.PastHistories.{on_top-append, history-marks}
-use Rattle.sky_model.proofs.ClockSteps.{after-clock}
-use Rattle.sky_model.proofs.NodeDeeds.{called-there}
-use Rattle.sky_model.proofs.Marks.{database_of-marks}
-use Rattle.sky_model.proofs.Good.{same-session}
-use Rattle.sky_model.proofs.CopyLaws.{copies_leave_their_rows}
-use Rattle.sky_model.proofs.StatementMarks.{EachMark, each-rest, each-given, when-true, Gives, AnyReply, after}
+use Rattle.sky_histories.proofs.Histories.{AllLegal, same-turn-within, same-daemon-within, world_place, legal_past}
+use Rattle.sky_histories.proofs.PastHistories.{on_top-append, history-marks}
+use Rattle.sky_histories.proofs.ClockSteps.{after-clock}
+use Rattle.sky_histories.proofs.NodeDeeds.{called-there}
+use Rattle.sky_histories.proofs.Marks.{database_of-marks}
+use Rattle.sky_histories.proofs.Good.{same-session}
+use Rattle.sky_histories.proofs.CopyLaws.{copies_leave_their_rows}
+use Rattle.sky_histories.proofs.StatementMarks.{EachMark, each-rest, each-given, when-true, Gives, AnyReply, after}
 use Rattle.sky_model.proofs.Cases.{by_test}
 use Rattle.sky_replicas.specs.LawsOfReplicas.{CopyBegan, copy_in_hand, CopiedTablesHaveProvidersRows}
 use Rattle.sky_replicas.proofs.HandsAt.{hands-marks}

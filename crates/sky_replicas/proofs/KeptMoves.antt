@@ -30,13 +30,13 @@ use Rattle.sky_model.specs.CopyMoves.{newest_of, piece_size, held_snapshot, rows
 use Rattle.sky_model.specs.WorkersOfWorld.{move_facts}
 use Rattle.sky_model.specs.Settling.{marked}
 use Rattle.sky_model.specs.World.{world_of, history_in, on_top}
-use Rattle.sky_model.proofs.Histories.{AllLegal}
-use Rattle.sky_model.proofs.Good.{same-session}
+use Rattle.sky_histories.proofs.Histories.{AllLegal}
+use Rattle.sky_histories.proofs.Good.{same-session}
 use Rattle.sky_model.proofs.LeastNumbers.{least-free}
-use Rattle.sky_model.proofs.NodeCalls.{is_for_consumers, gives-consumers}
-use Rattle.sky_model.proofs.Legal.{queue_of_set}
-use Rattle.sky_model.proofs.NodeReadings.{set-number, is_change, same-node}
-use Rattle.sky_model.proofs.StatementMarks.{EachMark, each-given, each-rest, when-true, Gives, AnyReply}
+use Rattle.sky_histories.proofs.NodeCalls.{is_for_consumers, gives-consumers}
+use Rattle.sky_histories.proofs.Legal.{queue_of_set}
+use Rattle.sky_histories.proofs.NodeReadings.{set-number, is_change, same-node}
+use Rattle.sky_histories.proofs.StatementMarks.{EachMark, each-given, each-rest, when-true, Gives, AnyReply}
 use Rattle.sky_model.proofs.Cases.{by_test, by_same}
 use Rattle.sky_replicas.specs.LawsOfReplicas.{let_go_if, CopyBegan, copy_in_hand}
 use Rattle.sky_replicas.proofs.Pieces.{last_key-append, all-taken}

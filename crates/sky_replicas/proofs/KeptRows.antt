@@ -17,15 +17,15 @@ use Rattle.sky_model.specs.Nodes.{node, is_leaf, after_node}
 use Rattle.sky_model.specs.StepNode.{may_copy}
 use Rattle.londiste_state.specs.Nodes.{Node, of_root, of_leaf}
 use Rattle.sky_model.specs.Calls.{past_of}
-use Rattle.sky_model.proofs.Legal.{Fine, makes_table, writes, copies_row, applies_row, begins_copy, ends, ends_work, ends_copy, guards, nodes, without_node, at_joining, at_leaving, Legal, legal-below_mark, fine_mark}
-use Rattle.sky_model.proofs.Snapshots.{ender-unended}
-use Rattle.sky_model.proofs.SnapshotLaws.{legal-below}
-use Rattle.sky_model.proofs.Guarded.{copied-by, copies-guarded, gone}
-use Rattle.sky_model.proofs.Holders.{copy-alone, alone}
-use Rattle.sky_model.proofs.RowWrites.{over, last_of, at-put_all, has_written-last_of, in_turn-push, in_turn-same}
-use Rattle.sky_model.proofs.KeyVersions.{same-writes}
-use Rattle.sky_model.proofs.NodeTables.{one-place}
-use Rattle.sky_model.proofs.Histories.{legal_past}
+use Rattle.sky_histories.proofs.Legal.{Fine, makes_table, writes, copies_row, applies_row, begins_copy, ends, ends_work, ends_copy, guards, nodes, without_node, at_joining, at_leaving, Legal, legal-below_mark, fine_mark}
+use Rattle.sky_histories.proofs.Snapshots.{ender-unended}
+use Rattle.sky_histories.proofs.SnapshotLaws.{legal-below}
+use Rattle.sky_histories.proofs.Guarded.{copied-by, copies-guarded, gone}
+use Rattle.sky_histories.proofs.Holders.{copy-alone, alone}
+use Rattle.sky_histories.proofs.RowWrites.{over, last_of, at-put_all, has_written-last_of, in_turn-push, in_turn-same}
+use Rattle.sky_histories.proofs.KeyVersions.{same-writes}
+use Rattle.sky_histories.proofs.NodeTables.{one-place}
+use Rattle.sky_histories.proofs.Histories.{legal_past}
 use Rattle.sky_model.proofs.Cases.{by_test, by_same}
 use Rattle.sky_replicas.specs.LawsOfReplicas.{HasProvidersRows, CopiedTablesHaveProvidersRows, takes_out, applies_to, ReplicasKeepProvidersRows}
 use Rattle.sky_replicas.proofs.Copying.{place-stays}

@@ -11,18 +11,18 @@ use Rattle.sky_model.specs.Transactions.{next_txid}
 use Rattle.sky_model.specs.Copies.{copies, is_copied_by, is_copys}
 use Rattle.sky_model.specs.Rows.{Write, committed, writes as writes_of, rows, in_turn, has_written}
 use Rattle.sky_model.specs.Calls.{past_of}
-use Rattle.sky_model.proofs.Legal.{Fine, ends as ends_session, ends_work, ends_copy, Legal, legal-below_mark, fine_mark}
-use Rattle.sky_model.proofs.Snapshots.{contains-push, copys-of, ender-unended, begun-next}
-use Rattle.sky_model.proofs.SnapshotLaws.{legal-below, legal_place}
-use Rattle.sky_model.proofs.Guarded.{copied_by-push, copied_by-without}
-use Rattle.sky_model.proofs.Holders.{not-copys, copy-alone, alone}
-use Rattle.sky_model.proofs.RowWrites.{over, last_of, at-put_all, has_written-last_of, in_turn-push, in_turn-same}
-use Rattle.sky_model.proofs.KeyVersions.{same-writes}
-use Rattle.sky_model.proofs.Histories.{legal_past}
+use Rattle.sky_histories.proofs.Legal.{Fine, ends as ends_session, ends_work, ends_copy, Legal, legal-below_mark, fine_mark}
+use Rattle.sky_histories.proofs.Snapshots.{contains-push, copys-of, ender-unended, begun-next}
+use Rattle.sky_histories.proofs.SnapshotLaws.{legal-below, legal_place}
+use Rattle.sky_histories.proofs.Guarded.{copied_by-push, copied_by-without}
+use Rattle.sky_histories.proofs.Holders.{not-copys, copy-alone, alone}
+use Rattle.sky_histories.proofs.RowWrites.{over, last_of, at-put_all, has_written-last_of, in_turn-push, in_turn-same}
+use Rattle.sky_histories.proofs.KeyVersions.{same-writes}
+use Rattle.sky_histories.proofs.Histories.{legal_past}
 use Rattle.sky_model.specs.Sessions.{own_txid, sight, place_of_sight}
 use Rattle.sky_model.specs.Rows.{put_all, own_writes}
 use Rattle.sky_model.specs.World.{history_in}
-use Rattle.sky_model.proofs.RowSights.{Since, here, later as above_it, place-since}
+use Rattle.sky_histories.proofs.RowSights.{Since, here, later as above_it, place-since}
 use Rattle.sky_model.proofs.Cases.{by_test, by_same}
 use Rattle.sky_replicas.specs.LawsOfReplicas.{HasProvidersRows, copied_rows, rows_since, ShowsProvidersRows, ReplicasShowProvidersRows, SessionsSeeProvidersRows, CopiesAreUnseen}
 use Rattle.sky_replicas.proofs.HeldRows.{rows-in-order}

@@ -17,9 +17,9 @@ use Rattle.sky_model.specs.WorkersOfWorld.{source, are_alike}
 use Rattle.sky_model.specs.World.{World, world_of, history_in, nodes}
 use Rattle.sky_model.specs.Steps.{IsCallInForm}
 use Rattle.sky_model.specs.Calls.{Call, past_of}
-use Rattle.sky_model.proofs.NodeDeeds.{called-there}
-use Rattle.sky_model.proofs.NodeLaws.{sets_have_queues}
-use Rattle.sky_model.proofs.Histories.{world_place, legal_past}
+use Rattle.sky_histories.proofs.NodeDeeds.{called-there}
+use Rattle.sky_laws.proofs.NodeLaws.{sets_have_queues}
+use Rattle.sky_histories.proofs.Histories.{world_place, legal_past}
 use Rattle.sky_replicas.specs.LawsOfReplicas.{LeafTablesAreProvided}
 use Rattle.sky_replicas.proofs.NodeNames.{provider_of, database_among, names_in, called-database}
 use Rattle.sky_replicas.proofs.ProvidedTables.{IsOffered, HasProvider}

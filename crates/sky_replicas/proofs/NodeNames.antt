@@ -8,7 +8,7 @@ use Rattle.sky_model.specs.History.{Mark, NodeMark, root_made, leaf_made, applie
 use Rattle.sky_model.specs.Nodes.{node, after_node}
 use Rattle.sky_model.specs.World.{world_of, history_in, nodes}
 use Rattle.sky_model.specs.NodesOfWorld.{Located, if_named, node_among, node_called}
-use Rattle.sky_model.proofs.Legal.{NodeFits, Fine, nodes as fits_nodes}
+use Rattle.sky_histories.proofs.Legal.{NodeFits, Fine, nodes as fits_nodes}
 use Rattle.std.proofs.lemmas.Bool.Decides.{nat_tests}
 use Rattle.sky_model.proofs.Cases.{by_test}
 

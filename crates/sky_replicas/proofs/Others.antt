@@ -8,10 +8,10 @@ use Rattle.sky_model.specs.Rows.{table_names}
 use Rattle.sky_model.specs.Hands.{CopyHand, of_copy}
 use Rattle.sky_model.specs.StepNode.{is_in_copy}
 use Rattle.sky_model.specs.World.{history_in, on_top}
-use Rattle.sky_model.proofs.Histories.{AllLegal}
-use Rattle.sky_model.proofs.StatementMarks.{EachMark, each-rest, when-true}
-use Rattle.sky_model.proofs.NodeTables.{one-place}
-use Rattle.sky_model.proofs.Good.{same-session}
+use Rattle.sky_histories.proofs.Histories.{AllLegal}
+use Rattle.sky_histories.proofs.StatementMarks.{EachMark, each-rest, when-true}
+use Rattle.sky_histories.proofs.NodeTables.{one-place}
+use Rattle.sky_histories.proofs.Good.{same-session}
 use Rattle.sky_model.proofs.Cases.{by_test, by_same}
 use Rattle.sky_replicas.specs.LawsOfReplicas.{copy_in_hand}
 use Rattle.sky_replicas.proofs.NodeNames.{source_of}

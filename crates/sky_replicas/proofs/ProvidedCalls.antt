@@ -40,14 +40,14 @@ use Rattle.sky_model.specs.NodesOfWorld.{WorldOutcome, Located, node_called, don
 use Rattle.sky_model.specs.WorkersOfWorld.{move_facts, moves, source, source_alike, leaf_table, restarts, restarting, provider_of as providers_database, leaf_steps, parts_for, leaves_leaf, removes_from, node_form}
 use Rattle.sky_model.specs.World.{World, world_of, history_in, nodes, on_top}
 use Rattle.sky_model.specs.Calls.{Call, past_of}
-use Rattle.sky_model.proofs.Histories.{AllLegal}
+use Rattle.sky_histories.proofs.Histories.{AllLegal}
 use Rattle.sky_model.specs.StepApply.{picked, bad_event, applies_batch}
-use Rattle.sky_model.proofs.ApplyCalls.{is_for_applying, gives-applies}
-use Rattle.sky_model.proofs.NodeDeeds.{called-there}
-use Rattle.sky_model.proofs.NodeCalls.{is_for_consumers, is_consumers, gives-consumers}
-use Rattle.sky_model.proofs.CopyCalls.{is_for_copies, is_copies, gives-there, gives-copies}
-use Rattle.sky_model.proofs.StatementMarks.{EachMark, each-rest, each-given, when-true, Gives, gives-map, AnyReply, after, either}
-use Rattle.sky_model.proofs.Good.{same-session}
+use Rattle.sky_histories.proofs.ApplyCalls.{is_for_applying, gives-applies}
+use Rattle.sky_histories.proofs.NodeDeeds.{called-there}
+use Rattle.sky_histories.proofs.NodeCalls.{is_for_consumers, is_consumers, gives-consumers}
+use Rattle.sky_histories.proofs.CopyCalls.{is_for_copies, is_copies, gives-there, gives-copies}
+use Rattle.sky_histories.proofs.StatementMarks.{EachMark, each-rest, each-given, when-true, Gives, gives-map, AnyReply, after, either}
+use Rattle.sky_histories.proofs.Good.{same-session}
 use Rattle.sky_model.proofs.Cases.{by_test}
 use Rattle.sky_replicas.proofs.NodeNames.{provider_of, database_among, names_in, source_of, called-database, among-there, among-named}
 use Rattle.sky_replicas.proofs.Keeping.{Noded, fine-within, noded-within}

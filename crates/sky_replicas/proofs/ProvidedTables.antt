@@ -11,11 +11,11 @@ use Rattle.sky_model.specs.History.{Mark, NodeMark, tabled, table_made, noded, r
 use Rattle.sky_model.specs.Rows.{table_names, columns_of}
 use Rattle.sky_model.specs.Nodes.{at_root, after_node, node, is_root, is_leaf, set_tables, leaf_tables}
 use Rattle.sky_model.specs.World.{history_in, nodes, on_top}
-use Rattle.sky_model.proofs.Legal.{NodeFits, Fine, nodes as fits_nodes}
-use Rattle.sky_model.proofs.Snapshots.{contains-push}
-use Rattle.sky_model.proofs.NodeReadings.{same-node, same-tables, leaf-added, leaf-removed, leaf-other, set-other}
-use Rattle.sky_model.proofs.Histories.{AllLegal}
-use Rattle.sky_model.proofs.Good.{same-session}
+use Rattle.sky_histories.proofs.Legal.{NodeFits, Fine, nodes as fits_nodes}
+use Rattle.sky_histories.proofs.Snapshots.{contains-push}
+use Rattle.sky_histories.proofs.NodeReadings.{same-node, same-tables, leaf-added, leaf-removed, leaf-other, set-other}
+use Rattle.sky_histories.proofs.Histories.{AllLegal}
+use Rattle.sky_histories.proofs.Good.{same-session}
 use Rattle.sky_model.proofs.Cases.{by_test, by_same}
 use Rattle.sky_replicas.proofs.NodeNames.{provider_of, database_among, names_in, source_of, named-stays, among-same}
 use Rattle.sky_replicas.proofs.Keeping.{legal-before, fine-within, Noded, in-history, noded-within, source-within, source-made}

@@ -20,9 +20,9 @@ use Rattle.sky_model.specs.WorkerMoves.{Move, moves_to}
 use Rattle.sky_model.specs.BatchMoves.{Follower, events_of_batch, has_applied, skips_in_hand, finishes_in_hand, applies_in_hand, taken, takes, takes_next, goes_through}
 use Rattle.sky_model.specs.CopyMoves.{copier, copy_consumer, goes_through_or, has_caught_up, catches_up, hands_over}
 use Rattle.sky_model.specs.ReplayMoves.{replayer, is_handed_over, is_met, first_in, next_to_copy, for_table, replay_move}
-use Rattle.sky_model.proofs.ApplyCalls.{is_for_applying, gives-applies}
-use Rattle.sky_model.proofs.NodeCalls.{is_consumers}
-use Rattle.sky_model.proofs.StatementMarks.{AnyReply, each-front, Gives, gives-map, either}
+use Rattle.sky_histories.proofs.ApplyCalls.{is_for_applying, gives-applies}
+use Rattle.sky_histories.proofs.NodeCalls.{is_consumers}
+use Rattle.sky_histories.proofs.StatementMarks.{AnyReply, each-front, Gives, gives-map, either}
 use Rattle.sky_model.proofs.Cases.{by_test}
 use Rattle.sky_replicas.proofs.InCopyTables.{ends_copying, not-copied}
 use Rattle.sky_replicas.proofs.RunningCopies.{Uncopied, uncopied-txid}

@@ -25,8 +25,8 @@ use Rattle.sky_model.specs.Settling.{Turn, turn_of, behind_marks, resumed, ready
 use Rattle.sky_model.specs.Daemon.{daemon_does}
 use Rattle.sky_model.specs.Calls.{row_form, form, making, statement, database_turn}
 use Rattle.sky_model.proofs.Cases.{by_block}
-use Rattle.sky_model.proofs.DaemonTurns.{each-daemon_does}
-use Rattle.sky_model.proofs.StatementMarks.{EachMark, each-append, Gives, gives-map, AnyReply, after, checked, gives-tells, gives-first, Kinds, no_more, may_leave, row_kinds, kinds, gives-row_form, gives-form, given-settled, given-runs}
+use Rattle.sky_histories.proofs.DaemonTurns.{each-daemon_does}
+use Rattle.sky_histories.proofs.StatementMarks.{EachMark, each-append, Gives, gives-map, AnyReply, after, checked, gives-tells, gives-first, Kinds, no_more, may_leave, row_kinds, kinds, gives-row_form, gives-form, given-settled, given-runs}
 use Rattle.sky_replicas.proofs.Keeping.{is_quiet}
 
 quiet-if : (k : Kinds) → k.writes ≡ false → (who : ℕ) (mark : Mark) → may_leave k who mark ≡ true → is_quiet mark ≡ true

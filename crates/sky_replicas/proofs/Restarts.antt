@@ -1,6 +1,6 @@
 -- A restart is done for each table of a leaf, since each is in its provider's set.
 use Rattle.sky_model.specs.Calls.{past_of}
-use Rattle.sky_model.proofs.Histories.{legal_past}
+use Rattle.sky_histories.proofs.Histories.{legal_past}
 use Rattle.sky_replicas.specs.LawsOfReplicas.{RestartsBeginAnew}
 use Rattle.sky_replicas.proofs.KeptCalls.{kept-past}
 use Rattle.sky_replicas.proofs.GivenUp.{is-restarted}

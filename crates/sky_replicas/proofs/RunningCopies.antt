@@ -9,9 +9,9 @@ use Rattle.sky_model.specs.Rows.{table_names, is_read_only}
 use Rattle.sky_model.specs.Nodes.{node, is_leaf}
 use Rattle.sky_model.specs.State.{database_of}
 use Rattle.sky_model.specs.CopyMoves.{copy_running}
-use Rattle.sky_model.proofs.Legal.{without_node, at_joining, at_leaving, Fine, makes_table, guards, nodes, Legal, start, next}
-use Rattle.sky_model.proofs.NodeReadings.{leaf-before}
-use Rattle.sky_model.proofs.Guarded.{IsGuarded, copies-guarded, copied-by, copy_txid-some}
+use Rattle.sky_histories.proofs.Legal.{without_node, at_joining, at_leaving, Fine, makes_table, guards, nodes, Legal, start, next}
+use Rattle.sky_histories.proofs.NodeReadings.{leaf-before}
+use Rattle.sky_histories.proofs.Guarded.{IsGuarded, copies-guarded, copied-by, copy_txid-some}
 use Rattle.sky_model.proofs.Cases.{by_test, by_same}
 
 -- ---- a copied table is one of the database

@@ -15,8 +15,8 @@ use Rattle.sky_model.specs.Settling.{Turn, turn_of, behind_marks, settling, with
 use Rattle.sky_model.specs.SessionMarks.{look_of, enters, failing}
 use Rattle.sky_model.specs.Daemon.{daemon_does}
 use Rattle.sky_model.specs.Calls.{form, making, statement, database_turn}
-use Rattle.sky_model.proofs.StatementMarks.{EachMark, each-append, Gives, gives-map, AnyReply, gives-tells, Kinds, no_more, may_leave, attempt_kinds, kinds, gives-form, each-failure, given-runs, settling-gives}
-use Rattle.sky_model.proofs.DaemonTurns.{each-daemon_does}
+use Rattle.sky_histories.proofs.StatementMarks.{EachMark, each-append, Gives, gives-map, AnyReply, gives-tells, Kinds, no_more, may_leave, attempt_kinds, kinds, gives-form, each-failure, given-runs, settling-gives}
+use Rattle.sky_histories.proofs.DaemonTurns.{each-daemon_does}
 
 abbrev pub is_sessions : Mark → Bool
 is_sessions (noded (root_made name queue)) = true

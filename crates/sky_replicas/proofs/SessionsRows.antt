@@ -12,15 +12,15 @@ use Rattle.sky_model.specs.Transactions.{next_txid, workers}
 use Rattle.sky_model.specs.Copies.{copies, is_copied_by}
 use Rattle.sky_model.specs.Rows.{Write, committed, writes as writes_of, has_written, rows, in_turn, put_all}
 use Rattle.sky_model.specs.Calls.{past_of}
-use Rattle.sky_model.proofs.Legal.{Fine, begins_work, ends_work, begins_copy, ends_copy, writes, copies_row, applies_row, Legal, legal-below_mark, fine_mark}
-use Rattle.sky_model.proofs.Snapshots.{contains-push, contains-filter, copys-of, sound, runs-unended}
-use Rattle.sky_model.proofs.SnapshotLaws.{legal-below}
-use Rattle.sky_model.proofs.Guarded.{copied_by-push, copied_by-without}
-use Rattle.sky_model.proofs.Holders.{copy-alone, alone}
-use Rattle.sky_model.proofs.RowKeys.{begun}
-use Rattle.sky_model.proofs.RowWrites.{in_turn-push, in_turn-same}
-use Rattle.sky_model.proofs.KeyVersions.{same-writes}
-use Rattle.sky_model.proofs.Histories.{legal_past}
+use Rattle.sky_histories.proofs.Legal.{Fine, begins_work, ends_work, begins_copy, ends_copy, writes, copies_row, applies_row, Legal, legal-below_mark, fine_mark}
+use Rattle.sky_histories.proofs.Snapshots.{contains-push, contains-filter, copys-of, sound, runs-unended}
+use Rattle.sky_histories.proofs.SnapshotLaws.{legal-below}
+use Rattle.sky_histories.proofs.Guarded.{copied_by-push, copied_by-without}
+use Rattle.sky_histories.proofs.Holders.{copy-alone, alone}
+use Rattle.sky_histories.proofs.RowKeys.{begun}
+use Rattle.sky_histories.proofs.RowWrites.{in_turn-push, in_turn-same}
+use Rattle.sky_histories.proofs.KeyVersions.{same-writes}
+use Rattle.sky_histories.proofs.Histories.{legal_past}
 use Rattle.sky_model.proofs.Cases.{by_test, by_same}
 use Rattle.sky_replicas.specs.LawsOfReplicas.{HasProvidersRows, applies_to, copies_again, committed_by_sessions, ReplicasShowSessionsWrites}
 use Rattle.sky_replicas.proofs.Copying.{one-table}

@@ -4,7 +4,7 @@ use Rattle.std.specs.Str.{is_utf8, chars}
 use lib.Utf8.{encode}
 use Rattle.std.specs.Fmt.{digits}
 use Rattle.sky_model.specs.Moment.{moment, day_after, last_digits}
-use Rattle.sky_model.proofs.WorkedScripts.{Prints}
+use Rattle.sky_laws.proofs.WorkedScripts.{Prints}
 
 -- a root with a table of two rows; a leaf with the table, which is to be copied
 abbrev pub beginning : List (List ℕ)

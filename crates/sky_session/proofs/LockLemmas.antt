@@ -14,7 +14,7 @@ use Rattle.sky_model.specs.StepSession.{cancel}
 use Rattle.sky_model.specs.Reader.{PartReader, part_by_itself}
 use Rattle.sky_model.specs.Gates.{Gate, passed_all, by_gate}
 use Rattle.sky_model.specs.Settling.{turn_of, ready, attempted, resumed, settling}
-use Rattle.sky_model.proofs.Resting.{gated-keeps, fewer-wait, settling-none, settling-some}
+use Rattle.sky_histories.proofs.Resting.{gated-keeps, fewer-wait, settling-none, settling-some}
 use Rattle.sky_session.specs.declared.answer.RowStep.{RowStep}
 use Rattle.sky_model.specs.SessionMarks.{failure}
 use Rattle.sky_session.specs.Effects.{with_effects}

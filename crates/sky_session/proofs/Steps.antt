@@ -22,7 +22,7 @@ use Rattle.sky_model.specs.Reader.{part_by_itself}
 use Rattle.sky_model.specs.Gates.{Gate, passed_all, gated, by_gate, open_gate}
 use Rattle.sky_model.specs.Calls.{row_form, row_making, row_statement}
 use Rattle.sky_model.specs.Settling.{Turn, turn_of, with_rest, behind_marks, settling, with_settling}
-use Rattle.sky_model.proofs.GatedLemmas.{gated-behind, passed-append, passed-none, gated-none, PlainOutcome, NoticesNone}
+use Rattle.sky_histories.proofs.GatedLemmas.{gated-behind, passed-append, passed-none, gated-none, PlainOutcome, NoticesNone}
 use Rattle.sky_session.specs.declared.answer.RowStep.{RowStep}
 use Rattle.sky_session.specs.declared.effect.Effect.TheVariants.{Wrote, Committed, Aborted}
 use Rattle.sky_session.specs.Effects.{EffectsView, effects_by, with_effects}
@@ -34,7 +34,7 @@ use Rattle.sky_model.specs.Sessions.{Block, outside}
 use Rattle.sky_model.specs.SessionMarks.{look_of, sight_marks, failing, Enters, entry, entry_place, single_end, takes_id, taking, ending}
 use Rattle.sky_model.specs.RowCalls.{RowCall, row_entered, txid_taken, single_ended}
 use Rattle.sky_model.specs.RowSteps.{RowSteps}
-use Rattle.sky_model.proofs.RowCallStanding.{row_enter_from_exact, take_txid_from_exact, end_single_from_exact}
+use Rattle.sky_histories.proofs.RowCallStanding.{row_enter_from_exact, take_txid_from_exact, end_single_from_exact}
 use Rattle.sky_session.specs.Gives.{nothing, Adds, Settles, Gives, Does, Ran, Passes, Runs, Writes}
 use Rattle.sky_model.specs.Outcome.{marks_of}
 

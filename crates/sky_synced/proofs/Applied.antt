@@ -22,15 +22,15 @@ use Rattle.sky_model.specs.DatabaseCalls.{served}
 use Rattle.sky_model.specs.World.{history_in, batches, on_top}
 use Rattle.sky_model.specs.HistoryPlaces.{IsPlace}
 use Rattle.sky_model.specs.LawsOfApplying.{picked_of, IsApplied}
-use Rattle.sky_model.proofs.Legal.{Legal}
-use Rattle.sky_model.proofs.SnapshotLaws.{legal_place}
-use Rattle.sky_model.proofs.TickOrder.{is_made}
-use Rattle.sky_model.proofs.RowSights.{Since, here, later}
-use Rattle.sky_model.proofs.InCopyTables.{leaf_table, changed_by, is_past_copy}
-use Rattle.sky_model.proofs.ApplyCalls.{is_for_applying, gives-applies}
-use Rattle.sky_model.proofs.StatementMarks.{EachMark, each-rest, each-given, when-true, AnyReply, either}
-use Rattle.sky_model.proofs.PastHistories.{history-marks}
-use Rattle.sky_model.proofs.Good.{same-session}
+use Rattle.sky_histories.proofs.Legal.{Legal}
+use Rattle.sky_histories.proofs.SnapshotLaws.{legal_place}
+use Rattle.sky_histories.proofs.TickOrder.{is_made}
+use Rattle.sky_histories.proofs.RowSights.{Since, here, later}
+use Rattle.sky_histories.proofs.InCopyTables.{leaf_table, changed_by, is_past_copy}
+use Rattle.sky_histories.proofs.ApplyCalls.{is_for_applying, gives-applies}
+use Rattle.sky_histories.proofs.StatementMarks.{EachMark, each-rest, each-given, when-true, AnyReply, either}
+use Rattle.sky_histories.proofs.PastHistories.{history-marks}
+use Rattle.sky_histories.proofs.Good.{same-session}
 use Rattle.sky_model.proofs.Cases.{by_test, by_same}
 use Rattle.sky_changes.specs.Listing.{later_of, IsListed}
 use Rattle.sky_changes.proofs.Places.{since-joined}

@@ -6,8 +6,8 @@ use Rattle.sky_txid.specs.Snapshot.{SnapshotView}
 use Rattle.londiste_state.specs.Nodes.{Root, Leaf, LeafTable, Node, of_root, of_leaf, new_table, in_state, with_copy, with_tick}
 use Rattle.sky_model.specs.History.{of_synced, copy_of, NodeMark, root_made, set_added, set_removed, joined, parted, leaf_made, leaf_added, leaf_removed, state_set, copied, applied, restarted, hold_begun, hold_ended, History}
 use Rattle.sky_model.specs.Nodes.{after_node, at_root, at_leaf, node}
-use Rattle.sky_model.proofs.InCopyTables.{leaf_table, found, found-push, found-less, found-gone, found-changed, changed_by, map-same, table-root, table-leaf, table-named as has-name, is_past_copy}
-use Rattle.sky_model.proofs.Legal.{NodeFits}
+use Rattle.sky_histories.proofs.InCopyTables.{leaf_table, found, found-push, found-less, found-gone, found-changed, changed_by, map-same, table-root, table-leaf, table-named as has-name, is_past_copy}
+use Rattle.sky_histories.proofs.Legal.{NodeFits}
 use Rattle.sky_model.proofs.Cases.{by_test}
 
 -- a table of a leaf has its name

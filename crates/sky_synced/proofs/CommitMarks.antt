@@ -33,22 +33,22 @@ use Rattle.sky_model.specs.StepApply.{has_synced, picks, picked, change_write, w
 use Rattle.sky_model.specs.StepNode.{NodeCall, joining, parting, fetching, finishing, making_leaf, adding, removing, moving, listing, unlisting, ending_copy, applying, if_there, set_queue, table_number, may_serve, call_form, node_does}
 use Rattle.sky_model.specs.DatabaseCalls.{DatabaseCall, stepped, entered, failed, worked, served, database_does, database_part}
 use Rattle.sky_model.specs.HistoryPlaces.{IsPlace}
-use Rattle.sky_model.proofs.Legal.{Fine, begins_work, ends_work, begins_copy, ends_copy, writes, copies_row, applies_row, Legal, legal-below_mark, fine_mark}
-use Rattle.sky_model.proofs.Marks.{part_of-mark}
-use Rattle.sky_model.proofs.Snapshots.{contains-push, contains-filter, copys-of, sound}
-use Rattle.sky_model.proofs.Guarded.{copied_by-push, copied_by-without}
-use Rattle.sky_model.proofs.WrittenTables.{some, is-written}
-use Rattle.sky_model.proofs.RowKeys.{begun}
-use Rattle.sky_model.proofs.ApplyCalls.{IsWritten, event-written}
-use Rattle.sky_model.proofs.CopyCalls.{gives-there}
-use Rattle.sky_model.proofs.NodeCalls.{is_for_consumers, is_consumers, gives-consumers}
-use Rattle.sky_model.proofs.Resting.{behind-append}
-use Rattle.sky_model.proofs.Good.{same-session}
-use Rattle.sky_model.proofs.Histories.{legal_calls}
-use Rattle.sky_model.proofs.StatementMarks.{EachMark, each-map, each-rest, each-given, when-true, Gives, gives-map, AnyReply, after, either}
+use Rattle.sky_histories.proofs.Legal.{Fine, begins_work, ends_work, begins_copy, ends_copy, writes, copies_row, applies_row, Legal, legal-below_mark, fine_mark}
+use Rattle.sky_histories.proofs.Marks.{part_of-mark}
+use Rattle.sky_histories.proofs.Snapshots.{contains-push, contains-filter, copys-of, sound}
+use Rattle.sky_histories.proofs.Guarded.{copied_by-push, copied_by-without}
+use Rattle.sky_histories.proofs.WrittenTables.{some, is-written}
+use Rattle.sky_histories.proofs.RowKeys.{begun}
+use Rattle.sky_histories.proofs.ApplyCalls.{IsWritten, event-written}
+use Rattle.sky_histories.proofs.CopyCalls.{gives-there}
+use Rattle.sky_histories.proofs.NodeCalls.{is_for_consumers, is_consumers, gives-consumers}
+use Rattle.sky_histories.proofs.Resting.{behind-append}
+use Rattle.sky_histories.proofs.Good.{same-session}
+use Rattle.sky_histories.proofs.Histories.{legal_calls}
+use Rattle.sky_histories.proofs.StatementMarks.{EachMark, each-map, each-rest, each-given, when-true, Gives, gives-map, AnyReply, after, either}
 use Rattle.sky_model.proofs.Cases.{by_test, by_same}
-use Rattle.sky_model.proofs.PendingOwners.{legal-before}
-use Rattle.sky_model.proofs.ApplyingLaws.{all-filter}
+use Rattle.sky_laws.proofs.PendingOwners.{legal-before}
+use Rattle.sky_histories.proofs.ApplyingLaws.{all-filter}
 use Rattle.sky_replicas.proofs.Copying.{one-table}
 use Rattle.sky_replicas.proofs.SessionsMarks.{is_sessions, sessions-turn, sessions-enters, sessions-fails, sessions-daemon}
 use Rattle.sky_synced.specs.LawsOfChanges.{SaysCopied, is_picked, SaysApplied, CopiesWriteOwnTables, CopiesSayThatTheyEnd, BatchesSayThatTheyAreApplied, is_session, CommitsAreFollowed}

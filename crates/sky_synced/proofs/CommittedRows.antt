@@ -3,13 +3,13 @@ use Rattle.std.proofs.Common.{◌≡◌, ℕ, [], ◌∷◌, Bool, true, false, 
 use Rattle.sky_model.specs.History.{Mark, Whose, of_session, ended, tabled, wrote, History}
 use Rattle.sky_model.specs.Sessions.{own_txid}
 use Rattle.sky_model.specs.Rows.{wrote_in, committed, writes as writes_of, put_all, rows}
-use Rattle.sky_model.proofs.Legal.{Fine, ends, Legal, legal-below_mark, fine_mark}
-use Rattle.sky_model.proofs.SnapshotLaws.{legal_place}
-use Rattle.sky_model.proofs.Snapshots.{ender-unended}
-use Rattle.sky_model.proofs.WrittenTables.{some, is-written}
-use Rattle.sky_model.proofs.RowWrites.{in_turn-push}
-use Rattle.sky_model.proofs.CopiesCovered.{rows-wrote}
-use Rattle.sky_model.proofs.WritableTables.{read_only_tables_are_unwritten}
+use Rattle.sky_histories.proofs.Legal.{Fine, ends, Legal, legal-below_mark, fine_mark}
+use Rattle.sky_histories.proofs.SnapshotLaws.{legal_place}
+use Rattle.sky_histories.proofs.Snapshots.{ender-unended}
+use Rattle.sky_histories.proofs.WrittenTables.{some, is-written}
+use Rattle.sky_histories.proofs.RowWrites.{in_turn-push}
+use Rattle.sky_histories.proofs.CopiesCovered.{rows-wrote}
+use Rattle.sky_laws.proofs.WritableTables.{read_only_tables_are_unwritten}
 use Rattle.sky_synced.specs.LawsOfChanges.{RowsChangeByCommits, SessionsCommitNoReadOnlyTable}
 use Rattle.sky_synced.proofs.Covering.{place-below}
 use Rattle.sky_synced.proofs.RestingTables.{nothing}

@@ -42,13 +42,13 @@ use Rattle.sky_model.specs.StepRetry.{back, brings, most_back, maint_retry_event
 use Rattle.sky_model.specs.StepRotation.{held_back, switch_of, rotates, rotates_alone, rotates_by_itself, second_steps, lack_second_step, ends_switches, maint_rotate_step2, switches_by, switches_of, committed_by}
 use Rattle.sky_model.specs.Daemon.{quietly, ticks_of, moved_by, again_if, retries_of, first_steps_of, daemon_does}
 use Rattle.sky_model.specs.Calls.{row_form, switches_first, form, making, statement, database_turn}
-use Rattle.sky_model.proofs.Legal.{queue_of_set}
-use Rattle.sky_model.proofs.SetQueues.{not-sets}
-use Rattle.sky_model.proofs.QueueNumbers.{among-number}
-use Rattle.sky_model.proofs.StatementMarks.{EachMark, each-map, each-append, each-front, each-first, each-rest, each-given, Gives, AnyReply, gives-map, after, checked, either, Kinds, no_more, may_leave, attempt_kinds, by_commit, given-runs, settling-gives}
+use Rattle.sky_histories.proofs.Legal.{queue_of_set}
+use Rattle.sky_histories.proofs.SetQueues.{not-sets}
+use Rattle.sky_histories.proofs.QueueNumbers.{among-number}
+use Rattle.sky_histories.proofs.StatementMarks.{EachMark, each-map, each-append, each-front, each-first, each-rest, each-given, Gives, AnyReply, gives-map, after, checked, either, Kinds, no_more, may_leave, attempt_kinds, by_commit, given-runs, settling-gives}
 use Rattle.sky_model.proofs.Cases.{by_test, by_same, by_block, ok-then}
-use Rattle.sky_model.proofs.Commits.{Apart, queues-apart}
-use Rattle.sky_model.proofs.RowOutcomes.{is_of_rows, form-rows}
+use Rattle.sky_histories.proofs.Commits.{Apart, queues-apart}
+use Rattle.sky_histories.proofs.RowOutcomes.{is_of_rows, form-rows}
 use Rattle.sky_synced.proofs.Following.{is_of_node, spares}
 
 -- ---- marks that are of no consumer

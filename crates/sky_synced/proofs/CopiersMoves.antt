@@ -26,9 +26,9 @@ use Rattle.sky_model.specs.WorkerMoves.{Move, only_prints, moves_to, behind_call
 use Rattle.sky_model.specs.BatchMoves.{takes_next, goes_through}
 use Rattle.sky_model.specs.CopyMoves.{newest_of, piece_size, rows_from, rows_of, last_key, copies_piece, next_piece, copy_consumer, first_hand, starts_copy, copy_running, under_way, held_snapshot, continues, starts_or_continues as copy_goes_on, copier, goes_through_or, has_caught_up, catches_up, hands_over, if_copied, moves_in, table_move, table_at, copy_move}
 use Rattle.sky_model.specs.ReplayMoves.{is_on_way}
-use Rattle.sky_model.proofs.Legal.{Legal}
+use Rattle.sky_histories.proofs.Legal.{Legal}
 use Rattle.sky_model.proofs.Cases.{by_test}
-use Rattle.sky_model.proofs.InCopyTables.{found, found-named}
+use Rattle.sky_histories.proofs.InCopyTables.{found, found-named}
 use Rattle.sky_synced.specs.Tables.{has_own_tick}
 use Rattle.sky_synced.proofs.Following.{Following}
 use Rattle.sky_synced.proofs.FollowingCalls.{after_call, following-again, spares-parting, spares-joining}

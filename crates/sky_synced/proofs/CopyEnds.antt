@@ -14,15 +14,15 @@ use Rattle.sky_model.specs.Nodes.{node}
 use Rattle.sky_model.specs.StepNode.{may_copy}
 use Rattle.sky_model.specs.NodesOfWorld.{Located}
 use Rattle.sky_model.specs.World.{history_in, nodes}
-use Rattle.sky_model.proofs.Legal.{Legal, legal-below_mark, fine_mark}
-use Rattle.sky_model.proofs.SnapshotLaws.{legal_place}
-use Rattle.sky_model.proofs.TickOrder.{is_made}
-use Rattle.sky_model.proofs.RowSights.{Since, here, later, legal-since}
-use Rattle.sky_model.proofs.NodeTables.{one-place}
-use Rattle.sky_model.proofs.InCopyTables.{leaf_table}
-use Rattle.sky_model.proofs.Good.{same-session}
+use Rattle.sky_histories.proofs.Legal.{Legal, legal-below_mark, fine_mark}
+use Rattle.sky_histories.proofs.SnapshotLaws.{legal_place}
+use Rattle.sky_histories.proofs.TickOrder.{is_made}
+use Rattle.sky_histories.proofs.RowSights.{Since, here, later, legal-since}
+use Rattle.sky_histories.proofs.NodeTables.{one-place}
+use Rattle.sky_histories.proofs.InCopyTables.{leaf_table}
+use Rattle.sky_histories.proofs.Good.{same-session}
 use Rattle.sky_model.proofs.Cases.{by_test}
-use Rattle.sky_model.proofs.Snapshots.{begun-next}
+use Rattle.sky_histories.proofs.Snapshots.{begun-next}
 use Rattle.sky_changes.specs.Listing.{IsListed, StaysListed}
 use Rattle.sky_changes.proofs.Places.{to-below, from-below, since-joined, since-or, either-since, one-place as one-only}
 use Rattle.sky_changes.proofs.ListedTables.{place-kept, columns-kept}

@@ -11,8 +11,8 @@ use Rattle.sky_model.specs.Outcome.{Outcome, Checked, answers, does_marks}
 use Rattle.sky_model.specs.OwnTransaction.{next_id}
 use Rattle.sky_model.specs.StepCopy.{copy_write, copy_writes, deletions, insertions, rows_now, begins_copy, all_fit, copies_rows, given_up}
 use Rattle.sky_model.specs.StepNode.{NodeCall, beginning_copy, copying_rows, giving_up_copy, holding, letting_go, table_number, call_form}
-use Rattle.sky_model.proofs.CopyCalls.{gives-there}
-use Rattle.sky_model.proofs.StatementMarks.{EachMark, each-front, Gives, gives-map, AnyReply, checked, either}
+use Rattle.sky_histories.proofs.CopyCalls.{gives-there}
+use Rattle.sky_histories.proofs.StatementMarks.{EachMark, each-front, Gives, gives-map, AnyReply, checked, either}
 
 -- whether a mark is of a copy that doesn't end by it, or of a snapshot that is held
 abbrev pub is_copying : Mark → Bool

@@ -6,12 +6,12 @@ use Rattle.sky_model.specs.Transactions.{has_ended}
 use Rattle.sky_model.specs.Rows.{rows}
 use Rattle.sky_model.specs.Queues.{queues_made, at_tick}
 use Rattle.sky_model.specs.HistoryPlaces.{IsPlace}
-use Rattle.sky_model.proofs.Legal.{makes, ticks_next, Legal, next, legal-below_mark, fine_mark}
-use Rattle.sky_model.proofs.Snapshots.{ender-unended}
-use Rattle.sky_model.proofs.TickOrder.{is_made, unmade_above, unmade_beyond}
-use Rattle.sky_model.proofs.RowSights.{Since, here, later, legal-since, ended-behind, ended-since}
-use Rattle.sky_model.proofs.CopiesCovered.{rows-wrote}
-use Rattle.sky_model.proofs.Good.{same-session}
+use Rattle.sky_histories.proofs.Legal.{makes, ticks_next, Legal, next, legal-below_mark, fine_mark}
+use Rattle.sky_histories.proofs.Snapshots.{ender-unended}
+use Rattle.sky_histories.proofs.TickOrder.{is_made, unmade_above, unmade_beyond}
+use Rattle.sky_histories.proofs.RowSights.{Since, here, later, legal-since, ended-behind, ended-since}
+use Rattle.sky_histories.proofs.CopiesCovered.{rows-wrote}
+use Rattle.sky_histories.proofs.Good.{same-session}
 use Rattle.sky_model.proofs.Cases.{by_test}
 use Rattle.sky_changes.specs.Listing.{later_of}
 use Rattle.sky_changes.proofs.Places.{either-since, length-since, same-length}

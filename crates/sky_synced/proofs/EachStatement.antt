@@ -23,12 +23,12 @@ use Rattle.sky_model.specs.WorkersOfWorld.{node_form}
 use Rattle.sky_model.specs.World.{World, world_of, session_names, database_names, home, history_in, on_top}
 use Rattle.sky_model.specs.Calls.{opening, opens, outside_does, left_if, is_leaving, may_make, of_daemon_if, beside, database_turn, gets_node, node_if, world_does, does_at, session_does, turn, Call, called, past_of}
 use Rattle.sky_model.specs.InForm.{IsInForm, IsNodeInForm}
-use Rattle.sky_model.proofs.Histories.{same-turn-within, same-daemon-within}
-use Rattle.sky_model.proofs.PastHistories.{on_top-append, history-marks}
-use Rattle.sky_model.proofs.ClockSteps.{after-clock}
-use Rattle.sky_model.proofs.Marks.{database_of-marks}
-use Rattle.sky_model.proofs.Good.{same-session}
-use Rattle.sky_model.proofs.StatementMarks.{EachMark}
+use Rattle.sky_histories.proofs.Histories.{same-turn-within, same-daemon-within}
+use Rattle.sky_histories.proofs.PastHistories.{on_top-append, history-marks}
+use Rattle.sky_histories.proofs.ClockSteps.{after-clock}
+use Rattle.sky_histories.proofs.Marks.{database_of-marks}
+use Rattle.sky_histories.proofs.Good.{same-session}
+use Rattle.sky_histories.proofs.StatementMarks.{EachMark}
 use Rattle.sky_replicas.proofs.SessionsMarks.{is_sessions, sessions-turn, sessions-daemon}
 use Rattle.sky_synced.proofs.ConsumersMarks.{SparesNodes, spares-turn, spares-daemon}
 

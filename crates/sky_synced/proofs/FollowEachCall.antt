@@ -26,12 +26,12 @@ use Rattle.sky_model.specs.NodesOfWorld.{WorldOutcome, Located, node_called, don
 use Rattle.sky_model.specs.WorkersOfWorld.{removes_from, node_form}
 use Rattle.sky_model.specs.World.{World, world_of, history_in, on_top}
 use Rattle.sky_model.specs.Calls.{Call, past_of}
-use Rattle.sky_model.proofs.Histories.{histories_are_made_by_own_calls}
-use Rattle.sky_model.proofs.NodeDeeds.{called-there}
-use Rattle.sky_model.proofs.NodeReadings.{set-number}
+use Rattle.sky_histories.proofs.Histories.{histories_are_made_by_own_calls}
+use Rattle.sky_histories.proofs.NodeDeeds.{called-there}
+use Rattle.sky_histories.proofs.NodeReadings.{set-number}
 use Rattle.sky_model.proofs.Cases.{by_same}
-use Rattle.sky_model.proofs.InCopyTables.{found}
-use Rattle.sky_model.proofs.LawfulRows.{nothing}
+use Rattle.sky_histories.proofs.InCopyTables.{found}
+use Rattle.sky_histories.proofs.LawfulRows.{nothing}
 use Rattle.sky_replicas.proofs.NodeNames.{called-database}
 use Rattle.sky_synced.proofs.LeafNodes.{IsOfCalls, is-among}
 use Rattle.sky_synced.proofs.FollowPasts.{KeptFollow, follow-marks, follow-made, follow-aside}

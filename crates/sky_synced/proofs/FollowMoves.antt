@@ -12,9 +12,9 @@ use Rattle.sky_model.specs.StepConsumer.{has_dot}
 use Rattle.sky_model.specs.StepNode.{NodeCall}
 use Rattle.sky_model.specs.WorkerMoves.{Move}
 use Rattle.sky_model.specs.World.{history_in, hands, batches}
-use Rattle.sky_model.proofs.Legal.{queue_of_set, Legal}
-use Rattle.sky_model.proofs.Histories.{AllLegal}
-use Rattle.sky_model.proofs.Good.{same-session}
+use Rattle.sky_histories.proofs.Legal.{queue_of_set, Legal}
+use Rattle.sky_histories.proofs.Histories.{AllLegal}
+use Rattle.sky_histories.proofs.Good.{same-session}
 use Rattle.sky_model.proofs.Cases.{by_test, by_same}
 use Rattle.sky_replicas.proofs.Keeping.{Noded}
 use Rattle.sky_replicas.proofs.CallPasts.{called, after_calls, history-called, histories-elsewhere}

@@ -6,10 +6,10 @@ use Rattle.sky_model.specs.Nodes.{node}
 use Rattle.sky_model.specs.Settling.{marked}
 use Rattle.sky_model.specs.StepNode.{NodeCall}
 use Rattle.sky_model.specs.World.{history_in, hands, batches, on_top}
-use Rattle.sky_model.proofs.Legal.{Legal}
-use Rattle.sky_model.proofs.Histories.{AllLegal}
-use Rattle.sky_model.proofs.PastHistories.{history-marks}
-use Rattle.sky_model.proofs.StatementMarks.{EachMark, each-rest, when-true}
+use Rattle.sky_histories.proofs.Legal.{Legal}
+use Rattle.sky_histories.proofs.Histories.{AllLegal}
+use Rattle.sky_histories.proofs.PastHistories.{history-marks}
+use Rattle.sky_histories.proofs.StatementMarks.{EachMark, each-rest, when-true}
 use Rattle.sky_model.proofs.Cases.{by_same}
 use Rattle.sky_replicas.proofs.NodeNames.{source_of}
 use Rattle.sky_replicas.proofs.Keeping.{fine-within, Noded, noded-within, source-within, source-made, made-noded}

@@ -19,10 +19,10 @@ use Rattle.sky_model.specs.ReplayMoves.{is_on_way, replay_move}
 use Rattle.sky_model.specs.NodesOfWorld.{WorldOutcome, Located, node_called}
 use Rattle.sky_model.specs.WorkersOfWorld.{moves, source, source_alike, leaf_table, restarts, restarting, provider_of as providers_database, leaf_steps, parts_for, leaves_leaf}
 use Rattle.sky_model.specs.World.{World, world_of, history_in, nodes, hands, batches, on_top}
-use Rattle.sky_model.proofs.Legal.{Legal}
-use Rattle.sky_model.proofs.Histories.{AllLegal}
+use Rattle.sky_histories.proofs.Legal.{Legal}
+use Rattle.sky_histories.proofs.Histories.{AllLegal}
 use Rattle.sky_model.proofs.Cases.{by_test, ok-then}
-use Rattle.sky_model.proofs.InCopyTables.{found, found-less, found-gone}
+use Rattle.sky_histories.proofs.InCopyTables.{found, found-less, found-gone}
 use Rattle.sky_replicas.proofs.NodeNames.{provider_of, database_among, names_in, source_of, called-database}
 use Rattle.sky_replicas.proofs.CallPasts.{after_calls, on-move}
 use Rattle.sky_replicas.proofs.Sources.{source-is, alike-is}

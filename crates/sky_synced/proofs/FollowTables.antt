@@ -19,13 +19,13 @@ use Rattle.sky_model.specs.StepQueue.{newest_id}
 use Rattle.sky_model.specs.StepConsumer.{has_dot, registers}
 use Rattle.sky_model.specs.StepNode.{joins}
 use Rattle.sky_model.specs.World.{history_in, nodes, hands, batches, on_top}
-use Rattle.sky_model.proofs.Legal.{queue_of_set, Fine, Legal}
-use Rattle.sky_model.proofs.Histories.{AllLegal}
-use Rattle.sky_model.proofs.PastHistories.{on_top-append, history-marks}
-use Rattle.sky_model.proofs.Good.{same-session}
-use Rattle.sky_model.proofs.StatementMarks.{EachMark, Gives, AnyReply}
+use Rattle.sky_histories.proofs.Legal.{queue_of_set, Fine, Legal}
+use Rattle.sky_histories.proofs.Histories.{AllLegal}
+use Rattle.sky_histories.proofs.PastHistories.{on_top-append, history-marks}
+use Rattle.sky_histories.proofs.Good.{same-session}
+use Rattle.sky_histories.proofs.StatementMarks.{EachMark, Gives, AnyReply}
 use Rattle.sky_model.proofs.Cases.{by_same}
-use Rattle.sky_model.proofs.InCopyTables.{found, found-push}
+use Rattle.sky_histories.proofs.InCopyTables.{found, found-push}
 use Rattle.sky_replicas.proofs.NodeNames.{provider_of, database_among, names_in, source_of}
 use Rattle.sky_replicas.proofs.Keeping.{legal-before, fine-within, Noded, noded-within, source-within, source-made, made-noded}
 use Rattle.sky_replicas.proofs.Others.{legal-under}

@@ -9,17 +9,17 @@ use Rattle.sky_model.specs.Queues.{queues_made, queues}
 use Rattle.sky_model.specs.Consumers.{subscription_id, position, last_batch, active_batch, of_another}
 use Rattle.sky_model.specs.Nodes.{at_root, at_leaf, after_node, node}
 use Rattle.sky_model.specs.Settling.{marked}
-use Rattle.sky_model.proofs.Legal.{queue_of_set, NodeFits, makes, moves, unregisters, opens, closes, drops, nodes, Legal, start, next}
-use Rattle.sky_model.proofs.NodeReadings.{same-node}
-use Rattle.sky_model.proofs.NodeTables.{has-queue}
-use Rattle.sky_model.proofs.SetQueues.{set-made, set-dropped}
-use Rattle.sky_model.proofs.ActiveBatches.{of_another-is}
-use Rattle.sky_model.proofs.TickOrder.{is_made}
-use Rattle.sky_model.proofs.Good.{same-session}
-use Rattle.sky_model.proofs.StatementMarks.{EachMark, each-rest, when-true}
+use Rattle.sky_histories.proofs.Legal.{queue_of_set, NodeFits, makes, moves, unregisters, opens, closes, drops, nodes, Legal, start, next}
+use Rattle.sky_histories.proofs.NodeReadings.{same-node}
+use Rattle.sky_histories.proofs.NodeTables.{has-queue}
+use Rattle.sky_histories.proofs.SetQueues.{set-made, set-dropped}
+use Rattle.sky_histories.proofs.ActiveBatches.{of_another-is}
+use Rattle.sky_histories.proofs.TickOrder.{is_made}
+use Rattle.sky_histories.proofs.Good.{same-session}
+use Rattle.sky_histories.proofs.StatementMarks.{EachMark, each-rest, when-true}
 use Rattle.sky_model.proofs.Cases.{by_test, by_same}
-use Rattle.sky_model.proofs.PendingOwners.{legal-before}
-use Rattle.sky_model.proofs.Listings.{made_since}
+use Rattle.sky_laws.proofs.PendingOwners.{legal-before}
+use Rattle.sky_laws.proofs.Listings.{made_since}
 use Rattle.sky_replicas.proofs.ProvidedTables.{among-push, among-less}
 use Rattle.sky_synced.specs.LawsOfOwners.{set_consumers}
 

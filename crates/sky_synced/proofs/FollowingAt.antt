@@ -17,10 +17,10 @@ use Rattle.sky_model.specs.ReplayMoves.{replayer}
 use Rattle.sky_model.specs.CopyMoves.{copier}
 use Rattle.sky_model.specs.World.{history_in, hands, batches}
 use Rattle.sky_model.specs.HistoryPlaces.{IsPlace}
-use Rattle.sky_model.proofs.SnapshotLaws.{legal_place}
-use Rattle.sky_model.proofs.ActiveBatches.{active_batches, IsActive as IsActiveBatch}
-use Rattle.sky_model.proofs.Rotation.{batch_events-selected}
-use Rattle.sky_model.proofs.InCopyTables.{leaf_table}
+use Rattle.sky_histories.proofs.SnapshotLaws.{legal_place}
+use Rattle.sky_histories.proofs.ActiveBatches.{active_batches, IsActive as IsActiveBatch}
+use Rattle.sky_histories.proofs.Rotation.{batch_events-selected}
+use Rattle.sky_histories.proofs.InCopyTables.{leaf_table}
 use Rattle.sky_replicas.proofs.NodeNames.{source_of}
 use Rattle.sky_replicas.proofs.CallPasts.{called}
 use Rattle.sky_synced.specs.Tables.{has_own_tick}

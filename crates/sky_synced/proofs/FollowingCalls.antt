@@ -22,17 +22,17 @@ use Rattle.sky_model.specs.StepNode.{NodeCall, joining, parting, fetching, finis
 use Rattle.sky_model.specs.BatchMoves.{taken}
 use Rattle.sky_model.specs.CopyMoves.{newest_of}
 use Rattle.sky_model.specs.Settling.{marked}
-use Rattle.sky_model.proofs.Legal.{queue_of_set, registers, moves, unregisters, opens, closes as fine_closes, nodes as fine_nodes, Legal, start, next}
-use Rattle.sky_model.proofs.NodeReadings.{set-number, same-node}
-use Rattle.sky_model.proofs.ActiveBatches.{IsActive, active_batches}
-use Rattle.sky_model.proofs.TickOrder.{is_made}
-use Rattle.sky_model.proofs.CopyCalls.{gives-there}
-use Rattle.sky_model.proofs.Good.{same-session}
-use Rattle.sky_model.proofs.StatementMarks.{EachMark, each-map, each-given, each-front, Gives, AnyReply}
+use Rattle.sky_histories.proofs.Legal.{queue_of_set, registers, moves, unregisters, opens, closes as fine_closes, nodes as fine_nodes, Legal, start, next}
+use Rattle.sky_histories.proofs.NodeReadings.{set-number, same-node}
+use Rattle.sky_histories.proofs.ActiveBatches.{IsActive, active_batches}
+use Rattle.sky_histories.proofs.TickOrder.{is_made}
+use Rattle.sky_histories.proofs.CopyCalls.{gives-there}
+use Rattle.sky_histories.proofs.Good.{same-session}
+use Rattle.sky_histories.proofs.StatementMarks.{EachMark, each-map, each-given, each-front, Gives, AnyReply}
 use Rattle.sky_model.proofs.Cases.{by_test}
-use Rattle.sky_model.proofs.PendingOwners.{legal-before}
-use Rattle.sky_model.proofs.MadeCopies.{few-consumers, all_but-less}
-use Rattle.sky_model.proofs.Members.{among-consumers}
+use Rattle.sky_laws.proofs.PendingOwners.{legal-before}
+use Rattle.sky_histories.proofs.MadeCopies.{few-consumers, all_but-less}
+use Rattle.sky_histories.proofs.Members.{among-consumers}
 use Rattle.sky_synced.proofs.Following.{is_of_node, spares, itself, active-stays, InHand, Following, following-marks}
 use Rattle.sky_synced.proofs.ConsumersMarks.{is_apart, apart-spares, apart-takes}
 use Rattle.sky_synced.proofs.SetTicks.{set-stands, queues-newest}

@@ -19,15 +19,15 @@ use Rattle.sky_model.specs.State.{database_of}
 use Rattle.sky_model.specs.StepNode.{is_in_copy, may_copy}
 use Rattle.sky_model.specs.World.{history_in, batches, on_top}
 use Rattle.sky_model.specs.HistoryPlaces.{IsPlace}
-use Rattle.sky_model.proofs.Legal.{Fine, NodeFits, Legal, begins_copy, legal-below_mark, fine_mark}
-use Rattle.sky_model.proofs.SnapshotLaws.{legal_place}
-use Rattle.sky_model.proofs.TickOrder.{is_made}
-use Rattle.sky_model.proofs.RowSights.{Since, here, later}
-use Rattle.sky_model.proofs.Guarded.{copied_by-push, copied_by-without, copied-by}
-use Rattle.sky_model.proofs.NodeTables.{one-place}
-use Rattle.sky_model.proofs.NodeReadings.{leaf-other, leaf-added, leaf-removed, same-tables}
-use Rattle.sky_model.proofs.InCopyTables.{leaf_table, IsInCopy, copies-in-copy, may-allowed, is_past_copy}
-use Rattle.sky_model.proofs.Good.{same-session}
+use Rattle.sky_histories.proofs.Legal.{Fine, NodeFits, Legal, begins_copy, legal-below_mark, fine_mark}
+use Rattle.sky_histories.proofs.SnapshotLaws.{legal_place}
+use Rattle.sky_histories.proofs.TickOrder.{is_made}
+use Rattle.sky_histories.proofs.RowSights.{Since, here, later}
+use Rattle.sky_histories.proofs.Guarded.{copied_by-push, copied_by-without, copied-by}
+use Rattle.sky_histories.proofs.NodeTables.{one-place}
+use Rattle.sky_histories.proofs.NodeReadings.{leaf-other, leaf-added, leaf-removed, same-tables}
+use Rattle.sky_histories.proofs.InCopyTables.{leaf_table, IsInCopy, copies-in-copy, may-allowed, is_past_copy}
+use Rattle.sky_histories.proofs.Good.{same-session}
 use Rattle.sky_model.proofs.Cases.{by_test, by_same}
 use Rattle.sky_changes.specs.Listing.{later_of, IsListed, StaysListed, is_unlisting}
 use Rattle.sky_changes.proofs.Places.{to-below, from-below, since-joined, one-place as one-only}

@@ -26,15 +26,15 @@ use Rattle.sky_model.specs.World.{World, world_of, history_in, nodes, on_top}
 use Rattle.sky_model.specs.Calls.{Call, past_of}
 use Rattle.sky_model.specs.Steps.{IsCallInForm}
 use Rattle.sky_model.specs.HistoryPlaces.{IsPlace}
-use Rattle.sky_model.proofs.Legal.{fine_mark}
-use Rattle.sky_model.proofs.SnapshotLaws.{legal_place}
-use Rattle.sky_model.proofs.NodeDeeds.{called-there}
-use Rattle.sky_model.proofs.NodeLaws.{sets_have_queues}
-use Rattle.sky_model.proofs.PastHistories.{on_top-append}
-use Rattle.sky_model.proofs.Histories.{histories_are_made_by_own_calls, world_place, legal_past}
-use Rattle.sky_model.proofs.Good.{same-session}
+use Rattle.sky_histories.proofs.Legal.{fine_mark}
+use Rattle.sky_histories.proofs.SnapshotLaws.{legal_place}
+use Rattle.sky_histories.proofs.NodeDeeds.{called-there}
+use Rattle.sky_laws.proofs.NodeLaws.{sets_have_queues}
+use Rattle.sky_histories.proofs.PastHistories.{on_top-append}
+use Rattle.sky_histories.proofs.Histories.{histories_are_made_by_own_calls, world_place, legal_past}
+use Rattle.sky_histories.proofs.Good.{same-session}
 use Rattle.sky_model.proofs.Cases.{by_test, ok-then}
-use Rattle.sky_model.proofs.StatementMarks.{each-map}
+use Rattle.sky_histories.proofs.StatementMarks.{each-map}
 use Rattle.sky_changes.specs.Listing.{IsListed}
 use Rattle.sky_replicas.proofs.NodeNames.{source_of}
 use Rattle.sky_replicas.proofs.Keeping.{source-within}

@@ -27,8 +27,8 @@ use Rattle.sky_model.specs.BatchMoves.{Follower, events_of_batch, has_applied, a
 use Rattle.sky_model.specs.ReplayMoves.{replayer, is_handed_over, is_met, first_in, next_to_copy, for_table, empty_handed_move, replay_move}
 use Rattle.sky_model.specs.CopyMoves.{piece_size, rows_from, rows_of, last_key, copies_piece, next_piece, copy_consumer, first_hand, starts_copy, under_way, continues, starts_or_continues, copier, goes_through_or, has_caught_up, catches_up, hands_over, if_copied, moves_in, table_move, table_at, copy_move, copy_running}
 use Rattle.sky_model.specs.World.{history_in, hands, batches}
-use Rattle.sky_model.proofs.SnapshotLaws.{legal_place}
-use Rattle.sky_model.proofs.InCopyTables.{leaf_table}
+use Rattle.sky_histories.proofs.SnapshotLaws.{legal_place}
+use Rattle.sky_histories.proofs.InCopyTables.{leaf_table}
 use Rattle.sky_model.proofs.Cases.{by_test}
 use Rattle.sky_replicas.proofs.NodeNames.{source_of}
 use Rattle.sky_replicas.proofs.ProvidedTables.{HasProvider, AllProvided}

@@ -28,8 +28,8 @@ use Rattle.sky_model.specs.World.{World, world_of, history_in, hands, batches, o
 use Rattle.sky_model.specs.Calls.{Call, past_of}
 use Rattle.sky_model.specs.Steps.{IsCallInForm}
 use Rattle.sky_model.specs.HistoryPlaces.{IsPlace}
-use Rattle.sky_model.proofs.InCopyTables.{leaf_table}
-use Rattle.sky_model.proofs.NodeDeeds.{called-there}
+use Rattle.sky_histories.proofs.InCopyTables.{leaf_table}
+use Rattle.sky_histories.proofs.NodeDeeds.{called-there}
 use Rattle.sky_model.proofs.Cases.{by_test}
 use Rattle.sky_replicas.specs.LawsOfReplicas.{IsProvided as IsTableProvided}
 use Rattle.sky_replicas.proofs.CallPasts.{call_marks, called, on-move, history-called, history-elsewhere}

@@ -10,7 +10,7 @@ use Rattle.sky_model.specs.StepConsumer.{has_dot}
 use Rattle.sky_model.specs.CopyMoves.{copy_consumer}
 use Rattle.sky_model.specs.ReplayMoves.{is_on_way}
 use Rattle.sky_model.proofs.Cases.{by_test}
-use Rattle.sky_model.proofs.InCopyTables.{found, found-named, found-changed}
+use Rattle.sky_histories.proofs.InCopyTables.{found, found-named, found-changed}
 use Rattle.sky_synced.specs.Tables.{has_own_tick}
 use Rattle.sky_synced.proofs.Following.{Following}
 

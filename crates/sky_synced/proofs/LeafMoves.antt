@@ -21,10 +21,10 @@ use Rattle.sky_model.specs.StepNode.{NodeCall, holding, letting_go, moving, node
 use Rattle.sky_model.specs.WorkerMoves.{Move, only_prints, moves_to}
 use Rattle.sky_model.specs.BatchMoves.{goes_through, takes_next}
 use Rattle.sky_model.specs.ReplayMoves.{replayer, is_on_way, is_absent, is_handed_over, is_met, first_in, next_to_copy, for_table, replay_move}
-use Rattle.sky_model.proofs.Legal.{Legal}
-use Rattle.sky_model.proofs.StatementMarks.{EachMark, each-given, AnyReply, either}
+use Rattle.sky_histories.proofs.Legal.{Legal}
+use Rattle.sky_histories.proofs.StatementMarks.{EachMark, each-given, AnyReply, either}
 use Rattle.sky_model.proofs.Cases.{by_test}
-use Rattle.sky_model.proofs.InCopyTables.{found}
+use Rattle.sky_histories.proofs.InCopyTables.{found}
 use Rattle.sky_synced.specs.Tables.{has_own_tick}
 use Rattle.sky_synced.proofs.Following.{spares, Following}
 use Rattle.sky_synced.proofs.FollowingCalls.{after_call}

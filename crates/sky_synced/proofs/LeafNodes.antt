@@ -22,13 +22,13 @@ use Rattle.sky_model.specs.StepNode.{NodeCall, beginning_copy, copying_rows, end
 use Rattle.sky_model.specs.Settling.{marked}
 use Rattle.sky_model.specs.Promises.{after_all}
 use Rattle.sky_model.specs.DatabaseCalls.{DatabaseCall, database_part}
-use Rattle.sky_model.proofs.Legal.{Legal}
-use Rattle.sky_model.proofs.NodeTables.{have-tables}
-use Rattle.sky_model.proofs.ApplyingLaws.{batches_put_their_events, other_batches_leave_rows, no_picked_table_is_copied}
-use Rattle.sky_model.proofs.StatementMarks.{EachMark, each-given, AnyReply, either}
+use Rattle.sky_histories.proofs.Legal.{Legal}
+use Rattle.sky_histories.proofs.NodeTables.{have-tables}
+use Rattle.sky_histories.proofs.ApplyingLaws.{batches_put_their_events, other_batches_leave_rows, no_picked_table_is_copied}
+use Rattle.sky_histories.proofs.StatementMarks.{EachMark, each-given, AnyReply, either}
 use Rattle.sky_model.proofs.Cases.{by_test}
-use Rattle.sky_model.proofs.InCopyTables.{found}
-use Rattle.sky_model.proofs.NodeLaws.{among-are}
+use Rattle.sky_histories.proofs.InCopyTables.{found}
+use Rattle.sky_laws.proofs.NodeLaws.{among-are}
 use Rattle.sky_synced.proofs.FollowingCalls.{after_call}
 use Rattle.sky_synced.proofs.CopyingCalls.{is_copying, is_copying_call, gives-copying}
 

@@ -13,9 +13,9 @@ use Rattle.sky_model.specs.WorkersOfWorld.{moves, leaf_steps, londiste_step}
 use Rattle.sky_model.specs.World.{World, world_of, history_in, nodes}
 use Rattle.sky_model.specs.Calls.{Call, past_of}
 use Rattle.sky_model.specs.Steps.{IsCallInForm}
-use Rattle.sky_model.proofs.NodeDeeds.{called-there}
-use Rattle.sky_model.proofs.NodeLaws.{sets_have_queues}
-use Rattle.sky_model.proofs.Histories.{world_place, legal_past}
+use Rattle.sky_histories.proofs.NodeDeeds.{called-there}
+use Rattle.sky_laws.proofs.NodeLaws.{sets_have_queues}
+use Rattle.sky_histories.proofs.Histories.{world_place, legal_past}
 use Rattle.sky_replicas.proofs.NodeNames.{provider_of as name_of_provider, database_among, names_in, source_of, called-database, among-named}
 use Rattle.sky_replicas.proofs.ProvidedTables.{HasProvider as HasRoot}
 use Rattle.sky_replicas.proofs.ProvidedCalls.{kept-provided}

@@ -3,8 +3,8 @@ use Rattle.std.proofs.Common.{◌≡◌, ℕ, List, [], ◌∷◌, ◌++◌, tru
 use Rattle.sky_model.specs.History.{Mark, of_worker, tabled, wrote, noded, applied, Pick, History, Fact, Past}
 use Rattle.sky_model.specs.Settling.{marked}
 use Rattle.sky_model.specs.World.{on_top}
-use Rattle.sky_model.proofs.ApplyCalls.{is_written}
-use Rattle.sky_model.proofs.StatementMarks.{EachMark, each-rest, when-true}
+use Rattle.sky_histories.proofs.ApplyCalls.{is_written}
+use Rattle.sky_histories.proofs.StatementMarks.{EachMark, each-rest, when-true}
 use Rattle.sky_synced.specs.LawsOfChanges.{WasApplied}
 
 -- each of those of a history was applied to the tables of a database

@@ -12,8 +12,8 @@ use Rattle.sky_model.specs.Nodes.{node}
 use Rattle.sky_model.specs.World.{history_in}
 use Rattle.sky_model.specs.HistoryPlaces.{IsPlace}
 use Rattle.sky_model.specs.LawsOfApplying.{picked_of, IsApplied}
-use Rattle.sky_model.proofs.SnapshotLaws.{legal_place}
-use Rattle.sky_model.proofs.InCopyTables.{leaf_table}
+use Rattle.sky_histories.proofs.SnapshotLaws.{legal_place}
+use Rattle.sky_histories.proofs.InCopyTables.{leaf_table}
 use Rattle.sky_changes.specs.Listing.{later_of}
 use Rattle.sky_changes.proofs.Places.{to-below}
 use Rattle.sky_changes.proofs.TickPlaces.{tick-since}

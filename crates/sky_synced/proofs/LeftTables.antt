@@ -19,17 +19,17 @@ use Rattle.sky_model.specs.StepApply.{is_synced}
 use Rattle.sky_model.specs.StepNode.{may_move}
 use Rattle.sky_model.specs.World.{history_in}
 use Rattle.sky_model.specs.Calls.{past_of}
-use Rattle.sky_model.proofs.Legal.{NodeFits, Fine, guards, without_node, at_leaving, Legal, legal-below_mark, fine_mark}
-use Rattle.sky_model.proofs.Snapshots.{sound, runs-unended}
-use Rattle.sky_model.proofs.SnapshotLaws.{legal-below}
-use Rattle.sky_model.proofs.WrittenTables.{some, is-written, unwritten-by}
-use Rattle.sky_model.proofs.NodeReadings.{leaf-stays}
-use Rattle.sky_model.proofs.NodeCalls.{leaf-has}
-use Rattle.sky_model.proofs.InCopyTables.{leaf_table, may-allowed, is_past_copy}
-use Rattle.sky_model.proofs.NodeTables.{one-place}
-use Rattle.sky_model.proofs.RowSights.{Since, here, later as since_later}
-use Rattle.sky_model.proofs.Histories.{legal_past}
-use Rattle.sky_model.proofs.Good.{same-session}
+use Rattle.sky_histories.proofs.Legal.{NodeFits, Fine, guards, without_node, at_leaving, Legal, legal-below_mark, fine_mark}
+use Rattle.sky_histories.proofs.Snapshots.{sound, runs-unended}
+use Rattle.sky_histories.proofs.SnapshotLaws.{legal-below}
+use Rattle.sky_histories.proofs.WrittenTables.{some, is-written, unwritten-by}
+use Rattle.sky_histories.proofs.NodeReadings.{leaf-stays}
+use Rattle.sky_histories.proofs.NodeCalls.{leaf-has}
+use Rattle.sky_histories.proofs.InCopyTables.{leaf_table, may-allowed, is_past_copy}
+use Rattle.sky_histories.proofs.NodeTables.{one-place}
+use Rattle.sky_histories.proofs.RowSights.{Since, here, later as since_later}
+use Rattle.sky_histories.proofs.Histories.{legal_past}
+use Rattle.sky_histories.proofs.Good.{same-session}
 use Rattle.sky_model.proofs.Cases.{by_test, by_same}
 use Rattle.sky_changes.proofs.Places.{since-below, on-top}
 use Rattle.sky_changes.proofs.ListedTables.{place-kept, fits-of}

@@ -17,8 +17,8 @@ use Rattle.sky_model.specs.Outcome.{answers, marks_of}
 use Rattle.sky_model.specs.StepCopy.{ends_copy, given_up}
 use Rattle.sky_model.specs.StepNode.{moving, ending_copy, if_there, moves_table, may_move, may_copy}
 use Rattle.sky_model.specs.World.{history_in, on_top}
-use Rattle.sky_model.proofs.Guarded.{copied-by, copy_txid-some}
-use Rattle.sky_model.proofs.InCopyTables.{leaf_table, may-allowed, is_past_copy}
+use Rattle.sky_histories.proofs.Guarded.{copied-by, copy_txid-some}
+use Rattle.sky_histories.proofs.InCopyTables.{leaf_table, may-allowed, is_past_copy}
 use Rattle.sky_replicas.proofs.CallPasts.{call_marks, called}
 use Rattle.sky_synced.proofs.ChangedTables.{table-named}
 use Rattle.sky_synced.proofs.Showing.{is_late}

@@ -21,11 +21,11 @@ use Rattle.sky_model.specs.StepNode.{set_queue}
 use Rattle.sky_model.specs.World.{history_in}
 use Rattle.sky_model.specs.HistoryPlaces.{IsPlace}
 use Rattle.sky_model.specs.LawsOfApplying.{picked_of}
-use Rattle.sky_model.proofs.Legal.{Legal}
-use Rattle.sky_model.proofs.SnapshotLaws.{legal_place}
-use Rattle.sky_model.proofs.TickOrder.{is_made, is_made-tick}
-use Rattle.sky_model.proofs.RowSights.{Since}
-use Rattle.sky_model.proofs.InCopyTables.{leaf_table, is_past_copy}
+use Rattle.sky_histories.proofs.Legal.{Legal}
+use Rattle.sky_histories.proofs.SnapshotLaws.{legal_place}
+use Rattle.sky_histories.proofs.TickOrder.{is_made, is_made-tick}
+use Rattle.sky_histories.proofs.RowSights.{Since}
+use Rattle.sky_histories.proofs.InCopyTables.{leaf_table, is_past_copy}
 use Rattle.sky_model.proofs.Cases.{by_test}
 use Rattle.sky_changes.specs.Listing.{later_of}
 use Rattle.sky_changes.specs.TableEvents.{table_events, unseen_events}

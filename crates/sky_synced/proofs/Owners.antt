@@ -16,16 +16,16 @@ use Rattle.sky_model.specs.StepRetry.{back, brings}
 use Rattle.sky_model.specs.StepRotation.{switch_of, switches_by}
 use Rattle.sky_model.specs.Reader.{part_by_history}
 use Rattle.sky_model.specs.Settling.{marked}
-use Rattle.sky_model.proofs.Legal.{Fine, returns, Legal, legal-below_mark, fine_mark}
-use Rattle.sky_model.proofs.Resting.{behind-append}
-use Rattle.sky_model.proofs.RetryCopies.{owned}
-use Rattle.sky_model.proofs.StatementMarks.{EachMark, each-map, each-front, each-rest, when-true}
-use Rattle.sky_model.proofs.PlainStatements.{may_do}
-use Rattle.sky_model.proofs.OwnedPuts.{is_unowned, plain-unowned, unowned-switch, unowned-switches}
-use Rattle.sky_model.proofs.SwitchingCalls.{IsOfCalls}
-use Rattle.sky_model.proofs.Good.{same-session}
+use Rattle.sky_histories.proofs.Legal.{Fine, returns, Legal, legal-below_mark, fine_mark}
+use Rattle.sky_histories.proofs.Resting.{behind-append}
+use Rattle.sky_histories.proofs.RetryCopies.{owned}
+use Rattle.sky_histories.proofs.StatementMarks.{EachMark, each-map, each-front, each-rest, when-true}
+use Rattle.sky_laws.proofs.PlainStatements.{may_do}
+use Rattle.sky_laws.proofs.OwnedPuts.{is_unowned, plain-unowned, unowned-switch, unowned-switches}
+use Rattle.sky_laws.proofs.SwitchingCalls.{IsOfCalls}
+use Rattle.sky_histories.proofs.Good.{same-session}
 use Rattle.sky_model.proofs.Cases.{by_test}
-use Rattle.sky_model.proofs.PendingOwners.{legal-before}
+use Rattle.sky_laws.proofs.PendingOwners.{legal-before}
 
 -- whether a mark doesn't ask for a subscription
 abbrev pub unasks : ℕ → Mark → Bool

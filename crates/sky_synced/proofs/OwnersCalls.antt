@@ -24,10 +24,10 @@ use Rattle.sky_model.specs.Settling.{behind_marks, settling}
 use Rattle.sky_model.specs.StepConsumer.{is_nodes_batch, leaves as leaves_queue, finishes}
 use Rattle.sky_model.specs.StepRetry.{retry_of, asks_for}
 use Rattle.sky_model.specs.Calls.{form, making, statement, database_turn}
-use Rattle.sky_model.proofs.Legal.{queue_of_set, Legal, next, looks}
-use Rattle.sky_model.proofs.ActiveBatches.{IsActive, active_batches}
-use Rattle.sky_model.proofs.Good.{same-session}
-use Rattle.sky_model.proofs.StatementMarks.{EachMark, each-map, each-append, each-front, Gives, AnyReply, gives-map, after, checked, either, no_more, given-runs}
+use Rattle.sky_histories.proofs.Legal.{queue_of_set, Legal, next, looks}
+use Rattle.sky_histories.proofs.ActiveBatches.{IsActive, active_batches}
+use Rattle.sky_histories.proofs.Good.{same-session}
+use Rattle.sky_histories.proofs.StatementMarks.{EachMark, each-map, each-append, each-front, Gives, AnyReply, gives-map, after, checked, either, no_more, given-runs}
 use Rattle.sky_model.proofs.Cases.{by_same}
 use Rattle.sky_synced.proofs.Following.{is_of_node}
 use Rattle.sky_synced.proofs.ConsumersMarks.{is_apart, apart-form, row-apart, apart-settling, batch-other}

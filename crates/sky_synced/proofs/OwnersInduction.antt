@@ -23,13 +23,13 @@ use Rattle.sky_model.specs.StepConsumer.{opens_batch, takes_batch}
 use Rattle.sky_model.specs.StepNode.{NodeCall, joining, parting, fetching, finishing, making_leaf, adding, removing, moving, listing, unlisting, applying, set_queue, table_number, parts, may_serve, call_form, node_does}
 use Rattle.sky_model.specs.StepApply.{applies_batch}
 use Rattle.sky_model.specs.DatabaseCalls.{DatabaseCall, IsDatabaseCallInForm, stepped, entered, failed, worked, served, database_does, database_part}
-use Rattle.sky_model.proofs.Legal.{Legal}
-use Rattle.sky_model.proofs.Histories.{legal_calls}
-use Rattle.sky_model.proofs.Subscriptions.{subscriptions_are_distinct}
-use Rattle.sky_model.proofs.NodeReadings.{set-number}
-use Rattle.sky_model.proofs.ApplyCalls.{is_for_applying, gives-applies}
-use Rattle.sky_model.proofs.CopyCalls.{is_for_copies, gives-there, gives-copies}
-use Rattle.sky_model.proofs.StatementMarks.{EachMark, each-map, each-append, each-given, each-failure, Gives, gives-map, AnyReply, after, either, no_more}
+use Rattle.sky_histories.proofs.Legal.{Legal}
+use Rattle.sky_histories.proofs.Histories.{legal_calls}
+use Rattle.sky_laws.proofs.Subscriptions.{subscriptions_are_distinct}
+use Rattle.sky_histories.proofs.NodeReadings.{set-number}
+use Rattle.sky_histories.proofs.ApplyCalls.{is_for_applying, gives-applies}
+use Rattle.sky_histories.proofs.CopyCalls.{is_for_copies, gives-there, gives-copies}
+use Rattle.sky_histories.proofs.StatementMarks.{EachMark, each-map, each-append, each-given, each-failure, Gives, gives-map, AnyReply, after, either, no_more}
 use Rattle.sky_replicas.proofs.SessionsMarks.{sessions-turn, sessions-enters, sessions-fails, sessions-daemon}
 use Rattle.sky_synced.specs.LawsOfOwners.{NodesEventsHaveNoOwner}
 use Rattle.sky_synced.proofs.ConsumersMarks.{is_apart, apart-spares, row-apart, apart-settling, apart-daemon, SparesNodes, spares-turn, spares-daemon}

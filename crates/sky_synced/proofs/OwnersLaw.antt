@@ -17,16 +17,16 @@ use Rattle.sky_model.specs.StepNode.{joining, if_there, set_queue, joins, node_d
 use Rattle.sky_model.specs.Settling.{marked}
 use Rattle.sky_model.specs.Reader.{database_by_history}
 use Rattle.sky_model.specs.DatabaseCalls.{DatabaseCall, stepped, entered, failed, worked, served, database_does}
-use Rattle.sky_model.proofs.Legal.{queue_of_set, Fine, asks, registers, Legal, next, legal-below_mark, fine_mark}
-use Rattle.sky_model.proofs.NodeReadings.{set-number}
-use Rattle.sky_model.proofs.Good.{same-session}
+use Rattle.sky_histories.proofs.Legal.{queue_of_set, Fine, asks, registers, Legal, next, legal-below_mark, fine_mark}
+use Rattle.sky_histories.proofs.NodeReadings.{set-number}
+use Rattle.sky_histories.proofs.Good.{same-session}
 use Rattle.std.proofs.lemmas.List.Folds.{list_any-append}
-use Rattle.sky_model.proofs.NodeTables.{has-queue}
-use Rattle.sky_model.proofs.Subscriptions.{given}
-use Rattle.sky_model.proofs.SwitchingCalls.{of_stepped, of_failed, of_worked, of_entered, of_served}
-use Rattle.sky_model.proofs.StatementMarks.{EachMark, each-front, each-rest, when-true}
+use Rattle.sky_histories.proofs.NodeTables.{has-queue}
+use Rattle.sky_laws.proofs.Subscriptions.{given}
+use Rattle.sky_laws.proofs.SwitchingCalls.{of_stepped, of_failed, of_worked, of_entered, of_served}
+use Rattle.sky_histories.proofs.StatementMarks.{EachMark, each-front, each-rest, when-true}
 use Rattle.sky_model.proofs.Cases.{by_test}
-use Rattle.sky_model.proofs.PendingOwners.{legal-before}
+use Rattle.sky_laws.proofs.PendingOwners.{legal-before}
 use Rattle.sky_replicas.proofs.SessionsMarks.{is_sessions}
 use Rattle.sky_replicas.proofs.ProvidedTables.{among-all}
 use Rattle.sky_synced.specs.LawsOfOwners.{set_consumers}

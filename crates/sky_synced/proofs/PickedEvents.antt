@@ -16,11 +16,11 @@ use Rattle.sky_model.specs.Batches.{batch_events}
 use Rattle.sky_model.specs.Nodes.{node}
 use Rattle.sky_model.specs.StepApply.{is_change, is_of_table, is_synced, has_synced, kept_snapshot, picks, picked}
 use Rattle.sky_model.specs.LawsOfApplying.{picked_of}
-use Rattle.sky_model.proofs.Legal.{Legal}
-use Rattle.sky_model.proofs.Snapshots.{sees-snapshot}
-use Rattle.sky_model.proofs.RowSights.{Since, legal-since}
+use Rattle.sky_histories.proofs.Legal.{Legal}
+use Rattle.sky_histories.proofs.Snapshots.{sees-snapshot}
+use Rattle.sky_histories.proofs.RowSights.{Since, legal-since}
 use Rattle.sky_model.proofs.Cases.{by_test}
-use Rattle.sky_model.proofs.RetriesBack.{all-by_id_onto}
+use Rattle.sky_histories.proofs.RetriesBack.{all-by_id_onto}
 use Rattle.sky_changes.specs.TableEvents as changes
 use Rattle.sky_changes.specs.TableEvents.{is_name, table_events, unseen_events}
 use Rattle.sky_changes.proofs.Places.{committed-then}

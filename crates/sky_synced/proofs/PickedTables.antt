@@ -31,12 +31,12 @@ use Rattle.sky_model.specs.DatabaseCalls.{DatabaseCall, stepped, entered, failed
 use Rattle.sky_model.specs.World.{history_in}
 use Rattle.sky_model.specs.Daemon.{daemon_does}
 use Rattle.sky_model.specs.Calls.{database_turn, Call, past_of}
-use Rattle.sky_model.proofs.ApplyCalls.{IsWritten, event-written}
-use Rattle.sky_model.proofs.InCopyTables.{leaf_table}
-use Rattle.sky_model.proofs.Histories.{histories_are_made_by_own_calls}
-use Rattle.sky_model.proofs.NodeCalls.{is_for_others, each-other}
-use Rattle.sky_model.proofs.Resting.{behind-append}
-use Rattle.sky_model.proofs.StatementMarks.{EachMark, each-map, each-rest, when-true}
+use Rattle.sky_histories.proofs.ApplyCalls.{IsWritten, event-written}
+use Rattle.sky_histories.proofs.InCopyTables.{leaf_table}
+use Rattle.sky_histories.proofs.Histories.{histories_are_made_by_own_calls}
+use Rattle.sky_histories.proofs.NodeCalls.{is_for_others, each-other}
+use Rattle.sky_histories.proofs.Resting.{behind-append}
+use Rattle.sky_histories.proofs.StatementMarks.{EachMark, each-map, each-rest, when-true}
 use Rattle.sky_model.proofs.Cases.{by_test}
 use Rattle.sky_replicas.proofs.SessionsMarks.{is_sessions, sessions-turn, sessions-enters, sessions-fails, sessions-daemon}
 

@@ -8,9 +8,9 @@ use Rattle.sky_model.specs.State.{Database, database_of}
 use Rattle.sky_model.specs.Outcome.{Outcome, Checked, answers}
 use Rattle.sky_model.specs.StepNode.{NodeCall, joining, parting, fetching, finishing, making_leaf, adding, removing, moving, listing, unlisting, ending_copy, applying, set_queue, lists, table_number, may_serve, call_form, node_does}
 use Rattle.sky_model.specs.World.{history_in, on_top}
-use Rattle.sky_model.proofs.CopyCalls.{gives-there}
-use Rattle.sky_model.proofs.NodeCalls.{is_for_consumers, is_consumers, gives-consumers}
-use Rattle.sky_model.proofs.StatementMarks.{EachMark, each-rest, each-given, when-true, Gives, gives-map, AnyReply, after, either}
+use Rattle.sky_histories.proofs.CopyCalls.{gives-there}
+use Rattle.sky_histories.proofs.NodeCalls.{is_for_consumers, is_consumers, gives-consumers}
+use Rattle.sky_histories.proofs.StatementMarks.{EachMark, each-rest, each-given, when-true, Gives, gives-map, AnyReply, after, either}
 use Rattle.sky_replicas.proofs.SessionsMarks.{is_sessions}
 use Rattle.sky_replicas.proofs.CallPasts.{call_marks, called, after_calls}
 use Rattle.sky_synced.proofs.Going.{MarkSuits, KeptGoes, suits-step}

@@ -18,12 +18,12 @@ use Rattle.sky_model.specs.Reader.{part_by_history}
 use Rattle.sky_model.specs.Settling.{marked}
 use Rattle.sky_model.specs.StepApply.{is_synced, may_apply, picked, applies_in, ends_applying, applies_picked, bad_event}
 use Rattle.sky_model.specs.StepNode.{applying, call_form}
-use Rattle.sky_model.proofs.Legal.{NodeFits, Fine, Legal}
-use Rattle.sky_model.proofs.InCopyTables.{leaf_table, may-allowed, is_past_copy}
-use Rattle.sky_model.proofs.ApplyCalls.{is_written, each-event}
-use Rattle.sky_model.proofs.ApplyingLaws.{picked-idle}
-use Rattle.sky_model.proofs.Resting.{behind-append}
-use Rattle.sky_model.proofs.StatementMarks.{EachMark, each-rest, when-true}
+use Rattle.sky_histories.proofs.Legal.{NodeFits, Fine, Legal}
+use Rattle.sky_histories.proofs.InCopyTables.{leaf_table, may-allowed, is_past_copy}
+use Rattle.sky_histories.proofs.ApplyCalls.{is_written, each-event}
+use Rattle.sky_histories.proofs.ApplyingLaws.{picked-idle}
+use Rattle.sky_histories.proofs.Resting.{behind-append}
+use Rattle.sky_histories.proofs.StatementMarks.{EachMark, each-rest, when-true}
 use Rattle.sky_model.proofs.Cases.{by_test}
 use Rattle.sky_changes.proofs.ListedTables.{fits-of}
 use Rattle.sky_replicas.proofs.CallPasts.{call_marks}

@@ -26,9 +26,9 @@ use Rattle.sky_model.specs.Reader.{shown_in, by_past, database_by_history, withi
 use Rattle.sky_model.specs.Settling.{Turn, turn_of, rests, ready, goes_on, settles, with_settling}
 use Rattle.sky_model.specs.World.{world_of, session_names, home, history_in}
 use Rattle.sky_model.specs.Calls.{form, making, statement, may_make, session_does, Call, called, answers_of, past_of}
-use Rattle.sky_model.proofs.Histories.{histories_are_made_by_own_calls, same-turn-within}
-use Rattle.sky_model.proofs.LockLaws.{nothing_is_ready}
-use Rattle.sky_model.proofs.Good.{same-session}
+use Rattle.sky_histories.proofs.Histories.{histories_are_made_by_own_calls, same-turn-within}
+use Rattle.sky_laws.proofs.LockLaws.{nothing_is_ready}
+use Rattle.sky_histories.proofs.Good.{same-session}
 use Rattle.sky_synced.specs.LawsOfSeen.{ScansPrintRowsShown, row_reply, GetsPrintRowsShown}
 
 -- ---- rows where a sight is just taken

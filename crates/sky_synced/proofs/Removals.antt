@@ -18,7 +18,7 @@ use Rattle.sky_model.specs.NodesOfWorld.{WorldOutcome}
 use Rattle.sky_model.specs.WorkersOfWorld.{move_facts, moves, parts_for, leaves_leaf, removes_from, remove_table}
 use Rattle.sky_model.specs.World.{World, world_of, history_in, on_top}
 use Rattle.sky_model.specs.Calls.{past_of}
-use Rattle.sky_model.proofs.NodeDeeds.{called-there}
+use Rattle.sky_histories.proofs.NodeDeeds.{called-there}
 use Rattle.sky_replicas.proofs.CallPasts.{call_marks, called, after_calls, on-move, history-called, histories-elsewhere, removing-marks}
 use Rattle.sky_replicas.proofs.Sources.{IsSource, source-is}
 use Rattle.sky_replicas.proofs.LeafTables.{IsOfferedTo, offered-to}

@@ -19,18 +19,18 @@ use Rattle.sky_model.specs.State.{part_of}
 use Rattle.sky_model.specs.StepNode.{is_in_copy, may_copy}
 use Rattle.sky_model.specs.Promises.{after_all}
 use Rattle.sky_model.specs.DatabaseCalls.{database_part}
-use Rattle.sky_model.proofs.Legal.{Fine, writes, copies_row, applies_row, begins_copy, ends, ends_work, ends_copy, guards, nodes, without_node, at_joining, at_leaving, Legal}
-use Rattle.sky_model.proofs.Snapshots.{Sound, sound, ender-unended}
-use Rattle.sky_model.proofs.Guarded.{IsUncopied, copied-by, copied-less}
-use Rattle.sky_model.proofs.Holders.{guarded-unwritten}
-use Rattle.sky_model.proofs.WrittenTables.{some, is-written, unwritten-by}
-use Rattle.sky_model.proofs.RowKeys.{begun}
-use Rattle.sky_model.proofs.RowWrites.{in_turn-push}
-use Rattle.sky_model.proofs.CopiesCovered.{rows-wrote}
-use Rattle.sky_model.proofs.NodeTables.{one-place}
-use Rattle.sky_model.proofs.NodeReadings.{leaf-stays}
-use Rattle.sky_model.proofs.InCopyTables.{leaf_table, IsInCopy, copies-in-copy, is_past_copy}
-use Rattle.sky_model.proofs.Histories.{legal_calls, rests_calls, stands_calls}
+use Rattle.sky_histories.proofs.Legal.{Fine, writes, copies_row, applies_row, begins_copy, ends, ends_work, ends_copy, guards, nodes, without_node, at_joining, at_leaving, Legal}
+use Rattle.sky_histories.proofs.Snapshots.{Sound, sound, ender-unended}
+use Rattle.sky_histories.proofs.Guarded.{IsUncopied, copied-by, copied-less}
+use Rattle.sky_histories.proofs.Holders.{guarded-unwritten}
+use Rattle.sky_histories.proofs.WrittenTables.{some, is-written, unwritten-by}
+use Rattle.sky_histories.proofs.RowKeys.{begun}
+use Rattle.sky_histories.proofs.RowWrites.{in_turn-push}
+use Rattle.sky_histories.proofs.CopiesCovered.{rows-wrote}
+use Rattle.sky_histories.proofs.NodeTables.{one-place}
+use Rattle.sky_histories.proofs.NodeReadings.{leaf-stays}
+use Rattle.sky_histories.proofs.InCopyTables.{leaf_table, IsInCopy, copies-in-copy, is_past_copy}
+use Rattle.sky_histories.proofs.Histories.{legal_calls, rests_calls, stands_calls}
 use Rattle.sky_model.proofs.Cases.{by_test, by_same}
 use Rattle.sky_changes.proofs.ListedTables.{among-one}
 use Rattle.sky_replicas.proofs.KeptRows.{uncopied-push}

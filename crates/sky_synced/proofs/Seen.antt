@@ -13,14 +13,14 @@ use Rattle.sky_model.specs.World.{history_in}
 use Rattle.sky_model.specs.Calls.{Call, past_of}
 use Rattle.sky_model.specs.Steps.{IsCallInForm}
 use Rattle.sky_model.specs.HistoryPlaces.{IsPlace}
-use Rattle.sky_model.proofs.Legal.{Legal}
-use Rattle.sky_model.proofs.Snapshots.{own-unended}
-use Rattle.sky_model.proofs.SnapshotLaws.{legal_place}
-use Rattle.sky_model.proofs.RowSights.{Since, place-since}
-use Rattle.sky_model.proofs.WrittenTables.{some, is-written}
-use Rattle.sky_model.proofs.NodeLaws.{leaf_tables_are_read_only}
-use Rattle.sky_model.proofs.WritableTables.{read_only_tables_are_unwritten}
-use Rattle.sky_model.proofs.Histories.{histories_are_made_by_own_calls, world_place}
+use Rattle.sky_histories.proofs.Legal.{Legal}
+use Rattle.sky_histories.proofs.Snapshots.{own-unended}
+use Rattle.sky_histories.proofs.SnapshotLaws.{legal_place}
+use Rattle.sky_histories.proofs.RowSights.{Since, place-since}
+use Rattle.sky_histories.proofs.WrittenTables.{some, is-written}
+use Rattle.sky_laws.proofs.NodeLaws.{leaf_tables_are_read_only}
+use Rattle.sky_laws.proofs.WritableTables.{read_only_tables_are_unwritten}
+use Rattle.sky_histories.proofs.Histories.{histories_are_made_by_own_calls, world_place}
 use Rattle.sky_changes.proofs.ListedTables.{place-kept, among-one}
 use Rattle.sky_synced.specs.LawsOfSynced.{ShowsProvider}
 use Rattle.sky_synced.specs.LawsOfSeen.{provided_rows, SessionsSeeReplicas}

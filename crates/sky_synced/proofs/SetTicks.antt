@@ -15,17 +15,17 @@ use Rattle.sky_model.specs.State.{database_of, queue_of}
 use Rattle.sky_model.specs.StepQueue.{newest_id}
 use Rattle.sky_model.specs.StepNode.{set_queue}
 use Rattle.sky_model.specs.CopyMoves.{newest_of, covers, has_caught_up}
-use Rattle.sky_model.proofs.Legal.{Legal, IsQueue, queue_of_set}
-use Rattle.sky_model.proofs.Snapshots.{sound, sees-snapshot}
-use Rattle.sky_model.proofs.Ticks.{snapshot-at_tick}
-use Rattle.sky_model.proofs.TickOrder.{is_made, is_made-tick}
-use Rattle.sky_model.proofs.KeptTicks.{cuts, above-is, newest-kept, kept-made, cut}
-use Rattle.sky_model.proofs.QueueNumbers.{among-number}
-use Rattle.sky_model.proofs.NodeReadings.{set-number}
-use Rattle.sky_model.proofs.RowSights.{Since, here, later, legal-since}
+use Rattle.sky_histories.proofs.Legal.{Legal, IsQueue, queue_of_set}
+use Rattle.sky_histories.proofs.Snapshots.{sound, sees-snapshot}
+use Rattle.sky_histories.proofs.Ticks.{snapshot-at_tick}
+use Rattle.sky_histories.proofs.TickOrder.{is_made, is_made-tick}
+use Rattle.sky_histories.proofs.KeptTicks.{cuts, above-is, newest-kept, kept-made, cut}
+use Rattle.sky_histories.proofs.QueueNumbers.{among-number}
+use Rattle.sky_histories.proofs.NodeReadings.{set-number}
+use Rattle.sky_histories.proofs.RowSights.{Since, here, later, legal-since}
 use Rattle.sky_model.proofs.Cases.{by_test, by_same}
-use Rattle.sky_model.proofs.Listings.{made_since}
-use Rattle.sky_model.proofs.Good.{same-session}
+use Rattle.sky_laws.proofs.Listings.{made_since}
+use Rattle.sky_histories.proofs.Good.{same-session}
 use Rattle.sky_changes.specs.Listing.{later_of}
 use Rattle.sky_changes.proofs.Places.{length-since}
 use Rattle.sky_changes.proofs.TickPlaces.{tick-since}

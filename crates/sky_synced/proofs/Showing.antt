@@ -25,11 +25,11 @@ use Rattle.sky_model.specs.Promises.{after_all}
 use Rattle.sky_model.specs.DatabaseCalls.{DatabaseCall, database_part}
 use Rattle.sky_model.specs.HistoryPlaces.{IsPlace}
 use Rattle.sky_model.specs.LawsOfApplying.{picked_of, IsApplied}
-use Rattle.sky_model.proofs.ApplyingLaws.{batches_put_their_events, good_batches_are_applied}
-use Rattle.sky_model.proofs.SnapshotLaws.{legal_place}
-use Rattle.sky_model.proofs.TickOrder.{is_made, is_made-tick}
-use Rattle.sky_model.proofs.RowSights.{Since, here, later, ended-since}
-use Rattle.sky_model.proofs.Listings.{made_since}
+use Rattle.sky_histories.proofs.ApplyingLaws.{batches_put_their_events, good_batches_are_applied}
+use Rattle.sky_histories.proofs.SnapshotLaws.{legal_place}
+use Rattle.sky_histories.proofs.TickOrder.{is_made, is_made-tick}
+use Rattle.sky_histories.proofs.RowSights.{Since, here, later, ended-since}
+use Rattle.sky_laws.proofs.Listings.{made_since}
 use Rattle.sky_changes.specs.Listing.{later_of, StaysListed, is_unlisting}
 use Rattle.sky_changes.specs.TableEvents.{table_events, unseen_events}
 use Rattle.sky_changes.specs.LawsOfChanges.{Give}

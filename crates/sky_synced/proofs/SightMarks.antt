@@ -38,9 +38,9 @@ use Rattle.sky_model.specs.Settling.{Turn, turn_of, behind_marks, resumed, ready
 use Rattle.sky_model.specs.Daemon.{daemon_does}
 use Rattle.sky_model.specs.StepNode.{NodeCall, node_does}
 use Rattle.sky_model.specs.Calls.{row_form, form, making, statement, database_turn}
-use Rattle.sky_model.proofs.StatementMarks.{EachMark, each-append, Gives, AnyReply, after, checked, either, gives-tick, gives-tells, gives-first, each-switch_of, each-second_steps}
-use Rattle.sky_model.proofs.DaemonTurns.{each-daemon_does}
-use Rattle.sky_model.proofs.NodeCalls.{is_for_nodes, each-node}
+use Rattle.sky_histories.proofs.StatementMarks.{EachMark, each-append, Gives, AnyReply, after, checked, either, gives-tick, gives-tells, gives-first, each-switch_of, each-second_steps}
+use Rattle.sky_histories.proofs.DaemonTurns.{each-daemon_does}
+use Rattle.sky_histories.proofs.NodeCalls.{is_for_nodes, each-node}
 use Rattle.sky_model.proofs.Cases.{by_test, by_block}
 
 -- whether a mark isn't one by which a session takes its sight

@@ -16,11 +16,11 @@ use Rattle.sky_model.specs.StepNode.{NodeCall, node_does}
 use Rattle.sky_model.specs.NodesOfWorld.{node_called}
 use Rattle.sky_model.specs.World.{world_of, session_names, database_names, home, history_in, on_top}
 use Rattle.sky_model.specs.Calls.{opening, opens, outside_does, may_make, beside, database_turn, gets_node, node_if, does_at, session_does, turn, Call, called, past_of}
-use Rattle.sky_model.proofs.Histories.{same-turn-within, same-daemon-within}
-use Rattle.sky_model.proofs.PastHistories.{on_top-append, history-marks, AreOutside, history-outside, beside-outside}
-use Rattle.sky_model.proofs.ClockSteps.{after-clock}
-use Rattle.sky_model.proofs.NodeDeeds.{node-quiet, after-node_does}
-use Rattle.sky_model.proofs.StatementMarks.{EachMark, each-rest, when-true}
+use Rattle.sky_histories.proofs.Histories.{same-turn-within, same-daemon-within}
+use Rattle.sky_histories.proofs.PastHistories.{on_top-append, history-marks, AreOutside, history-outside, beside-outside}
+use Rattle.sky_histories.proofs.ClockSteps.{after-clock}
+use Rattle.sky_histories.proofs.NodeDeeds.{node-quiet, after-node_does}
+use Rattle.sky_histories.proofs.StatementMarks.{EachMark, each-rest, when-true}
 use Rattle.sky_model.proofs.Cases.{by_test}
 use Rattle.sky_synced.specs.LawsOfSeen.{SeesAfter, SightsAreAfterCalls}
 use Rattle.sky_synced.proofs.SightMarks.{takes_none, LooksFirst, with_look, without_look, looks-turn, none-daemon, none-node}

@@ -34,10 +34,10 @@ use Rattle.sky_model.specs.NodesOfWorld.{WorldOutcome, node_called, done_in, lea
 use Rattle.sky_model.specs.WorkersOfWorld.{call_facts, calls_facts, move_facts, moves, source, source_alike, leaf_table as leafs_table, restarts, restarting, provider_of, leaf_steps, parts_for, leaves_leaf, removes_from, node_form}
 use Rattle.sky_model.specs.World.{World, world_of, after_facts, history_in, on_top}
 use Rattle.sky_model.specs.Calls.{Call, past_of}
-use Rattle.sky_model.proofs.ApplyCalls.{is_for_applying, gives-applies}
-use Rattle.sky_model.proofs.NodeCalls.{is_for_consumers, is_consumers, gives-consumers}
-use Rattle.sky_model.proofs.CopyCalls.{is_for_copies, is_copies, gives-there, gives-copies}
-use Rattle.sky_model.proofs.StatementMarks.{EachMark, each-rest, each-given, when-true, Gives, gives-map, AnyReply, after, either}
+use Rattle.sky_histories.proofs.ApplyCalls.{is_for_applying, gives-applies}
+use Rattle.sky_histories.proofs.NodeCalls.{is_for_consumers, is_consumers, gives-consumers}
+use Rattle.sky_histories.proofs.CopyCalls.{is_for_copies, is_copies, gives-there, gives-copies}
+use Rattle.sky_histories.proofs.StatementMarks.{EachMark, each-rest, each-given, when-true, Gives, gives-map, AnyReply, after, either}
 use Rattle.sky_model.proofs.Cases.{by_test, ok-then}
 use Rattle.sky_replicas.proofs.SessionsMarks.{is_sessions}
 use Rattle.sky_replicas.proofs.EachCall.{is_beside, after-calls}

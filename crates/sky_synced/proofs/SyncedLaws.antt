@@ -16,7 +16,7 @@ use Rattle.sky_model.specs.NodesOfWorld.{node_called}
 use Rattle.sky_model.specs.World.{world_of, history_in, hands, batches}
 use Rattle.sky_model.specs.Calls.{Call, past_of}
 use Rattle.sky_model.specs.Steps.{IsCallInForm}
-use Rattle.sky_model.proofs.InCopyTables.{leaf_table, is_past_copy}
+use Rattle.sky_histories.proofs.InCopyTables.{leaf_table, is_past_copy}
 use Rattle.sky_replicas.proofs.NodeNames.{source_of}
 use Rattle.sky_replicas.proofs.KeptCalls.{HasSource, has-source}
 use Rattle.sky_replicas.proofs.ProvidedCalls.{from-found, found-database}

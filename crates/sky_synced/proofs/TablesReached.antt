@@ -4,7 +4,7 @@ use Rattle.sky_model.specs.History.{History}
 use Rattle.sky_model.specs.Nodes.{node}
 use Rattle.sky_model.specs.World.{history_in}
 use Rattle.sky_model.specs.Calls.{past_of}
-use Rattle.sky_model.proofs.InCopyTables.{leaf_table}
+use Rattle.sky_histories.proofs.InCopyTables.{leaf_table}
 use Rattle.sky_synced.specs.Tables.{tick_in}
 use Rattle.sky_synced.specs.LawsOfChanges.{reached, TablesHaveReachedTheirTicks, AppliedBatchesLeadOn}
 use Rattle.sky_synced.proofs.ChangedTables.{leafs_tick, table-named}

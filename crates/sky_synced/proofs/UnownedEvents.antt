@@ -19,7 +19,7 @@ use Rattle.sky_model.specs.World.{world_of, history_in, hands, batches}
 use Rattle.sky_model.specs.Calls.{Call, past_of}
 use Rattle.sky_model.specs.Steps.{IsCallInForm}
 use Rattle.sky_model.specs.LawsOfHistories.{IsMadeByOwnCalls}
-use Rattle.sky_model.proofs.Histories.{histories_are_made_by_own_calls}
+use Rattle.sky_histories.proofs.Histories.{histories_are_made_by_own_calls}
 use Rattle.sky_synced.specs.Tables.{has_own_tick}
 use Rattle.sky_synced.specs.LawsOfFollowing.{Follows}
 use Rattle.sky_synced.specs.LawsOfOwners.{set_consumers}

@@ -6,7 +6,7 @@ use Rattle.std.specs.Fmt.{digits}
 use Rattle.form_urlencoded.specs.Form.{byte_serialize}
 use Rattle.percent_encoding.specs.Percent.{percent_decode}
 use Rattle.sky_model.specs.Moment.{moment, day_after, last_digits}
-use Rattle.sky_model.proofs.WorkedScripts.{Prints}
+use Rattle.sky_laws.proofs.WorkedScripts.{Prints}
 
 -- a repeatable read block of a replica's database, while a batch is applied there and the table leaves its leaf and is written
 abbrev pub script : List (List ℕ)

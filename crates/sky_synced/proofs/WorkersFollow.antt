@@ -16,11 +16,11 @@ use Rattle.sky_model.specs.NodesOfWorld.{Located, node_called}
 use Rattle.sky_model.specs.World.{world_of, history_in, nodes, hands, batches}
 use Rattle.sky_model.specs.Calls.{Call, past_of}
 use Rattle.sky_model.specs.Steps.{IsCallInForm}
-use Rattle.sky_model.proofs.Legal.{Legal}
-use Rattle.sky_model.proofs.Histories.{legal_past}
-use Rattle.sky_model.proofs.TickOrder.{is_made-tick}
-use Rattle.sky_model.proofs.KeptTicks.{position-later}
-use Rattle.sky_model.proofs.InCopyTables.{found-named}
+use Rattle.sky_histories.proofs.Legal.{Legal}
+use Rattle.sky_histories.proofs.Histories.{legal_past}
+use Rattle.sky_histories.proofs.TickOrder.{is_made-tick}
+use Rattle.sky_histories.proofs.KeptTicks.{position-later}
+use Rattle.sky_histories.proofs.InCopyTables.{found-named}
 use Rattle.sky_replicas.proofs.NodeNames.{provider_of, database_among, names_in, source_of, called-database}
 use Rattle.sky_synced.specs.Tables.{has_own_tick}
 use Rattle.sky_synced.specs.LawsOfFollowing.{IsActive, Follows, LeavesFollow, CopiesFollow}

@@ -10,9 +10,9 @@ use Rattle.sky_model.specs.StepApply.{may_apply, picked, bad_event}
 use Rattle.sky_model.specs.StepNode.{NodeCall, fetching, applying, node_does}
 use Rattle.sky_model.specs.WorkerMoves.{Move}
 use Rattle.sky_model.specs.BatchMoves.{Follower, events_of_batch, has_applied, applies_in_hand, skips_in_hand, finishes_in_hand, taken, takes, takes_next, goes_through}
-use Rattle.sky_model.proofs.Legal.{Legal}
-use Rattle.sky_model.proofs.StatementMarks.{EachMark}
-use Rattle.sky_model.proofs.PendingOwners.{legal-before}
+use Rattle.sky_histories.proofs.Legal.{Legal}
+use Rattle.sky_histories.proofs.StatementMarks.{EachMark}
+use Rattle.sky_laws.proofs.PendingOwners.{legal-before}
 use Rattle.sky_synced.proofs.Following.{spares, Following, following-marks}
 use Rattle.sky_synced.proofs.FollowingCalls.{after_call, spares-fetching, following-fetched, following-applied, following-skipped, following-finished, spares-finishing}
 use Rattle.sky_synced.proofs.LeafFollows.{KeptAt}

@@ -8,8 +8,8 @@ use Rattle.sky_model.specs.Settling.{ready}
 use Rattle.sky_model.specs.StepNode.{NodeCall, node_does}
 use Rattle.sky_model.specs.World.{World, after_facts}
 use Rattle.sky_model.specs.WorkersOfWorld.{call_facts, calls_facts}
-use Rattle.sky_model.proofs.DatabaseStanding.{after_marks-append}
-use Rattle.sky_model.proofs.Good.{same-session}
+use Rattle.sky_histories.proofs.DatabaseStanding.{after_marks-append}
+use Rattle.sky_histories.proofs.Good.{same-session}
 use Rattle.londiste_batches.specs.Moved.{after_call, after_calls}
 use Rattle.sky_world.proofs.Worlds.{after_facts-within}
 use Rattle.sky_world.proofs.Resting.{ready-call}

@@ -15,8 +15,8 @@ use Rattle.sky_model.specs.Settling.{Turn}
 use Rattle.sky_model.specs.Daemon.{daemon_does, is_due_at}
 use Rattle.sky_model.specs.Clock.{deed_in, part_works, daemon_works}
 use Rattle.sky_model.specs.Calls.{of_daemon_if}
-use Rattle.sky_model.proofs.Good.{same-session}
-use Rattle.sky_model.proofs.DaemonTurns.{same-daemon_does}
+use Rattle.sky_histories.proofs.Good.{same-session}
+use Rattle.sky_histories.proofs.DaemonTurns.{same-daemon_does}
 use Rattle.pgq_db.specs.Views.{DbView}
 use Rattle.pgq_db.specs.Seen.{seen_database}
 use Rattle.sky_world.specs.Views.{WorldView}

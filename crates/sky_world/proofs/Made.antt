@@ -7,7 +7,7 @@ use Rattle.sky_model.specs.State.{Database, database_of}
 use Rattle.sky_model.specs.Settling.{Turn}
 use Rattle.sky_model.specs.DatabaseCalls.{DatabaseCall, IsDatabaseCallInForm}
 use Rattle.sky_model.specs.DatabaseSteps.{DatabaseSteps, IsMade}
-use Rattle.sky_model.proofs.MadeCopies.{made-after}
+use Rattle.sky_histories.proofs.MadeCopies.{made-after}
 use Rattle.pgq_db.specs.Views.{DbView}
 use Rattle.pgq_db.specs.Seen.{seen_database, no_database}
 use Rattle.sky_world.specs.Made.{AllMade}

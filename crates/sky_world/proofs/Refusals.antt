@@ -21,9 +21,9 @@ use Rattle.sky_model.specs.Clock.{deed_in}
 use Rattle.sky_model.specs.Allowed.{where_of, allowed}
 use Rattle.sky_model.specs.Calls.{making, database_turn, may_make, of_daemon_if, session_does}
 use Rattle.sky_keys.specs.Waits.{is_waiting}
-use Rattle.sky_model.proofs.RowStanding.{turn-within}
-use Rattle.sky_model.proofs.Resting.{settling-none}
-use Rattle.sky_model.proofs.DatabaseResting.{database-keeps}
+use Rattle.sky_histories.proofs.RowStanding.{turn-within}
+use Rattle.sky_histories.proofs.Resting.{settling-none}
+use Rattle.sky_histories.proofs.DatabaseResting.{database-keeps}
 use Rattle.sky_world.specs.Views.{WorldView}
 use Rattle.sky_world.specs.Seen.{seen_world}
 use Rattle.sky_world.specs.Adds.{AddsDeed}

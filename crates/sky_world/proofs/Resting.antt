@@ -10,10 +10,10 @@ use Rattle.sky_model.specs.Reader.{database_by_itself}
 use Rattle.sky_model.specs.Settling.{ready}
 use Rattle.sky_model.specs.Daemon.{daemon_does}
 use Rattle.sky_model.specs.StepNode.{NodeCall, node_does}
-use Rattle.sky_model.proofs.RowStanding.{part-behind}
-use Rattle.sky_model.proofs.StatementMarks.{EachMark}
-use Rattle.sky_model.proofs.DaemonTurns.{each-daemon_does}
-use Rattle.sky_model.proofs.NodeCalls.{is_for_nodes, each-node}
+use Rattle.sky_histories.proofs.RowStanding.{part-behind}
+use Rattle.sky_histories.proofs.StatementMarks.{EachMark}
+use Rattle.sky_histories.proofs.DaemonTurns.{each-daemon_does}
+use Rattle.sky_histories.proofs.NodeCalls.{is_for_nodes, each-node}
 use Rattle.pgq_db.specs.Views.{DbView}
 use Rattle.pgq_db.specs.Seen.{seen_database, no_database}
 use Rattle.pgq_db.specs.Served.{Serves}

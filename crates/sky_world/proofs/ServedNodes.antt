@@ -34,11 +34,11 @@ use Rattle.sky_model.specs.StepNode.{set_queue, set_queue_of, joins, lists, unli
 use Rattle.sky_model.specs.NodesOfWorld.{WorldOutcome, Located, node_called, done_in, leaf_of, provides, are_columns, columns_called, adds_to, add_table, first_user}
 use Rattle.sky_model.specs.WorkersOfWorld.{call_facts, moves, source, leaves_leaf, removes_from, remove_table, node_form}
 use Rattle.sky_model.specs.Calls.{database_turn, world_does, node_stmt_does, gets_node, node_if, roots_in, root_does, session_does}
-use Rattle.sky_model.proofs.Good.{same-session}
-use Rattle.sky_model.proofs.RowStanding.{part-behind}
-use Rattle.sky_model.proofs.StatementMarks.{EachMark}
-use Rattle.sky_model.proofs.NodeCalls.{is_for_nodes, each-node}
-use Rattle.sky_model.proofs.NodeDeeds.{called-there, is-served, may-list, may-add, may-unlist}
+use Rattle.sky_histories.proofs.Good.{same-session}
+use Rattle.sky_histories.proofs.RowStanding.{part-behind}
+use Rattle.sky_histories.proofs.StatementMarks.{EachMark}
+use Rattle.sky_histories.proofs.NodeCalls.{is_for_nodes, each-node}
+use Rattle.sky_histories.proofs.NodeDeeds.{called-there, is-served, may-list, may-add, may-unlist}
 use Rattle.pgq_db.specs.Views.{DbView}
 use Rattle.pgq_db.specs.Seen.{seen_database}
 use Rattle.pgq_db.specs.Served.{Serves}

@@ -33,7 +33,7 @@ use Rattle.pgq_db.specs.declared.faults.WorkerFault.TheVariants as fault
 use Rattle.londiste_batches.specs.Moved.{after_call, after_calls, MovesAs, MovesBy, MoveRefused}
 use Rattle.sky_model.specs.Daemon.{quietly}
 use Rattle.sky_model.specs.DatabaseCalls.{served}
-use Rattle.sky_model.proofs.MadeCopies.{made-after}
+use Rattle.sky_histories.proofs.MadeCopies.{made-after}
 use Rattle.pgq_db.proofs.NodeSteps.{serves-steps}
 use Rattle.sky_world.specs.Hands.{HandAt, hand_at, batch_at}
 use Rattle.sky_world.specs.Views.{WorldView}

@@ -24,8 +24,8 @@ use Rattle.sky_model.specs.Settling.{Turn}
 use Rattle.sky_model.specs.Clock.{deed_in}
 use Rattle.sky_model.specs.Calls.{Call, database_turn, opening, is_leaving, left_if, may_make, beside, of_daemon_if, opens_in, opens, session_does, turn, called}
 use Rattle.sky_model.specs.Steps.{Steps, deed_at}
-use Rattle.sky_model.proofs.Standing.{steps_from_exact}
-use Rattle.sky_model.proofs.RowStanding.{turn-within}
+use Rattle.sky_histories.proofs.Standing.{steps_from_exact}
+use Rattle.sky_histories.proofs.RowStanding.{turn-within}
 use Rattle.pgq_db.specs.Views.{DbView}
 use Rattle.pgq_db.specs.Seen.{seen_database, no_database}
 use Rattle.pgq_db.specs.Waiters.{WaitersWithin, StaysWithin}

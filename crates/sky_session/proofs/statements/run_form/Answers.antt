@@ -3,7 +3,7 @@ use Rattle.std.proofs.Common.{sym, subst}
 use Rattle.sky_model.specs.ShownRows.{rows_by}
 use Rattle.sky_model.specs.StepRows.{get}
 use Rattle.sky_model.specs.Calls.{row_form}
-use Rattle.sky_model.proofs.GatedLemmas.{plain-get}
+use Rattle.sky_histories.proofs.GatedLemmas.{plain-get}
 use Rattle.sky_session.specs.Gives.{Writes}
 use Rattle.sky_state.specs.Seen.{seen}
 use Rattle.sky_model.specs.InForm.{IsRowInForm}

@@ -1,7 +1,7 @@
 use Rattle.std.proofs.Common.{sym, ◌∙◌, ap, option_map}
 use Rattle.std.specs.Global.{Global}
 use Rattle.std.specs.declared.vec.Vec.{Vec}
-use Rattle.sky_model.proofs.DatabaseStanding.{shows-events}
+use Rattle.sky_histories.proofs.DatabaseStanding.{shows-events}
 use Rattle.sky_val.specs.declared.event.Event.{Event}
 use Rattle.pgq_db.specs.Seen.{seen_database}
 use Rattle.pgq_db.proofs.ProviderSteps.{shows-not}

@@ -5,7 +5,7 @@ use Rattle.sky_model.specs.declared.daemon.DaemonPart.TheVariants.{Tick, Retry, 
 use Rattle.sky_model.specs.Reader.{database_by_itself}
 use Rattle.sky_model.specs.Daemon.{daemon_does}
 use Rattle.sky_model.specs.DatabaseCalls.{worked}
-use Rattle.sky_model.proofs.DatabaseStanding.{database_steps_from_exact}
+use Rattle.sky_histories.proofs.DatabaseStanding.{database_steps_from_exact}
 use Rattle.pgq_db.specs.Seen.{seen_database}
 use Rattle.pgq_db.proofs.Daemons.{ticks_end, retries_end, daemon-waits}
 use Rattle.pgq_db.proofs.db.Db.daemon.Goals as goal

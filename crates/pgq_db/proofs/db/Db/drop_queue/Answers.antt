@@ -4,7 +4,7 @@ use Rattle.sky_model.specs.Triggers.{TableTrigger}
 use Rattle.sky_model.specs.State.{Queue}
 use Rattle.sky_model.specs.StepQueue.{shown_name}
 use Rattle.sky_model.specs.declared.reply.Refusal.TheVariants.{HasTriggers}
-use Rattle.sky_model.proofs.Unneeded.{none-into}
+use Rattle.sky_histories.proofs.Unneeded.{none-into}
 use Rattle.pgq_queues.specs.Seen.{queue_at}
 use Rattle.pgq_db.specs.Views.{DbView}
 use Rattle.pgq_db.specs.Seen.{seen_database}

@@ -2,7 +2,7 @@ use Rattle.std.proofs.Common.{sym, w64, to_z, of_z, append-nil, arith}
 use Rattle.std.proofs.lemmas.Int.{to_z-of_z}
 use Rattle.sky_model.specs.SessionMarks.{failing}
 use Rattle.sky_model.specs.DatabaseCalls.{failed}
-use Rattle.sky_model.proofs.DatabaseStanding.{database_steps_from_exact}
+use Rattle.sky_histories.proofs.DatabaseStanding.{database_steps_from_exact}
 use Rattle.pgq_db.specs.Seen.{seen_database}
 use Rattle.pgq_db.proofs.Databases.{adds-then}
 use Rattle.pgq_db.proofs.Moments.{then-moments}

@@ -3,7 +3,7 @@ use Rattle.sky_model.specs.OwnTransaction.{next_id}
 use Rattle.sky_model.specs.WorkerMarks.{beginning}
 use Rattle.sky_model.specs.RowCalls.{worker_begun}
 use Rattle.sky_model.specs.RowSteps.{RowSteps}
-use Rattle.sky_model.proofs.RowCallStanding.{begin_worker_from_exact}
+use Rattle.sky_histories.proofs.RowCallStanding.{begin_worker_from_exact}
 use Rattle.sky_state.specs.Views.{RowStateView}
 use Rattle.sky_state.specs.Seen.{seen}
 use Rattle.sky_session.proofs.row_db.RowDb.begin_worker.Goals as goal

@@ -2,7 +2,7 @@ use Rattle.std.proofs.Common.{subst}
 use Rattle.sky_model.specs.SessionMarks.{ending}
 use Rattle.sky_model.specs.RowCalls.{single_ended}
 use Rattle.sky_model.specs.RowSteps.{RowSteps}
-use Rattle.sky_model.proofs.RowCallStanding.{end_single_from_exact}
+use Rattle.sky_histories.proofs.RowCallStanding.{end_single_from_exact}
 use Rattle.sky_state.specs.Views.{RowStateView}
 use Rattle.sky_state.specs.Seen.{seen}
 use Rattle.sky_session.proofs.row_db.RowDb.end_single.Goals as goal

@@ -3,7 +3,7 @@ use Rattle.sky_txid.specs.Ids.{contains}
 use Rattle.sky_model.specs.WorkerMarks.{ending_work}
 use Rattle.sky_model.specs.RowCalls.{worker_ended}
 use Rattle.sky_model.specs.RowSteps.{RowSteps}
-use Rattle.sky_model.proofs.RowCallStanding.{end_worker_from_exact}
+use Rattle.sky_histories.proofs.RowCallStanding.{end_worker_from_exact}
 use Rattle.sky_state.specs.Views.{RowStateView}
 use Rattle.sky_state.specs.Seen.{seen}
 use Rattle.sky_session.proofs.row_db.RowDb.end_worker.Goals as goal

@@ -2,7 +2,7 @@
 use Rattle.sky_model.specs.SessionMarks.{failing}
 use Rattle.sky_model.specs.Rooms.{any_room}
 use Rattle.sky_model.specs.RowCalls.{row_failed}
-use Rattle.sky_model.proofs.GatedLemmas.{open-with_settling}
+use Rattle.sky_histories.proofs.GatedLemmas.{open-with_settling}
 use Rattle.sky_state.specs.Seen.{seen}
 use Rattle.sky_session.proofs.Steps.{gives-all}
 use Rattle.sky_session.proofs.row_db.RowDb.fail.Goals as goal

@@ -6,7 +6,7 @@ use Rattle.sky_model.specs.Reader.{part_by_itself}
 use Rattle.sky_model.specs.Gates.{by_gate}
 use Rattle.sky_model.specs.Rooms.{room_of}
 use Rattle.sky_model.specs.RowCalls.{row_failed}
-use Rattle.sky_model.proofs.RowCallStanding.{gated_fail_from_exact}
+use Rattle.sky_histories.proofs.RowCallStanding.{gated_fail_from_exact}
 use Rattle.sky_session.specs.declared.answer.RowStep.{RowStep}
 use Rattle.sky_session.specs.Gives.{Adds, Settles}
 use Rattle.sky_state.specs.Views.{RowStateView}

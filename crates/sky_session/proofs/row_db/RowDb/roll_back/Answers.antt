@@ -2,7 +2,7 @@ use Rattle.std.proofs.Common.{subst}
 use Rattle.sky_model.specs.SessionMarks.{failing}
 use Rattle.sky_model.specs.RowCalls.{rolled_back}
 use Rattle.sky_model.specs.RowSteps.{RowSteps}
-use Rattle.sky_model.proofs.RowCallStanding.{roll_back_from_exact}
+use Rattle.sky_histories.proofs.RowCallStanding.{roll_back_from_exact}
 use Rattle.sky_state.specs.Views.{RowStateView}
 use Rattle.sky_state.specs.Seen.{seen}
 use Rattle.sky_session.proofs.row_db.RowDb.roll_back.Goals as goal

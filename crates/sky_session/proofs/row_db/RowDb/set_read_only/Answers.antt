@@ -2,7 +2,7 @@ use Rattle.std.proofs.Common.{subst}
 use Rattle.sky_model.specs.WorkerMarks.{guarding}
 use Rattle.sky_model.specs.RowCalls.{row_guarded}
 use Rattle.sky_model.specs.RowSteps.{RowSteps}
-use Rattle.sky_model.proofs.RowCallStanding.{guard_from_exact}
+use Rattle.sky_histories.proofs.RowCallStanding.{guard_from_exact}
 use Rattle.sky_state.specs.Views.{RowStateView}
 use Rattle.sky_state.specs.Seen.{seen}
 use Rattle.sky_session.proofs.row_db.RowDb.set_read_only.Goals as goal

@@ -4,7 +4,7 @@ use Rattle.sky_model.specs.Reader.{part_by_itself}
 use Rattle.sky_model.specs.Gates.{by_gate}
 use Rattle.sky_model.specs.Rooms.{room_of}
 use Rattle.sky_model.specs.RowCalls.{row_settled}
-use Rattle.sky_model.proofs.RowCallStanding.{gated_settle_from_exact}
+use Rattle.sky_histories.proofs.RowCallStanding.{gated_settle_from_exact}
 use Rattle.sky_session.specs.Gives.{Settles}
 use Rattle.sky_state.specs.Views.{RowStateView}
 use Rattle.sky_state.specs.Seen.{seen}

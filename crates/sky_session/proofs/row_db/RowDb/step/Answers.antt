@@ -1,7 +1,7 @@
 -- The same as with a gate that always has room.
 use Rattle.sky_model.specs.Rooms.{any_room}
 use Rattle.sky_model.specs.RowCalls.{row_stepped}
-use Rattle.sky_model.proofs.GatedLemmas.{open-turn}
+use Rattle.sky_histories.proofs.GatedLemmas.{open-turn}
 use Rattle.sky_state.specs.Seen.{seen}
 use Rattle.sky_session.proofs.Steps.{gives-all}
 use Rattle.sky_session.proofs.row_db.RowDb.step.Goals as goal

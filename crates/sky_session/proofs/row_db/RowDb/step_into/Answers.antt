@@ -6,7 +6,7 @@ use Rattle.sky_model.specs.Gates.{by_gate}
 use Rattle.sky_model.specs.Rooms.{room_of}
 use Rattle.sky_model.specs.RowCalls.{row_stepped}
 use Rattle.sky_model.specs.Calls.{row_statement, row_turn}
-use Rattle.sky_model.proofs.RowCallStanding.{gated_step_from_exact}
+use Rattle.sky_histories.proofs.RowCallStanding.{gated_step_from_exact}
 use Rattle.sky_session.specs.Gives.{Adds, Settles}
 use Rattle.sky_state.specs.Views.{RowStateView}
 use Rattle.sky_state.specs.Seen.{seen}

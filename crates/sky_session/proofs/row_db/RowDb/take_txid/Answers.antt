@@ -3,7 +3,7 @@ use Rattle.sky_model.specs.OwnTransaction.{txid_for}
 use Rattle.sky_model.specs.SessionMarks.{taking}
 use Rattle.sky_model.specs.RowCalls.{txid_taken}
 use Rattle.sky_model.specs.RowSteps.{RowSteps}
-use Rattle.sky_model.proofs.RowCallStanding.{take_txid_from_exact, no_txid_from_exact}
+use Rattle.sky_histories.proofs.RowCallStanding.{take_txid_from_exact, no_txid_from_exact}
 use Rattle.sky_state.specs.Views.{RowStateView}
 use Rattle.sky_state.specs.Seen.{seen}
 use Rattle.sky_session.proofs.row_db.RowDb.take_txid.Goals as goal

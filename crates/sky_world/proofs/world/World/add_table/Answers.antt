@@ -4,7 +4,7 @@ use Rattle.sky_model.specs.declared.reply.Reply.TheVariants.{Done}
 use Rattle.sky_model.specs.Outcome.{Checked, ◌>>=◌}
 use Rattle.sky_model.specs.StepNode.{adding, node_does}
 use Rattle.sky_model.specs.NodesOfWorld.{WorldOutcome, done_in, columns_called, add_table}
-use Rattle.sky_model.proofs.NodeDeeds.{may-list, may-add}
+use Rattle.sky_histories.proofs.NodeDeeds.{may-list, may-add}
 use Rattle.sky_world.specs.Seen.{seen_world}
 use Rattle.sky_world.specs.Nodes.{Ran, provided_as}
 use Rattle.sky_world.proofs.ServedNodes.{table-found, add-to_leaf, stops-then}

@@ -1,6 +1,6 @@
 use Rattle.std.proofs.Common.{◌∙◌, ap, sym, Some}
 use Rattle.londiste_state.specs.Nodes.{is_among, tables_of}
-use Rattle.sky_model.proofs.NodeDeeds.{may-unlist, may-remove}
+use Rattle.sky_histories.proofs.NodeDeeds.{may-unlist, may-remove}
 use Rattle.sky_world.proofs.world.World.remove_table.Goals as goal
 
 pub drop_from_root-requires-clause-may : goal.drop_from_root-requires-clause-may

@@ -1,5 +1,0 @@
-use Rattle.sky_model.proofs.SnapshotLaws as law
-use Rattle.sky_model.proofs.laws.batches_are_selected_by_snapshots.Goals as goal
-
-pub returns : goal.returns
-returns c = law.batches_are_selected_by_snapshots

@@ -1,5 +1,0 @@
-use Rattle.sky_model.proofs.SnapshotLaws as law
-use Rattle.sky_model.proofs.laws.snapshots_see_what_has_ended.Goals as goal
-
-pub returns : goal.returns
-returns c = law.snapshots_see_what_has_ended

@@ -1,5 +1,0 @@
-use Rattle.sky_model.proofs.Writers as law
-use Rattle.sky_model.proofs.laws.writers_have_written.Goals as goal
-
-pub returns : goal.returns
-returns c = law.writers_have_written
