@@ -1,6 +1,5 @@
-ghost use Rattle.std.specs.Prelude.{◌≡◌, false, IfOk};
-ghost use Rattle.pgq_db.specs.Gives.{is_worlds};
-ghost use Rattle.sky_model.specs.InForm.{IsInForm, IsLineInForm, IsRowInForm};
+ghost use Rattle.std.specs.Prelude.{IfOk};
+ghost use Rattle.sky_model.specs.InForm.{IsLineInForm, IsRowInForm};
 
 use anyhow::bail;
 use sky_model::{Line, RowStmt, Stmt};
@@ -16,22 +15,7 @@ pub fn line(alloc: Global, statement: &str) -> anyhow::Result<Line>
     Ok(parse_line(alloc, line.as_bytes())?)
 }
 
-/// The statement of a line, if it is one of a database.
-pub fn statement(line: &Line) -> anyhow::Result<&Stmt>
-    requires { IsLineInForm line.now }
-    ensures form { IfOk result (λ stmt. IsInForm stmt.now) }
-    ensures kind { IfOk result (λ stmt. is_worlds stmt.now ≡ false) }
-{
-    match line {
-        Line::Run(_, Stmt::Node(_) | Stmt::Clock { .. } | Stmt::PgqdOn | Stmt::PgqdOff) => bail!(
-            "a statement of the world"
-        ),
-        Line::Run(_, stmt) => Ok(stmt),
-        Line::Blank => bail!("no statement"),
-    }
-}
-
-/// The same, if it is one on rows.
+/// The statement of a line, if it is one on rows.
 pub fn row_statement(line: &Line) -> anyhow::Result<&RowStmt>
     requires { IsLineInForm line.now }
     ensures { IfOk result (λ stmt. IsRowInForm stmt.now) }

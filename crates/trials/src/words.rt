@@ -3,7 +3,7 @@ use std::alloc::{AllocError, Global};
 use std::fmt::Debug;
 
 /// Whether a row of a table is a case, and neither empty nor a comment.
-pub fn is_case(row: &str) -> bool {
+pub(crate) fn is_case(row: &str) -> bool {
     !row.is_empty() && !row.starts_with('#')
 }
 

@@ -1,5 +1,0 @@
-use Rattle.trials.proofs.MadeCalls.{made-applied}
-use Rattle.trials.proofs.replica.Replica.apply.Goals as goal
-
-pub invariant_of-self : goal.invariant_of-self
-invariant_of-self c = made-applied c.apply-applied.result _ _ _ _ _ _ (c.self.invariant c.if-self.false) c.apply-applied.ensures.steps c.apply-applied.ensures.fault c.has_run_out-self-inside.ensures

@@ -1,5 +1,0 @@
-use Rattle.sky_model.proofs.MadeCopies.{made-after}
-use Rattle.trials.proofs.replica.Replica.set_state.Goals as goal
-
-pub invariant_of-self : goal.invariant_of-self
-invariant_of-self c whole = made-after _ _ _ _ (c.self.invariant whole) tt c.set_state.ensures.steps

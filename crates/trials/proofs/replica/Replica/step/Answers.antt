@@ -1,5 +1,0 @@
-use Rattle.trials.proofs.MadeCalls.{made-unless}
-use Rattle.trials.proofs.replica.Replica.step.Goals as goal
-
-pub invariant_of-self : goal.invariant_of-self
-invariant_of-self c = made-unless c.step-stepped.result _ _ _ _ _ (c.self.invariant c.if-self.false) c.requires.form c.step-stepped.ensures.steps c.is_err-self-inside.ensures.value

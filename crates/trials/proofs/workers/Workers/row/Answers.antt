@@ -1,5 +1,0 @@
-use Rattle.sky_names.proofs.PlaceLemmas.{place_of_within}
-use Rattle.trials.proofs.workers.Workers.row.Goals as goal
-
-pub worker_row-row-requires : goal.worker_row-row-requires
-worker_row-row-requires c = place_of_within _ _ c.in-Some.table c.in-Some.ensures.0

@@ -1,0 +1,52 @@
+use crate::statements::statement;
+use pgq_db::Db;
+use sky_val::SessionId;
+use std::alloc::Global;
+use trials::{first_number, line, no_command, shown};
+
+/// A database, whose clock is at its start.
+#[derive(Drop)]
+pub struct Database {
+    db: Db,
+}
+
+impl Database {
+    pub fn new(alloc: Global) -> Database {
+        Database { db: Db::new(alloc) }
+    }
+
+    pub fn answer(&mut self, alloc: Global, command: &str, words: &str) -> anyhow::Result<String> {
+        let (who, words) = first_number(words)?;
+        match command {
+            "step" => self.step(alloc, who, words),
+            "enter" => shown(alloc, self.db.enter(who, false)),
+            "enter_outside" => shown(alloc, self.db.enter(who, true)),
+            "fail" => self.fail(alloc, who),
+            _ => self.answer_of_session(alloc, command, who),
+        }
+    }
+
+    // What the database answers of the session.
+    fn answer_of_session(
+        &self,
+        alloc: Global,
+        command: &str,
+        who: SessionId,
+    ) -> anyhow::Result<String> {
+        match command {
+            "waits" => shown(alloc, Ok(self.db.waits(who))),
+            "in_transaction" => shown(alloc, Ok(self.db.in_transaction(who))),
+            _ => Err(no_command()),
+        }
+    }
+
+    fn step(&mut self, alloc: Global, who: SessionId, words: &str) -> anyhow::Result<String> {
+        let line = line(alloc, words)?;
+        let stmt = statement(&line)?;
+        shown(alloc, self.db.step(who, stmt, 0))
+    }
+
+    fn fail(&mut self, alloc: Global, who: SessionId) -> anyhow::Result<String> {
+        shown(alloc, self.db.fail(who, 0))
+    }
+}

@@ -1,0 +1,74 @@
+use crate::nodes::check_table;
+use crate::replica::Replica;
+use crate::statements::statement;
+use anyhow::bail;
+use londiste_state::{Node, TableState};
+use sky_val::Text;
+use std::alloc::Global;
+use trials::{first_number, first_word, line, no_command, ok, shown};
+
+/// What the database of a leaf answers to a command.
+pub fn answer(
+    alloc: Global,
+    db: &mut Replica,
+    command: &str,
+    words: &str,
+) -> anyhow::Result<String> {
+    match command {
+        "step" => step(alloc, db, words),
+        "node" => shown(alloc, Ok(db.db().node())),
+        "make_leaf" => make_leaf(alloc, db, words),
+        "leaf_add" => leaf_add(alloc, db, words),
+        "set_state" => set_state(alloc, db, words),
+        _ => Err(no_command()),
+    }
+}
+
+fn step(alloc: Global, db: &mut Replica, words: &str) -> anyhow::Result<String> {
+    let (who, words) = first_number(words)?;
+    let line = line(alloc, words)?;
+    let stmt = statement(&line)?;
+    shown(alloc, db.step(who, stmt))
+}
+
+fn make_leaf(alloc: Global, db: &mut Replica, words: &str) -> anyhow::Result<String> {
+    let (tick, words) = first_number(words)?;
+    let (name, provider) = first_word(words);
+    let name = Text::from_str(alloc, name)?;
+    let provider = Text::from_str(alloc, provider)?;
+    if db.db().node().is_some() {
+        bail!("there is a node");
+    }
+    shown(alloc, db.make_leaf(&name, &provider, u64::from(tick)))
+}
+
+// A table joins the leaf. That it leaves is tried by scripts.
+fn leaf_add(alloc: Global, db: &mut Replica, table: &str) -> anyhow::Result<String> {
+    let table = Text::from_str(alloc, table)?;
+    check_table(db.db(), &table)?;
+    let Some(Node::Leaf(leaf)) = db.db().node() else {
+        return Err(no_command());
+    };
+    if leaf.has_table(&table) {
+        bail!("in the leaf");
+    }
+    shown(alloc, db.leaf_add(&table))
+}
+
+// A table of the leaf goes to a state.
+fn set_state(alloc: Global, db: &mut Replica, words: &str) -> anyhow::Result<String> {
+    let (table, to) = first_word(words);
+    let name = Text::from_str(alloc, table)?;
+    let to = TableState::parse(to.as_bytes())?;
+    let Some(Node::Leaf(leaf)) = db.db().node() else {
+        return Err(no_command());
+    };
+    let Some(table) = leaf.table(&name) else {
+        bail!("not in the leaf");
+    };
+    if !TableState::allowed(&table.state(), &to) {
+        bail!("not allowed");
+    }
+    db.set_state(&name, to)?;
+    ok(alloc)
+}

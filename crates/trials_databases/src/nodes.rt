@@ -1,0 +1,100 @@
+ghost use Rattle.std.specs.Prelude.{◌≡◌, true, OnOk, is_some};
+ghost use Rattle.sky_model.specs.StepNode.{table_number};
+ghost use Rattle.pgq_db.specs.Seen.{seen_database};
+
+use crate::replica::Replica;
+use crate::statements::statement;
+use crate::{leaves, providers};
+use anyhow::bail;
+use londiste_state::Node;
+use pgq_db::Db;
+use sky_val::Text;
+use std::alloc::Global;
+use trials::{first_number, line, no_command, ok, shown};
+
+/// The databases of a root and of a leaf.
+#[derive(Drop)]
+pub struct Nodes {
+    root: Db,
+    leaf: Replica,
+}
+
+impl Nodes {
+    pub fn new(alloc: Global) -> Nodes {
+        Nodes {
+            root: Db::new(alloc),
+            leaf: Replica::new(alloc),
+        }
+    }
+
+    pub fn answer(&mut self, alloc: Global, command: &str, words: &str) -> anyhow::Result<String> {
+        let (number, words) = first_number(words)?;
+        if number == 0 {
+            answer(alloc, &mut self.root, command, words)
+        } else {
+            leaves::answer(alloc, &mut self.leaf, command, words)
+        }
+    }
+}
+
+// What the database of the root answers to a command.
+fn answer(alloc: Global, db: &mut Db, command: &str, words: &str) -> anyhow::Result<String> {
+    match command {
+        "step" => step(alloc, db, words),
+        "node" => shown(alloc, Ok(db.node())),
+        "schema" => {
+            let table = Text::from_str(alloc, words)?;
+            shown(alloc, Ok(db.schema(&table)))
+        }
+        "root_add" | "root_drop" => move_table(alloc, db, command, words),
+        _ => providers::answer(alloc, db, command, words),
+    }
+}
+
+fn step(alloc: Global, db: &mut Db, words: &str) -> anyhow::Result<String> {
+    let (who, words) = first_number(words)?;
+    let line = line(alloc, words)?;
+    let stmt = statement(&line)?;
+    shown(alloc, db.step(who, stmt, 0))
+}
+
+// A table joins the root's set, or leaves it.
+fn move_table(alloc: Global, db: &mut Db, command: &str, words: &str) -> anyhow::Result<String> {
+    let table = Text::from_str(alloc, words)?;
+    match command {
+        "root_add" => root_add(alloc, db, &table),
+        _ => root_drop(alloc, db, &table),
+    }
+}
+
+fn root_add(alloc: Global, db: &mut Db, table: &Text) -> anyhow::Result<String> {
+    check_table(db, table)?;
+    let Some(Node::Root(root)) = db.node() else {
+        return Err(no_command());
+    };
+    if root.has_table(table) {
+        bail!("in the set");
+    }
+    shown(alloc, Ok(db.root_add(table)))
+}
+
+fn root_drop(alloc: Global, db: &mut Db, table: &Text) -> anyhow::Result<String> {
+    let Some(Node::Root(root)) = db.node() else {
+        return Err(no_command());
+    };
+    if !root.has_table(table) {
+        bail!("not in the set");
+    }
+    db.root_drop(table);
+    ok(alloc)
+}
+
+/// Whether the table is in the database.
+pub fn check_table(db: &Db, table: &Text) -> anyhow::Result<()>
+    ensures { OnOk result (is_some (table_number (seen_database db.now) table.now) ≡ true) }
+{
+    match db.schema(table) {
+        Some(_) => Ok(()),
+        None => bail!("no table"),
+    }
+}

@@ -1,0 +1,89 @@
+ghost use Rattle.std.specs.Prelude.{◌≡◌, true, IfOk, IfSome, OnOk, is_some};
+ghost use Rattle.sky_model.specs.StepNode.{set_queue};
+ghost use Rattle.pgq_db.specs.Seen.{seen_database};
+
+use anyhow::bail;
+use pgq_db::{Db, JoinFault, NodeBatch};
+use sky_val::{Event, Text};
+use std::alloc::Global;
+use trials::{no_command, ok, shown};
+
+/// What a root's database answers to a command of a consumer, or of a tick.
+pub fn answer(alloc: Global, db: &mut Db, command: &str, words: &str) -> anyhow::Result<String> {
+    match command {
+        "spent" => shown(alloc, Ok(db.spent())),
+        "snapshot" => snapshot(alloc, db, words),
+        _ => {
+            let consumer = Text::from_str(alloc, words)?;
+            answer_to(alloc, db, command, &consumer)
+        }
+    }
+}
+
+fn answer_to(alloc: Global, db: &mut Db, command: &str, consumer: &Text) -> anyhow::Result<String> {
+    check_provider(db)?;
+    match command {
+        "join" => shown(alloc, Ok(db.join(consumer))),
+        "full" => shown(alloc, Ok(db.full(consumer))),
+        "part" => {
+            db.part(consumer);
+            ok(alloc)
+        }
+        "fetch" => shown(alloc, Ok(fetch(db, consumer)?)),
+        "events" => shown(alloc, Ok(events(db, consumer)?)),
+        "finish" => finish(alloc, db, consumer),
+        _ => Err(no_command()),
+    }
+}
+
+fn snapshot(alloc: Global, db: &Db, words: &str) -> anyhow::Result<String> {
+    let tick = words.parse::<u64>()?;
+    check_provider(db)?;
+    shown(alloc, Ok(db.tick_snapshot(tick)))
+}
+
+// The batch of a consumer. If it may not join once more, it is registered.
+fn fetch(db: &mut Db, consumer: &Text) -> anyhow::Result<Option<NodeBatch>>
+    requires { is_some (set_queue (seen_database db.old)) ≡ true }
+    ensures { IfOk result (λ batch. IfSome batch (λ b. is_some ((seen_database db.new).batch b.id) ≡ true)) }
+{
+    match db.join(consumer) {
+        Err(JoinFault::ConsumerExists) => {
+            check_provider(db)?;
+            Ok(db.fetch(consumer)?)
+        }
+        _ => bail!("not registered"),
+    }
+}
+
+// The events of its batch.
+fn events(db: &mut Db, consumer: &Text) -> anyhow::Result<Vec<Event>>
+    requires { is_some (set_queue (seen_database db.old)) ≡ true }
+{
+    let Some(batch) = fetch(db, consumer)? else {
+        bail!("no batch");
+    };
+    check_provider(db)?;
+    Ok(db.batch_events(batch.id)?)
+}
+
+fn finish(alloc: Global, db: &mut Db, consumer: &Text) -> anyhow::Result<String>
+    requires { is_some (set_queue (seen_database db.old)) ≡ true }
+{
+    let Some(batch) = fetch(db, consumer)? else {
+        bail!("no batch");
+    };
+    check_provider(db)?;
+    db.finish_node(batch.id);
+    ok(alloc)
+}
+
+// Whether the database is a root's.
+fn check_provider(db: &Db) -> anyhow::Result<()>
+    ensures { OnOk result (is_some (set_queue (seen_database db.now)) ≡ true) }
+{
+    if !db.is_provider() {
+        bail!("no root");
+    }
+    Ok(())
+}

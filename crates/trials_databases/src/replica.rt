@@ -1,0 +1,171 @@
+ghost use Rattle.std.specs.Prelude.{◌≡◌, true, false, None, Err, is_some};
+ghost use Rattle.sky_model.specs.CopyMoves.{columns_for, copy_running};
+ghost use Rattle.sky_model.specs.InForm.{IsInForm};
+ghost use Rattle.sky_model.specs.StepCopy.{all_fit};
+ghost use Rattle.sky_model.specs.StepNode.{table_number, may_copy, may_serve, adding, applying, moving};
+ghost use Rattle.pgq_db.specs.Applying.{pick_of};
+ghost use Rattle.pgq_db.specs.Gives.{is_worlds};
+ghost use Rattle.pgq_db.specs.Seen.{seen_database};
+
+use londiste_state::TableState;
+use pgq_db::{ApplyFault, CopyFault, Db, Pick};
+use sky_model::{Replies, Stmt};
+use sky_txid::Snapshot;
+use sky_val::{Event, NoMemory, Row, SessionId, Text};
+use std::alloc::{AllocError, Global};
+use std::marker::Model;
+
+/// The database of a leaf, which calls have made. Once memory has run out in one of them nothing is said of it, and no
+/// call is made any more.
+#[derive(Drop)]
+pub struct Replica {
+    db: Db,
+    has_failed: bool,
+}
+
+impl Model for Replica {
+    ghost use Rattle.std.specs.Prelude.{◌≡◌, false};
+    ghost use Rattle.sky_model.specs.DatabaseSteps.{IsMade};
+    ghost use Rattle.pgq_db.specs.Seen.{seen_database};
+    ghost use Rattle.trials_databases.specs.Views.{ReplicaView};
+
+    ghost Value = { ReplicaView };
+
+    ghost view = { λ r. record { db = r.db; has_failed = r.has_failed } };
+
+    ghost invariant = { λ r. r.has_failed ≡ false → IsMade (seen_database r.db) };
+}
+
+impl Replica {
+    /// One in which nothing has happened.
+    pub fn new(alloc: Global) -> Replica {
+        Replica {
+            db: Db::new(alloc),
+            has_failed: false,
+        }
+    }
+
+    /// The database.
+    pub fn db(&self) -> &Db
+        ensures { result.now ≡ self.now.db }
+    {
+        &self.db
+    }
+
+    /// Runs a statement of a session. The clock is at its start.
+    pub fn step(&mut self, who: SessionId, stmt: &Stmt) -> Result<Replies, NoMemory>
+        requires form { IsInForm stmt.now }
+        requires kind { is_worlds stmt.now ≡ false }
+    {
+        if self.has_failed {
+            return Err(AllocError);
+        }
+        let stepped = self.db.step(who, stmt, 0);
+        self.has_failed = stepped.is_err();
+        stepped
+    }
+
+    /// Makes the leaf.
+    pub fn make_leaf(&mut self, name: &Text, provider: &Text, tick: u64) -> Result<(), NoMemory>
+        requires { (seen_database self.old.db).node ≡ None }
+    {
+        if self.has_failed {
+            return Err(AllocError);
+        }
+        let made = self.db.make_leaf(name, provider, tick);
+        self.has_failed = made.is_err();
+        made
+    }
+
+    /// Adds a table to the leaf.
+    pub fn leaf_add(&mut self, table: &Text) -> Result<Option<u64>, NoMemory>
+        requires there { is_some (table_number (seen_database self.old.db) table.now) ≡ true }
+        requires may { may_serve (adding table.now) (seen_database self.old.db).node ≡ true }
+    {
+        if self.has_failed {
+            return Err(AllocError);
+        }
+        let added = self.db.leaf_add(table);
+        self.has_failed = added.is_err();
+        added
+    }
+
+    /// Sets the state of a table.
+    pub fn set_state(&mut self, table: &Text, to: TableState) -> Result<(), NoMemory>
+        requires { may_serve (moving table.now to) (seen_database self.old.db).node ≡ true }
+    {
+        if self.has_failed {
+            return Err(AllocError);
+        }
+        self.db.set_state(table, to);
+        Ok(())
+    }
+
+    /// Applies a batch.
+    pub fn apply(&mut self, events: &[Event], pick: &Pick, tick: u64) -> Result<u64, ApplyFault>
+        requires { may_serve (applying events.now (pick_of pick.now) tick) (seen_database self.old.db).node ≡ true }
+    {
+        if self.has_failed {
+            return Err(ApplyFault::NoMemory);
+        }
+        let applied = self.db.apply(events, pick, tick);
+        self.has_failed = has_run_out(&applied);
+        applied
+    }
+
+    /// Begins the copy of a table.
+    pub fn copy_begin(&mut self, table: &Text) -> Result<(), CopyFault>
+        requires may { may_copy table.now (seen_database self.old.db).node ≡ true }
+        requires idle { copy_running (seen_database self.old.db) table.now ≡ None }
+    {
+        if self.has_failed {
+            return Err(CopyFault::NoMemory);
+        }
+        let begun = self.db.copy_begin(table);
+        self.has_failed = begun.is_err();
+        begun
+    }
+
+    /// Writes rows of a copy.
+    pub fn copy_rows(&mut self, table: &Text, rows: Vec<Row>) -> Result<(), NoMemory>
+        requires may { may_copy table.now (seen_database self.old.db).node ≡ true }
+        requires fit { all_fit (columns_for (seen_database self.old.db) table.now) rows.items ≡ true }
+    {
+        if self.has_failed {
+            return Err(AllocError);
+        }
+        let copied = self.db.copy_rows(table, rows);
+        self.has_failed = copied.is_err();
+        copied
+    }
+
+    /// Ends a copy.
+    pub fn copy_end(&mut self, table: &Text, snapshot: &Snapshot, tick: u64) -> Result<(), NoMemory>
+        requires { may_copy table.now (seen_database self.old.db).node ≡ true }
+    {
+        if self.has_failed {
+            return Err(AllocError);
+        }
+        let ended = self.db.copy_end(table, snapshot, tick);
+        self.has_failed = ended.is_err();
+        ended
+    }
+
+    /// Gives a copy up.
+    pub fn copy_drop(&mut self, table: &Text) -> Result<(), NoMemory>
+        requires { may_copy table.now (seen_database self.old.db).node ≡ true }
+    {
+        if self.has_failed {
+            return Err(AllocError);
+        }
+        self.db.copy_drop(table);
+        Ok(())
+    }
+}
+
+// Whether memory ran out while a batch was applied.
+fn has_run_out(applied: &Result<u64, ApplyFault>) -> bool
+    ensures { applied.now ≡ Err ApplyFault.NoMemory → result ≡ true }
+{
+    matches!(applied, Err(ApplyFault::NoMemory))
+}
