@@ -1,9 +1,11 @@
 -- How the readers of single words, of lists of words and of forms answer a row of the grammar.
-use Rattle.std.specs.Prelude.{◌≡◌, ℕ, ◌-◌, ◌<◌, nat_lt, ◌==◌, ◌&&◌, List, [], ◌∷◌, length, filter, Result, Ok, Err}
+use Rattle.std.specs.Prelude.{◌≡◌, ℕ, ◌-◌, ◌<◌, nat_lt, ◌==◌, ◌&&◌, List, [], ◌∷◌, length, filter, Option, Some, Result, Ok, Err}
+use Rattle.sky_model.specs.declared.stmt.Extra.{Extra}
 use Rattle.sky_model.specs.declared.stmt.Stmt.{Stmt}
+use Rattle.sky_model.specs.declared.stmt.Stmt.TheVariants.{InsertEvent}
 use Rattle.sky_model.specs.declared.line.Fixed.{Fixed}
 use Rattle.sky_model.specs.Kinds.{Kind, Of}
-use Rattle.sky_model.specs.Grammar.{GrammarRow, one, some_last, some_until, all_forms, named_form, reads_on, reads}
+use Rattle.sky_model.specs.Grammar.{GrammarRow, one, last, some_last, some_until, extra_row, all_forms, named_form, reads_on, reads}
 use Rattle.sky_script.specs.declared.cause.LineCause.{LineCause}
 use Rattle.sky_script.specs.declared.cause.LineCause.TheVariants.{NotUtf8, BadWord, NoMemory}
 use Rattle.sky_script.specs.Unread.{Unread}
@@ -33,6 +35,16 @@ abbrev pub Reads : (k : Kind) → Result (Of k) LineCause → Unread → Unread 
 Reads k (Ok v) old new = Goes k v old new
 Reads k (Err cause) old new = Stops k cause old
 
+-- a word of a kind was read, and the line's end, or the cause says why not
+abbrev pub ReadsLast : (k : Kind) → Result (Of k) LineCause → Unread → Type 0
+ReadsLast k (Ok v) old = (make : Of k → Stmt) → Answers (Ok (make v)) (last k make) old
+ReadsLast k (Err cause) old = (make : Of k → Stmt) → Answers (Err cause) (last k make) old
+
+-- the four further texts of an event were read, and the line's end, or the cause says why not
+abbrev pub ReadsExtra : Result Extra LineCause → Unread → Type 0
+ReadsExtra (Ok extra) old = (queue : List ℕ) (ev_type ev_data : Option (List ℕ)) → Answers (Ok (InsertEvent queue ev_type ev_data (Some extra))) (extra_row queue ev_type ev_data) old
+ReadsExtra (Err cause) old = (queue : List ℕ) (ev_type ev_data : Option (List ℕ)) → Answers (Err cause) (extra_row queue ev_type ev_data) old
+
 -- these values were read, to the line's end
 abbrev pub GoesLast : (k : Kind) → List (Of k) → Unread → Type 0
 GoesLast k vs old = (make : List (Of k) → Stmt) → Answers (Ok (make vs)) (some_last k make) old
@@ -53,6 +65,10 @@ StopsUntil end k cause old = (f : List (Of k) → GrammarRow) → Answers (Err c
 abbrev pub of_six : List (List ℕ × GrammarRow)
 of_six = filter (λ form. length form.0 == 6) all_forms
 
+-- those whose first word has eleven
+abbrev pub of_eleven : List (List ℕ × GrammarRow)
+of_eleven = filter (λ form. length form.0 == 11) all_forms
+
 -- those whose first word has twelve
 abbrev pub of_twelve : List (List ℕ × GrammarRow)
 of_twelve = filter (λ form. length form.0 == 12) all_forms
@@ -61,13 +77,17 @@ of_twelve = filter (λ form. length form.0 == 12) all_forms
 abbrev pub of_short : List (List ℕ × GrammarRow)
 of_short = filter (λ form. nat_lt (length form.0) 6) all_forms
 
--- those whose first word has more than six and fewer than twelve
+-- those whose first word has more than six and fewer than eleven
 abbrev pub of_middle : List (List ℕ × GrammarRow)
-of_middle = filter (λ form. nat_lt 6 (length form.0) && nat_lt (length form.0) 12) all_forms
+of_middle = filter (λ form. nat_lt 6 (length form.0) && nat_lt (length form.0) 11) all_forms
 
--- those whose first word has more than twelve
+-- those whose first word has more than twelve and fewer than eighteen
 abbrev pub of_long : List (List ℕ × GrammarRow)
-of_long = filter (λ form. nat_lt 12 (length form.0)) all_forms
+of_long = filter (λ form. nat_lt 12 (length form.0) && nat_lt (length form.0) 18) all_forms
+
+-- those whose first word has more than seventeen
+abbrev pub of_longest : List (List ℕ × GrammarRow)
+of_longest = filter (λ form. nat_lt 17 (length form.0)) all_forms
 
 -- a result is what these forms say of the words that are left, after this first word
 unfoldable pub AnswersAmong : Result Stmt LineCause → (first : List ℕ) → List (List ℕ × GrammarRow) → Unread → Type 0

@@ -1,7 +1,7 @@
 //! The statement forms: of each, its first word and the function that reads what follows it.
 
 ghost use Rattle.sky_model.specs.Grammar.{all_forms};
-ghost use Rattle.sky_script.specs.Reading.{AnswersAmong, of_six, of_twelve, of_short, of_middle, of_long};
+ghost use Rattle.sky_script.specs.Reading.{AnswersAmong, of_six, of_eleven, of_twelve, of_short, of_middle, of_long, of_longest};
 
 use crate::cause::LineCause;
 use crate::clock_forms::{clock, pgqd};
@@ -22,18 +22,20 @@ use crate::words::Words;
 use sky_model::{RowStmt, Stmt};
 use std::alloc::Global;
 
-/// The statement with this first word, of the words after it. It is compared only with
-/// those of its group, by length: six bytes, twelve, fewer than six, between six and twelve, more than twelve.
-#[tactic(auto, using(crate::proofs::FormLemmas::among_six, crate::proofs::FormLemmas::among_twelve, crate::proofs::FormLemmas::among_short, crate::proofs::FormLemmas::among_middle, crate::proofs::FormLemmas::among_long))]
+/// The statement with this first word, of the words after it. It is compared only with those of its group, by length: six
+/// bytes, eleven, twelve, fewer than six, between six and eleven, between twelve and eighteen, and more.
+#[tactic(auto, using(crate::proofs::FormLemmas::among_six, crate::proofs::FormLemmas::among_eleven, crate::proofs::FormLemmas::among_twelve, crate::proofs::FormLemmas::among_short, crate::proofs::FormLemmas::among_middle, crate::proofs::FormLemmas::among_long, crate::proofs::FormLemmas::among_longest))]
 pub(crate) fn read_form(alloc: Global, first: &[u8], words: &mut Words) -> Result<Stmt, LineCause>
     ensures { AnswersAmong result first.now all_forms words.old }
 {
     match first.len() {
         6 => read_six(alloc, first, words),
+        11 => read_eleven(alloc, first, words),
         12 => read_twelve(alloc, first, words),
         length if length < 6 => read_short(alloc, first, words),
-        length if length < 12 => read_middle(alloc, first, words),
-        _ => read_long(alloc, first, words),
+        length if length < 11 => read_middle(alloc, first, words),
+        length if length < 18 => read_long(alloc, first, words),
+        _ => read_longest(alloc, first, words),
     }
 }
 
@@ -118,7 +120,30 @@ fn read_short(alloc: Global, first: &[u8], words: &mut Words) -> Result<Stmt, Li
     Err(words.refused())
 }
 
-/// The same among those whose first word has more than six and fewer than twelve.
+/// The same among those whose first word has eleven.
+#[tactic(auto, unfolding(crate::specs::Reading::Answers, crate::specs::Reading::AnswersAmong))]
+fn read_eleven(alloc: Global, first: &[u8], words: &mut Words) -> Result<Stmt, LineCause>
+    ensures { AnswersAmong result first.now of_eleven words.old }
+{
+    if first == b"add_trigger".as_slice() {
+        return add_trigger(alloc, words);
+    }
+    if first == b"event_retry".as_slice() {
+        return event_retry(words);
+    }
+    if first == b"create_root".as_slice() {
+        return create_root(alloc, words);
+    }
+    if first == b"create_leaf".as_slice() {
+        return create_leaf(alloc, words);
+    }
+    if first == b"table_state".as_slice() {
+        return table_state(alloc, words);
+    }
+    Err(words.refused())
+}
+
+/// The same among those whose first word has more than six and fewer than eleven.
 #[tactic(auto, unfolding(crate::specs::Reading::Answers, crate::specs::Reading::AnswersAmong))]
 fn read_middle(alloc: Global, first: &[u8], words: &mut Words) -> Result<Stmt, LineCause>
     ensures { AnswersAmong result first.now of_middle words.old }
@@ -132,29 +157,14 @@ fn read_middle(alloc: Global, first: &[u8], words: &mut Words) -> Result<Stmt, L
     if first == b"force_tick".as_slice() {
         return force_tick(alloc, words);
     }
-    if first == b"add_trigger".as_slice() {
-        return add_trigger(alloc, words);
-    }
     if first == b"queue_info".as_slice() {
         return queue_info(alloc, words);
     }
     if first == b"drop_queue".as_slice() {
         return drop_queue(alloc, words);
     }
-    if first == b"event_retry".as_slice() {
-        return event_retry(words);
-    }
-    if first == b"create_root".as_slice() {
-        return create_root(alloc, words);
-    }
-    if first == b"create_leaf".as_slice() {
-        return create_leaf(alloc, words);
-    }
     if first == b"add_table".as_slice() {
         return add_table(alloc, words);
-    }
-    if first == b"table_state".as_slice() {
-        return table_state(alloc, words);
     }
     if first == b"copy_step".as_slice() {
         return copy_step(alloc, words);
@@ -165,7 +175,7 @@ fn read_middle(alloc: Global, first: &[u8], words: &mut Words) -> Result<Stmt, L
     Err(words.refused())
 }
 
-/// The same among those whose first word has more than twelve.
+/// The same among those whose first word has more than twelve and fewer than eighteen.
 #[tactic(auto, unfolding(crate::specs::Reading::Answers, crate::specs::Reading::AnswersAmong))]
 fn read_long(alloc: Global, first: &[u8], words: &mut Words) -> Result<Stmt, LineCause>
     ensures { AnswersAmong result first.now of_long words.old }
@@ -176,12 +186,6 @@ fn read_long(alloc: Global, first: &[u8], words: &mut Words) -> Result<Stmt, Lin
     if first == b"register_consumer".as_slice() {
         return register_consumer(alloc, words);
     }
-    if first == b"txid_current_snapshot".as_slice() {
-        return alone(RowStmt::TxidCurrentSnapshot, words);
-    }
-    if first == b"txid_visible_in_snapshot".as_slice() {
-        return txid_visible_in_snapshot(alloc, words);
-    }
     if first == b"set_queue_config".as_slice() {
         return set_queue_config(alloc, words);
     }
@@ -190,6 +194,23 @@ fn read_long(alloc: Global, first: &[u8], words: &mut Words) -> Result<Stmt, Lin
     }
     if first == b"consumer_info".as_slice() {
         return consumer_info(alloc, words);
+    }
+    if first == b"londiste_step".as_slice() {
+        return londiste_step(alloc, words);
+    }
+    Err(words.refused())
+}
+
+/// The same among those whose first word has more than seventeen.
+#[tactic(auto, unfolding(crate::specs::Reading::Answers, crate::specs::Reading::AnswersAmong))]
+fn read_longest(alloc: Global, first: &[u8], words: &mut Words) -> Result<Stmt, LineCause>
+    ensures { AnswersAmong result first.now of_longest words.old }
+{
+    if first == b"txid_current_snapshot".as_slice() {
+        return alone(RowStmt::TxidCurrentSnapshot, words);
+    }
+    if first == b"txid_visible_in_snapshot".as_slice() {
+        return txid_visible_in_snapshot(alloc, words);
     }
     if first == b"register_consumer_at".as_slice() {
         return register_consumer_at(alloc, words);
@@ -205,9 +226,6 @@ fn read_long(alloc: Global, first: &[u8], words: &mut Words) -> Result<Stmt, Lin
     }
     if first == b"maint_rotate_step2".as_slice() {
         return maint_rotate_step2(words);
-    }
-    if first == b"londiste_step".as_slice() {
-        return londiste_step(alloc, words);
     }
     Err(words.refused())
 }

@@ -9,6 +9,7 @@
 
 mod cause;
 mod clock_forms;
+mod endings;
 mod forms;
 mod kinds;
 mod lists;

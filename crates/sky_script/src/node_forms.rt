@@ -14,8 +14,7 @@ pub(crate) fn create_root(alloc: Global, words: &mut Words) -> Result<Stmt, Line
     ensures { Answers result (one Name (λ name. last Name (λ queue. Stmt.CreateRoot name queue))) words.old }
 {
     let name = words.name(alloc)?;
-    let queue = words.name(alloc)?;
-    words.end()?;
+    let queue = words.last_name(alloc)?;
     Ok(Stmt::CreateRoot { name, queue })
 }
 
@@ -24,8 +23,7 @@ pub(crate) fn create_leaf(alloc: Global, words: &mut Words) -> Result<Stmt, Line
         Answers result row words.old }
 {
     let name = words.name(alloc)?;
-    let provider = words.name(alloc)?;
-    words.end()?;
+    let provider = words.last_name(alloc)?;
     Ok(Stmt::Node(NodeStmt::CreateLeaf { name, provider }))
 }
 
@@ -34,8 +32,7 @@ pub(crate) fn add_table(alloc: Global, words: &mut Words) -> Result<Stmt, LineCa
         Answers result row words.old }
 {
     let name = words.name(alloc)?;
-    let table = words.dotted(alloc)?;
-    words.end()?;
+    let table = words.last_dotted(alloc)?;
     Ok(Stmt::Node(NodeStmt::AddTable { name, table }))
 }
 
@@ -44,8 +41,7 @@ pub(crate) fn remove_table(alloc: Global, words: &mut Words) -> Result<Stmt, Lin
         Answers result row words.old }
 {
     let name = words.name(alloc)?;
-    let table = words.dotted(alloc)?;
-    words.end()?;
+    let table = words.last_dotted(alloc)?;
     Ok(Stmt::Node(NodeStmt::RemoveTable { name, table }))
 }
 
@@ -54,8 +50,7 @@ pub(crate) fn table_state(alloc: Global, words: &mut Words) -> Result<Stmt, Line
         Answers result row words.old }
 {
     let name = words.name(alloc)?;
-    let table = words.dotted(alloc)?;
-    words.end()?;
+    let table = words.last_dotted(alloc)?;
     Ok(Stmt::Node(NodeStmt::TableState { name, table }))
 }
 
@@ -64,8 +59,7 @@ pub(crate) fn copy_step(alloc: Global, words: &mut Words) -> Result<Stmt, LineCa
         Answers result row words.old }
 {
     let name = words.name(alloc)?;
-    let table = words.dotted(alloc)?;
-    words.end()?;
+    let table = words.last_dotted(alloc)?;
     Ok(Stmt::Node(NodeStmt::CopyStep { name, table }))
 }
 
@@ -77,15 +71,13 @@ pub(crate) fn restart(alloc: Global, words: &mut Words) -> Result<Stmt, LineCaus
     if words.at_end() {
         return Ok(Stmt::Node(NodeStmt::Restart { name }));
     }
-    let table = words.dotted(alloc)?;
-    words.end()?;
+    let table = words.last_dotted(alloc)?;
     Ok(Stmt::Node(NodeStmt::RestartTable { name, table }))
 }
 
 pub(crate) fn londiste_step(alloc: Global, words: &mut Words) -> Result<Stmt, LineCause>
     ensures { Answers result (last Name (λ name. Stmt.Node (node.LondisteStep name))) words.old }
 {
-    let name = words.name(alloc)?;
-    words.end()?;
+    let name = words.last_name(alloc)?;
     Ok(Stmt::Node(NodeStmt::LondisteStep { name }))
 }

@@ -4,7 +4,7 @@ ghost use Rattle.std.specs.Prelude.{◌-◌, ◌^◌};
 ghost use Rattle.sky_model.specs.Kinds.{Name, Dotted, Number, Raw};
 ghost use Rattle.sky_model.specs.Grammar.{stop, one, last};
 ghost use Rattle.sky_model.specs.Grammar as grammar;
-ghost use Rattle.sky_script.specs.Reading.{Answers};
+ghost use Rattle.sky_script.specs.Reading.{Answers, ReadsExtra};
 
 use crate::cause::LineCause;
 use crate::words::Words;
@@ -14,16 +14,14 @@ use std::alloc::Global;
 pub(crate) fn create_queue(alloc: Global, words: &mut Words) -> Result<Stmt, LineCause>
     ensures { Answers result (last Name (λ queue. Stmt.CreateQueue queue)) words.old }
 {
-    let queue = words.name(alloc)?;
-    words.end()?;
+    let queue = words.last_name(alloc)?;
     Ok(Stmt::CreateQueue { queue })
 }
 
 pub(crate) fn drop_queue(alloc: Global, words: &mut Words) -> Result<Stmt, LineCause>
     ensures { Answers result (last Name (λ queue. Stmt.DropQueue queue)) words.old }
 {
-    let queue = words.name(alloc)?;
-    words.end()?;
+    let queue = words.last_name(alloc)?;
     Ok(Stmt::DropQueue { queue })
 }
 
@@ -34,8 +32,7 @@ pub(crate) fn set_queue_config(alloc: Global, words: &mut Words) -> Result<Stmt,
 {
     let queue = words.name(alloc)?;
     let param = words.raw(alloc)?;
-    let value = words.raw(alloc)?;
-    words.end()?;
+    let value = words.last_raw(alloc)?;
     Ok(Stmt::SetQueueConfig {
         queue,
         param,
@@ -46,12 +43,10 @@ pub(crate) fn set_queue_config(alloc: Global, words: &mut Words) -> Result<Stmt,
 pub(crate) fn queue_info(alloc: Global, words: &mut Words) -> Result<Stmt, LineCause>
     ensures { Answers result (last Name (λ queue. Stmt.QueueInfo queue)) words.old }
 {
-    let queue = words.name(alloc)?;
-    words.end()?;
+    let queue = words.last_name(alloc)?;
     Ok(Stmt::QueueInfo { queue })
 }
 
-#[tactic(auto, using(crate::proofs::ReadingLemmas::answers_memory))]
 pub(crate) fn insert_event(alloc: Global, words: &mut Words) -> Result<Stmt, LineCause>
     ensures { Answers result grammar.insert_event words.old }
 {
@@ -66,18 +61,7 @@ pub(crate) fn insert_event(alloc: Global, words: &mut Words) -> Result<Stmt, Lin
             extra: None,
         });
     }
-    let ev_extra1 = words.opt_text(alloc)?;
-    let ev_extra2 = words.opt_text(alloc)?;
-    let ev_extra3 = words.opt_text(alloc)?;
-    let ev_extra4 = words.opt_text(alloc)?;
-    words.end()?;
-    let extra = Extra {
-        ev_extra1,
-        ev_extra2,
-        ev_extra3,
-        ev_extra4,
-    };
-    let extra = BoxedExtra::new(alloc, extra)?;
+    let extra = extra(alloc, words)?;
     Ok(Stmt::InsertEvent {
         queue,
         ev_type,
@@ -86,19 +70,35 @@ pub(crate) fn insert_event(alloc: Global, words: &mut Words) -> Result<Stmt, Lin
     })
 }
 
+/// The four further texts of an event, to the line's end.
+#[tactic(auto, using(crate::proofs::ReadingLemmas::answers_memory))]
+fn extra(alloc: Global, words: &mut Words) -> Result<BoxedExtra, LineCause>
+    ensures { ReadsExtra result words.old }
+{
+    let ev_extra1 = words.opt_text(alloc)?;
+    let ev_extra2 = words.opt_text(alloc)?;
+    let ev_extra3 = words.opt_text(alloc)?;
+    let ev_extra4 = words.last_opt_text(alloc)?;
+    let extra = Extra {
+        ev_extra1,
+        ev_extra2,
+        ev_extra3,
+        ev_extra4,
+    };
+    Ok(BoxedExtra::new(alloc, extra)?)
+}
+
 pub(crate) fn ticker(alloc: Global, words: &mut Words) -> Result<Stmt, LineCause>
     ensures { Answers result (last Name (λ queue. Stmt.Ticker queue)) words.old }
 {
-    let queue = words.name(alloc)?;
-    words.end()?;
+    let queue = words.last_name(alloc)?;
     Ok(Stmt::Ticker { queue })
 }
 
 pub(crate) fn force_tick(alloc: Global, words: &mut Words) -> Result<Stmt, LineCause>
     ensures { Answers result (last Name (λ queue. Stmt.ForceTick queue)) words.old }
 {
-    let queue = words.name(alloc)?;
-    words.end()?;
+    let queue = words.last_name(alloc)?;
     Ok(Stmt::ForceTick { queue })
 }
 
@@ -107,8 +107,7 @@ pub(crate) fn register_consumer(alloc: Global, words: &mut Words) -> Result<Stmt
         Answers result row words.old }
 {
     let queue = words.name(alloc)?;
-    let consumer = words.dotted(alloc)?;
-    words.end()?;
+    let consumer = words.last_dotted(alloc)?;
     Ok(Stmt::RegisterConsumer { queue, consumer })
 }
 
@@ -119,8 +118,7 @@ pub(crate) fn register_consumer_at(alloc: Global, words: &mut Words) -> Result<S
 {
     let queue = words.name(alloc)?;
     let consumer = words.dotted(alloc)?;
-    let tick = words.number(u64::MAX)?;
-    words.end()?;
+    let tick = words.last_id()?;
     Ok(Stmt::RegisterConsumerAt {
         queue,
         consumer,
@@ -133,8 +131,7 @@ pub(crate) fn unregister_consumer(alloc: Global, words: &mut Words) -> Result<St
         Answers result row words.old }
 {
     let queue = words.name(alloc)?;
-    let consumer = words.dotted(alloc)?;
-    words.end()?;
+    let consumer = words.last_dotted(alloc)?;
     Ok(Stmt::UnregisterConsumer { queue, consumer })
 }
 
@@ -143,24 +140,21 @@ pub(crate) fn next_batch(alloc: Global, words: &mut Words) -> Result<Stmt, LineC
         Answers result row words.old }
 {
     let queue = words.name(alloc)?;
-    let consumer = words.dotted(alloc)?;
-    words.end()?;
+    let consumer = words.last_dotted(alloc)?;
     Ok(Stmt::NextBatch { queue, consumer })
 }
 
 pub(crate) fn get_batch_events(words: &mut Words) -> Result<Stmt, LineCause>
     ensures { Answers result (last (Number (2 ^ 64 - 1)) (λ batch. Stmt.GetBatchEvents batch)) words.old }
 {
-    let batch = words.number(u64::MAX)?;
-    words.end()?;
+    let batch = words.last_id()?;
     Ok(Stmt::GetBatchEvents { batch })
 }
 
 pub(crate) fn get_batch_info(words: &mut Words) -> Result<Stmt, LineCause>
     ensures { Answers result (last (Number (2 ^ 64 - 1)) (λ batch. Stmt.GetBatchInfo batch)) words.old }
 {
-    let batch = words.number(u64::MAX)?;
-    words.end()?;
+    let batch = words.last_id()?;
     Ok(Stmt::GetBatchInfo { batch })
 }
 
@@ -183,8 +177,7 @@ pub(crate) fn event_retry(words: &mut Words) -> Result<Stmt, LineCause>
 pub(crate) fn finish_batch(words: &mut Words) -> Result<Stmt, LineCause>
     ensures { Answers result (last (Number (2 ^ 64 - 1)) (λ batch. Stmt.FinishBatch batch)) words.old }
 {
-    let batch = words.number(u64::MAX)?;
-    words.end()?;
+    let batch = words.last_id()?;
     Ok(Stmt::FinishBatch { batch })
 }
 
@@ -198,8 +191,7 @@ pub(crate) fn maint_retry_events(words: &mut Words) -> Result<Stmt, LineCause>
 pub(crate) fn maint_rotate_step1(alloc: Global, words: &mut Words) -> Result<Stmt, LineCause>
     ensures { Answers result (last Name (λ queue. Stmt.MaintRotateStep1 queue)) words.old }
 {
-    let queue = words.name(alloc)?;
-    words.end()?;
+    let queue = words.last_name(alloc)?;
     Ok(Stmt::MaintRotateStep1 { queue })
 }
 
@@ -215,7 +207,6 @@ pub(crate) fn consumer_info(alloc: Global, words: &mut Words) -> Result<Stmt, Li
         Answers result row words.old }
 {
     let queue = words.name(alloc)?;
-    let consumer = words.dotted(alloc)?;
-    words.end()?;
+    let consumer = words.last_dotted(alloc)?;
     Ok(Stmt::ConsumerInfo { queue, consumer })
 }

@@ -67,7 +67,6 @@ pub(crate) fn get(alloc: Global, words: &mut Words) -> Result<Stmt, LineCause>
 pub(crate) fn scan(alloc: Global, words: &mut Words) -> Result<Stmt, LineCause>
     ensures { Answers result (last Dotted (λ table. Stmt.Row (RowStmt.Scan table))) words.old }
 {
-    let table = words.dotted(alloc)?;
-    words.end()?;
+    let table = words.last_dotted(alloc)?;
     Ok(Stmt::Row(RowStmt::Scan { table }))
 }

@@ -22,8 +22,7 @@ pub(crate) fn alone(stmt: RowStmt, words: &Words) -> Result<Stmt, LineCause>
 pub(crate) fn open_db(alloc: Global, words: &mut Words) -> Result<Stmt, LineCause>
     ensures { Answers result (last Name (λ name. Stmt.Row (RowStmt.OpenDb name))) words.old }
 {
-    let name = words.name(alloc)?;
-    words.end()?;
+    let name = words.last_name(alloc)?;
     Ok(Stmt::Row(RowStmt::OpenDb { name }))
 }
 
@@ -46,7 +45,6 @@ pub(crate) fn txid_visible_in_snapshot(alloc: Global, words: &mut Words) -> Resu
         Answers result row words.old }
 {
     let txid = words.number(u64::MAX)?;
-    let snapshot = words.raw(alloc)?;
-    words.end()?;
+    let snapshot = words.last_raw(alloc)?;
     Ok(Stmt::Row(RowStmt::TxidVisibleInSnapshot { txid, snapshot }))
 }

@@ -328,7 +328,6 @@ impl<'a> Words<'a> {
     }
 
     /// The statement with this first word.
-    #[tactic(auto, unfolding(crate::specs::Reading::AnswersAmong))]
     pub fn statement(&mut self, alloc: Global, form: &str) -> Result<Stmt, LineCause>
         requires { self.old.number ≡ 3 }
         ensures { IsAnswer result (statement_of (form.now ∷ self.old.left)) }
