@@ -1,3 +1,4 @@
 pub mod Calendar
 pub mod Fields
 pub mod Kept
+pub mod Single

@@ -5,6 +5,7 @@ ghost use Rattle.sky_model.specs.Printed.{event_text, row_text, count_text, queu
 ghost use Rattle.sky_txid.specs.SnapshotText.{snapshot_text};
 ghost use Rattle.londiste_state.specs.StateText.{state_text};
 ghost use Rattle.sky_print.specs.Kept.{Keeps};
+ghost use Rattle.sky_print.specs.Single.{text_of};
 
 use crate::event::append_event;
 use crate::held::append_held_back;
@@ -14,8 +15,7 @@ use crate::refusal::append_refusal;
 use crate::row::append_row;
 use itoa::Buffer;
 use londiste_state::TableState;
-use sky_model::{BatchInfo, ConsumerInfo, HeldBack, QueueInfo, Refusal, Replies, Reply};
-use sky_txid::Snapshot;
+use sky_model::{Refusal, Replies, Reply};
 use sky_val::{Event, NoMemory, Row, SessionId, Text, Val};
 
 /// Appends the lines of these answers, each after its session's name. A session's number is its
@@ -65,75 +65,78 @@ fn append_reply(
     ensures kept { OnErr result (Keeps into.old.items into.new.items) }
 {
     match reply {
-        Reply::Done => append_line(name, b"ok", into),
-        Reply::Number(number) => append_line(name, Buffer::new().format(*number).as_bytes(), into),
-        Reply::Null => append_line(name, b"null", into),
-        Reply::Bool(true) => append_line(name, b"true", into),
-        Reply::Bool(false) => append_line(name, b"false", into),
-        Reply::Begin => append_line(name, b"BEGIN", into),
-        Reply::AlreadyInTransaction => {
-            append_line(name, b"WARNING already in a transaction", into)
-        }
-        Reply::Commit => append_line(name, b"COMMIT", into),
-        Reply::Rollback => append_line(name, b"ROLLBACK", into),
-        Reply::NoTransaction => append_line(name, b"WARNING no transaction", into),
-        Reply::NotWaiting => append_line(name, b"not waiting", into),
-        Reply::Waits(holder) => append_waits(name, name_of(names, *holder), into),
-        Reply::Snapshot(snapshot) => append_snapshot(name, snapshot, into),
         Reply::Events(events) => append_batch(name, events.as_slice(), into),
-        Reply::Row(row) => append_row_line(name, row.values(), into),
-        Reply::NoRow => append_line(name, b"none", into),
         Reply::Rows(rows) => append_listing(name, rows.as_slice(), into),
-        Reply::Moment(now) => append_moment(name, *now, into),
-        Reply::QueueInfo(queue) => append_queue_line(name, queue, into),
-        Reply::BatchInfo(batch) => append_batch_line(name, batch.as_info(), into),
-        Reply::ConsumerInfo(consumer) => append_consumer_line(name, consumer, into),
-        Reply::HeldBack(held) => append_held_line(name, held, into),
-        Reply::State(state) => append_state(name, *state, into),
-        Reply::TableMoved(table, state) => append_move(name, table, *state, into),
-        Reply::RowsCopied(count) => append_counted(name, b"copied ", *count, into),
-        Reply::AwaitsTable(table) => append_wait(name, table, into),
-        Reply::BatchTaken(id, prev, cur) => append_taken(name, *id, *prev, *cur, into),
-        Reply::BatchApplied(cur, many) => append_applied(name, *cur, *many, into),
-        Reply::BatchSkipped(cur) => append_counted(name, b"skipped ", *cur, into),
-        Reply::BatchFinished(id) => append_counted(name, b"finished ", *id, into),
-        Reply::Idle => append_line(name, b"idle", into),
-        Reply::Refused(refusal) => append_refused(names, name, refusal, into),
+        _ => append_line(names, name, reply, into),
     }
 }
 
-fn append_line(name: &[u8], line: &[u8], into: &mut Vec<u8>) -> Result<(), NoMemory>
-    ensures ok { OnOk result (into.new.items ≡ into.old.items ++ line_text name.now line.now) }
+// An answer as one line.
+fn append_line(
+    names: &[Text],
+    name: &[u8],
+    reply: &Reply,
+    into: &mut Vec<u8>,
+) -> Result<(), NoMemory>
+    requires { ReplyHasMoments reply.now }
+    ensures ok { OnOk result (into.new.items ≡ into.old.items ++ line_text name.now (text_of names.now reply.now)) }
     ensures kept { OnErr result (Keeps into.old.items into.new.items) }
 {
     append_name(name, into)?;
-    into.extend_from_slice(line)?;
+    append_text(names, reply, into)?;
     into.push(b'\n')?;
     Ok(())
 }
 
-// The wait for the session of the holder's name.
-fn append_waits(name: &[u8], holder: &[u8], into: &mut Vec<u8>) -> Result<(), NoMemory>
-    ensures ok { OnOk result
-        (into.new.items ≡ into.old.items ++ line_text name.now (codes "waits for " ++ holder.now)) }
+// The text of an answer of one line.
+fn append_text(names: &[Text], reply: &Reply, into: &mut Vec<u8>) -> Result<(), NoMemory>
+    requires { ReplyHasMoments reply.now }
+    ensures ok { OnOk result (into.new.items ≡ into.old.items ++ text_of names.now reply.now) }
     ensures kept { OnErr result (Keeps into.old.items into.new.items) }
 {
-    append_name(name, into)?;
-    into.extend_from_slice(b"waits for ")?;
-    into.extend_from_slice(holder)?;
-    into.push(b'\n')?;
-    Ok(())
+    match reply {
+        Reply::Done => into.extend_from_slice(b"ok"),
+        Reply::Number(number) => append_number(*number, into),
+        Reply::Null => into.extend_from_slice(b"null"),
+        Reply::Bool(true) => into.extend_from_slice(b"true"),
+        Reply::Bool(false) => into.extend_from_slice(b"false"),
+        Reply::Begin => into.extend_from_slice(b"BEGIN"),
+        Reply::AlreadyInTransaction => into.extend_from_slice(b"WARNING already in a transaction"),
+        Reply::Commit => into.extend_from_slice(b"COMMIT"),
+        Reply::Rollback => into.extend_from_slice(b"ROLLBACK"),
+        Reply::NoTransaction => into.extend_from_slice(b"WARNING no transaction"),
+        Reply::NotWaiting => into.extend_from_slice(b"not waiting"),
+        Reply::Waits(holder) => append_after(b"waits for ", name_of(names, *holder), into),
+        Reply::Snapshot(snapshot) => snapshot.print(into),
+        // These have several lines.
+        Reply::Events(_) | Reply::Rows(_) => Ok(()),
+        Reply::Row(row) => append_row(row.values(), into),
+        Reply::NoRow => into.extend_from_slice(b"none"),
+        Reply::Moment(now) => print_moment(*now, into),
+        Reply::QueueInfo(queue) => append_queue(queue, into),
+        Reply::BatchInfo(batch) => append_batch_info(batch.as_info(), into),
+        Reply::ConsumerInfo(consumer) => append_consumer_info(consumer, into),
+        Reply::HeldBack(held) => append_held_back(held, into),
+        Reply::State(state) => state.print(into),
+        Reply::TableMoved(table, state) => append_move(table, *state, into),
+        Reply::RowsCopied(count) => append_counted(b"copied ", *count, into),
+        Reply::AwaitsTable(table) => append_after(b"wait ", table.bytes(), into),
+        Reply::BatchTaken(id, prev, cur) => append_taken(*id, *prev, *cur, into),
+        Reply::BatchApplied(cur, many) => append_applied(*cur, *many, into),
+        Reply::BatchSkipped(cur) => append_counted(b"skipped ", *cur, into),
+        Reply::BatchFinished(id) => append_counted(b"finished ", *id, into),
+        Reply::Idle => into.extend_from_slice(b"idle"),
+        Reply::Refused(refusal) => append_refused(names, refusal, into),
+    }
 }
 
-fn append_snapshot(name: &[u8], snapshot: &Snapshot, into: &mut Vec<u8>) -> Result<(), NoMemory>
-    ensures ok { OnOk result
-        (into.new.items ≡ into.old.items ++ line_text name.now (snapshot_text snapshot.now)) }
+// A word with a space after it, and a name.
+fn append_after(word: &[u8], name: &[u8], into: &mut Vec<u8>) -> Result<(), NoMemory>
+    ensures ok { OnOk result (into.new.items ≡ into.old.items ++ (word.now ++ name.now)) }
     ensures kept { OnErr result (Keeps into.old.items into.new.items) }
 {
-    append_name(name, into)?;
-    snapshot.print(into)?;
-    into.push(b'\n')?;
-    Ok(())
+    into.extend_from_slice(word)?;
+    into.extend_from_slice(name)
 }
 
 // The events of a batch, and how many they are.
@@ -196,129 +199,35 @@ fn append_count(name: &[u8], count: u64, into: &mut Vec<u8>) -> Result<(), NoMem
     Ok(())
 }
 
-fn append_moment(name: &[u8], now: i64, into: &mut Vec<u8>) -> Result<(), NoMemory>
-    requires { HasMoment now }
-    ensures ok { OnOk result (into.new.items ≡ into.old.items ++ line_text name.now (moment now)) }
-    ensures kept { OnErr result (Keeps into.old.items into.new.items) }
-{
-    append_name(name, into)?;
-    print_moment(now, into)?;
-    into.push(b'\n')?;
-    Ok(())
-}
-
-fn append_queue_line(name: &[u8], queue: &QueueInfo, into: &mut Vec<u8>) -> Result<(), NoMemory>
-    ensures ok { OnOk result
-        (into.new.items ≡ into.old.items ++ line_text name.now (queue_text queue.now)) }
-    ensures kept { OnErr result (Keeps into.old.items into.new.items) }
-{
-    append_name(name, into)?;
-    append_queue(queue, into)?;
-    into.push(b'\n')?;
-    Ok(())
-}
-
-fn append_batch_line(name: &[u8], batch: &BatchInfo, into: &mut Vec<u8>) -> Result<(), NoMemory>
-    ensures ok { OnOk result
-        (into.new.items ≡ into.old.items ++ line_text name.now (batch_text batch.now)) }
-    ensures kept { OnErr result (Keeps into.old.items into.new.items) }
-{
-    append_name(name, into)?;
-    append_batch_info(batch, into)?;
-    into.push(b'\n')?;
-    Ok(())
-}
-
-fn append_consumer_line(
-    name: &[u8],
-    consumer: &ConsumerInfo,
-    into: &mut Vec<u8>,
-) -> Result<(), NoMemory>
-    ensures ok { OnOk result
-        (into.new.items ≡ into.old.items ++ line_text name.now (consumer_text consumer.now)) }
-    ensures kept { OnErr result (Keeps into.old.items into.new.items) }
-{
-    append_name(name, into)?;
-    append_consumer_info(consumer, into)?;
-    into.push(b'\n')?;
-    Ok(())
-}
-
-fn append_held_line(name: &[u8], held: &HeldBack, into: &mut Vec<u8>) -> Result<(), NoMemory>
-    requires { ReplyHasMoments (Reply.HeldBack held.now) }
-    ensures ok { OnOk result
-        (into.new.items ≡ into.old.items ++ line_text name.now (held_text held.now)) }
-    ensures kept { OnErr result (Keeps into.old.items into.new.items) }
-{
-    append_name(name, into)?;
-    append_held_back(held, into)?;
-    into.push(b'\n')?;
-    Ok(())
-}
-
-fn append_state(name: &[u8], state: TableState, into: &mut Vec<u8>) -> Result<(), NoMemory>
-    ensures ok { OnOk result
-        (into.new.items ≡ into.old.items ++ line_text name.now (state_text state)) }
-    ensures kept { OnErr result (Keeps into.old.items into.new.items) }
-{
-    append_name(name, into)?;
-    state.print(into)?;
-    into.push(b'\n')?;
-    Ok(())
-}
-
 // A table, and the state into which it went.
-fn append_move(
-    name: &[u8],
-    table: &Text,
-    state: TableState,
-    into: &mut Vec<u8>,
-) -> Result<(), NoMemory>
-    ensures ok { OnOk result (into.new.items
-        ≡ into.old.items ++ line_text name.now (codes "state " ++ table.now ++ 32 ∷ state_text state)) }
+fn append_move(table: &Text, state: TableState, into: &mut Vec<u8>) -> Result<(), NoMemory>
+    ensures ok { OnOk result (into.new.items ≡ into.old.items ++ (codes "state " ++ table.now ++ 32 ∷ state_text state)) }
     ensures kept { OnErr result (Keeps into.old.items into.new.items) }
 {
-    append_name(name, into)?;
     into.extend_from_slice(b"state ")?;
     into.extend_from_slice(table.bytes())?;
     into.push(b' ')?;
-    state.print(into)?;
-    into.push(b'\n')?;
-    Ok(())
+    state.print(into)
 }
 
-// A word with a space behind it, and a number.
-fn append_counted(name: &[u8], word: &[u8], number: u64, into: &mut Vec<u8>) -> Result<(), NoMemory>
-    ensures ok { OnOk result
-        (into.new.items ≡ into.old.items ++ line_text name.now (word.now ++ decimal number)) }
+// A word with a space after it, and a number.
+fn append_counted(word: &[u8], number: u64, into: &mut Vec<u8>) -> Result<(), NoMemory>
+    ensures ok { OnOk result (into.new.items ≡ into.old.items ++ (word.now ++ decimal number)) }
     ensures kept { OnErr result (Keeps into.old.items into.new.items) }
 {
-    append_name(name, into)?;
     into.extend_from_slice(word)?;
-    append_number(number, into)?;
-    into.push(b'\n')?;
-    Ok(())
+    append_number(number, into)
 }
 
 // A batch that was taken, and its ticks.
-fn append_taken(
-    name: &[u8],
-    id: u64,
-    prev: u64,
-    cur: u64,
-    into: &mut Vec<u8>,
-) -> Result<(), NoMemory>
+fn append_taken(id: u64, prev: u64, cur: u64, into: &mut Vec<u8>) -> Result<(), NoMemory>
     ensures ok { OnOk result (into.new.items
-        ≡ into.old.items ++ line_text name.now (codes "batch " ++ decimal id ++ 32 ∷ decimal prev ++ 32 ∷ decimal cur)) }
+        ≡ into.old.items ++ (codes "batch " ++ decimal id ++ 32 ∷ decimal prev ++ 32 ∷ decimal cur)) }
     ensures kept { OnErr result (Keeps into.old.items into.new.items) }
 {
-    append_name(name, into)?;
-    into.extend_from_slice(b"batch ")?;
-    append_number(id, into)?;
+    append_counted(b"batch ", id, into)?;
     append_spaced(prev, into)?;
-    append_spaced(cur, into)?;
-    into.push(b'\n')?;
-    Ok(())
+    append_spaced(cur, into)
 }
 
 // A space, and a number.
@@ -331,47 +240,20 @@ fn append_spaced(number: u64, into: &mut Vec<u8>) -> Result<(), NoMemory>
 }
 
 // The tick up to which a batch was applied, and how many of its events were picked.
-fn append_applied(name: &[u8], cur: u64, many: u64, into: &mut Vec<u8>) -> Result<(), NoMemory>
-    ensures ok { OnOk result (into.new.items
-        ≡ into.old.items ++ line_text name.now (codes "applied " ++ decimal cur ++ 32 ∷ decimal many)) }
+fn append_applied(cur: u64, many: u64, into: &mut Vec<u8>) -> Result<(), NoMemory>
+    ensures ok { OnOk result (into.new.items ≡ into.old.items ++ (codes "applied " ++ decimal cur ++ 32 ∷ decimal many)) }
     ensures kept { OnErr result (Keeps into.old.items into.new.items) }
 {
-    append_name(name, into)?;
-    into.extend_from_slice(b"applied ")?;
-    append_number(cur, into)?;
-    append_spaced(many, into)?;
-    into.push(b'\n')?;
-    Ok(())
+    append_counted(b"applied ", cur, into)?;
+    append_spaced(many, into)
 }
 
-// The table for which a worker waits.
-fn append_wait(name: &[u8], table: &Text, into: &mut Vec<u8>) -> Result<(), NoMemory>
-    ensures ok { OnOk result
-        (into.new.items ≡ into.old.items ++ line_text name.now (codes "wait " ++ table.now)) }
+fn append_refused(names: &[Text], refusal: &Refusal, into: &mut Vec<u8>) -> Result<(), NoMemory>
+    ensures ok { OnOk result (into.new.items ≡ into.old.items ++ (codes "error " ++ refusal_text names.now refusal.now)) }
     ensures kept { OnErr result (Keeps into.old.items into.new.items) }
 {
-    append_name(name, into)?;
-    into.extend_from_slice(b"wait ")?;
-    into.extend_from_slice(table.bytes())?;
-    into.push(b'\n')?;
-    Ok(())
-}
-
-fn append_refused(
-    names: &[Text],
-    name: &[u8],
-    refusal: &Refusal,
-    into: &mut Vec<u8>,
-) -> Result<(), NoMemory>
-    ensures ok { OnOk result (into.new.items
-        ≡ into.old.items ++ line_text name.now (codes "error " ++ refusal_text names.now refusal.now)) }
-    ensures kept { OnErr result (Keeps into.old.items into.new.items) }
-{
-    append_name(name, into)?;
     into.extend_from_slice(b"error ")?;
-    append_refusal(names, refusal, into)?;
-    into.push(b'\n')?;
-    Ok(())
+    append_refusal(names, refusal, into)
 }
 
 // What comes before a line of the session of this name.
