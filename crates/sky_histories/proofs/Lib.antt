@@ -30,6 +30,7 @@ pub mod Turns
 pub mod DaemonTurns
 pub mod PastHistories
 pub mod ClockSteps
+pub mod NextDue
 pub mod Lawful
 pub mod CopiesCovered
 pub mod CopyCalls

@@ -17,7 +17,7 @@ ghost use Rattle.pgq_db.specs.Idle.{IsIdleUntil};
 ghost use Rattle.sky_world.specs.Idle.{AreIdle, IsLeap, IsReach, Skips};
 
 use crate::world::World;
-use sky_model::{DaemonPart, Refusal, Replies, Reply, laws};
+use sky_model::{DaemonPart, Refusal, Replies, Reply};
 use sky_val::{NoMemory, SessionId};
 
 /// The last moment of the clock, in the year 2043.
@@ -83,8 +83,6 @@ impl World {
                 break;
             }
             self.work_at(moment)?;
-            // A law, which the proof cites: the next moment is the first one.
-            laws::daemons_work_when_due();
             reach = self.skip_idle(reach, last);
         }
         self.stand_at(last);

@@ -1,5 +1,6 @@
 use Rattle.std.proofs.Common.{◌≡◌, subst, arith, w64, to_z, of_z}
 use Rattle.std.proofs.lemmas.Int.{ints, to_z-of_z}
+use Rattle.sky_histories.proofs.NextDue.{next_due_is_first}
 use Rattle.sky_world.specs.Views.{WorldView}
 use Rattle.sky_world.proofs.Clocks.{IsGoing, going-next, going-skipped, going-none, going-late}
 use Rattle.sky_world.proofs.world.World.work_until.Goals as goal
@@ -10,7 +11,7 @@ loop-moment-preserved c =
     let moment_is : to_z w64 (of_z w64 c.in-Some.moment) ≡ c.in-Some.moment = to_z-of_z w64 c.in-Some.moment (omega (arith, ints, c.in-Some.ensures.time.0, c.in-Some.ensures.time.1)) in
     let reach_is : to_z w64 (of_z w64 c.skip_idle-reach.result) ≡ c.skip_idle-reach.result =
     to_z-of_z w64 c.skip_idle-reach.result (omega (arith, ints, c.skip_idle-reach.ensures.reach.0, c.skip_idle-reach.ensures.reach.1)) in record {
-      going = going-skipped c.daemons_work_when_due.ensures.next _ _ _ _
+      going = going-skipped next_due_is_first _ _ _ _
           (going-next _ _ _ _ c.in-Some.moment _ c.loop-moment.invariant.going c.in-Some.ensures.next c.in-Some.ensures.later moment_is (omega (arith, ints, c.if-moment-last.false, moment_is))
           c.in_ok-work_at.ensures.changed c.in_ok-work_at.ensures.now c.in_ok-work_at.ensures.sessions c.in_ok-work_at.ensures.failed)
           c.skip_idle-reach.ensures.skips c.skip_idle-reach.ensures.since;
