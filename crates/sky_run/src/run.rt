@@ -64,10 +64,12 @@ impl Run {
     fn new(alloc: Global) -> Result<Run, NoMemory>
         ensures { IfOk result (λ run. IsFresh run) }
     {
+        // Before the world, which would have to be freed if there were no memory for it.
+        let reader = LineReader::new(alloc)?;
         Ok(Run {
             alloc,
             world: World::new(alloc),
-            reader: LineReader::new(alloc)?,
+            reader,
             replies: Replies::new(alloc),
             gathered: Vec::new(alloc),
             number: 1,
