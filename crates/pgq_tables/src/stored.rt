@@ -70,6 +70,20 @@ impl Model for Stored {
 }
 
 impl Rest {
+    /// All of it is missing.
+    fn nothing() -> Rest
+        ensures { result ≡ record { ev_owner = None; ev_retry = None; ev_extra1 = None; ev_extra2 = None; ev_extra3 = None; ev_extra4 = None } }
+    {
+        Rest {
+            ev_owner: None,
+            ev_retry: None,
+            ev_extra1: None,
+            ev_extra2: None,
+            ev_extra3: None,
+            ev_extra4: None,
+        }
+    }
+
     /// Whether all of it is missing.
     fn is_empty(&self) -> bool
         ensures { result ≡ true → self.now ≡ record { ev_owner = None; ev_retry = None; ev_extra1 = None; ev_extra2 = None; ev_extra3 = None; ev_extra4 = None } }
@@ -92,6 +106,20 @@ impl Rest {
             && self.ev_extra2 == other.ev_extra2
             && self.ev_extra3 == other.ev_extra3
             && self.ev_extra4 == other.ev_extra4
+    }
+
+    /// The same, copied.
+    fn copy(&self, alloc: Global) -> Result<Rest, NoMemory>
+        ensures { IfOk result (λ rest. rest ≡ self.now) }
+    {
+        Ok(Rest {
+            ev_owner: self.ev_owner,
+            ev_retry: self.ev_retry,
+            ev_extra1: copy_option(alloc, &self.ev_extra1)?,
+            ev_extra2: copy_option(alloc, &self.ev_extra2)?,
+            ev_extra3: copy_option(alloc, &self.ev_extra3)?,
+            ev_extra4: copy_option(alloc, &self.ev_extra4)?,
+        })
     }
 }
 
@@ -280,27 +308,24 @@ impl Stored {
     pub fn event(&self, alloc: Global) -> Result<Event, NoMemory>
         ensures { IfOk result (λ event. event ≡ self.now.event) }
     {
-        let mut event = Event {
+        let ev_type = copy_if(alloc, self.has_type, &self.ev_type)?;
+        let ev_data = copy_if(alloc, self.has_data, &self.ev_data)?;
+        let rest = match &self.rest {
+            Some(rest) => rest.copy(alloc)?,
+            None => Rest::nothing(),
+        };
+        Ok(Event {
             ev_id: self.ev_id,
             ev_time: self.ev_time,
             ev_txid: self.ev_txid,
-            ev_owner: None,
-            ev_retry: None,
-            ev_type: copy_if(alloc, self.has_type, &self.ev_type)?,
-            ev_data: copy_if(alloc, self.has_data, &self.ev_data)?,
-            ev_extra1: None,
-            ev_extra2: None,
-            ev_extra3: None,
-            ev_extra4: None,
-        };
-        if let Some(rest) = &self.rest {
-            event.ev_owner = rest.ev_owner;
-            event.ev_retry = rest.ev_retry;
-            event.ev_extra1 = copy_option(alloc, &rest.ev_extra1)?;
-            event.ev_extra2 = copy_option(alloc, &rest.ev_extra2)?;
-            event.ev_extra3 = copy_option(alloc, &rest.ev_extra3)?;
-            event.ev_extra4 = copy_option(alloc, &rest.ev_extra4)?;
-        }
-        Ok(event)
+            ev_owner: rest.ev_owner,
+            ev_retry: rest.ev_retry,
+            ev_type,
+            ev_data,
+            ev_extra1: rest.ev_extra1,
+            ev_extra2: rest.ev_extra2,
+            ev_extra3: rest.ev_extra3,
+            ev_extra4: rest.ev_extra4,
+        })
     }
 }
