@@ -1,5 +1,6 @@
 ghost use Rattle.std.specs.Prelude.{◌≡◌, ◌↔◌, ◌<◌, ◌^◌, ◌++◌, ℕ, Ok, Err, IfOk, OnOk, OnErr, MatchOption};
 ghost use Rattle.std.specs.Fmt.{decimal};
+ghost use Rattle.londiste_state.specs.StateText.{plain_state};
 
 use itoa::Buffer;
 use sky_val::{NoMemory, number_of};
@@ -69,13 +70,7 @@ impl TableState {
         if let Some(tick) = tick_after(DO_SYNC, bytes) {
             return Ok(TableState::DoSync(tick));
         }
-        match bytes {
-            b"none" => Ok(TableState::Absent),
-            b"in-copy" => Ok(TableState::InCopy),
-            b"catching-up" => Ok(TableState::CatchingUp),
-            b"ok" => Ok(TableState::Synced),
-            _ => Err(StateFault::BadState),
-        }
+        plain_state(bytes).ok_or(StateFault::BadState)
     }
 
     /// Whether a table may go from one state to another, which it then has.
@@ -105,6 +100,25 @@ fn append_with_tick(word: &[u8], tick: u64, into: &mut Vec<u8>) -> Result<(), No
         into.truncate(start);
     }
     printed
+}
+
+/// The state without a tick that is written so.
+fn plain_state(text: &[u8]) -> Option<TableState>
+    ensures { result ≡ plain_state text.now }
+{
+    if text == b"none".as_slice() {
+        return Some(TableState::Absent);
+    }
+    if text == b"in-copy".as_slice() {
+        return Some(TableState::InCopy);
+    }
+    if text == b"catching-up".as_slice() {
+        return Some(TableState::CatchingUp);
+    }
+    if text == b"ok".as_slice() {
+        return Some(TableState::Synced);
+    }
+    None
 }
 
 /// The tick that is written after a word, as the whole rest of a text.
