@@ -7,7 +7,6 @@ use Rattle.std.specs.Ordering.{eq_by_cmp}
 use Rattle.sky_val.specs.declared.val.Val.{Val}
 use Rattle.sky_val.specs.declared.column.Column.{Column}
 use Rattle.sky_val.specs.Order.{val_cmp}
-use Rattle.sky_val.specs.OrderLaws.{val_eq-ties}
 use Rattle.sky_urlenc.specs.RowEvents.{Trigger, changed_columns, are_ignored}
 use Rattle.std.proofs.lemmas.List.{nil_from_length}
 
@@ -42,6 +41,3 @@ told_left trigger changed c cs o n os ns e told = grind (arith, e, told)
 pub none_ignored : (trigger : Trigger) (changed : List (List ℕ)) → length trigger.ignored ≡ 0 → false ≡ are_ignored trigger changed
 none_ignored trigger [] none = refl
 none_ignored trigger (name ∷ names) none = grind (arith, nil_from_length trigger.ignored none)
-
--- what passing a column does to what is left, and what follows if none is left
-pub ruleset passed = (none_left, same_left, ignored_left, told_left, none_ignored, val_eq-ties)

@@ -62,7 +62,6 @@ impl Trigger {
     }
 
     /// Whether columns were changed, all of them ignored by this trigger.
-    #[tactic(auto, using(crate::proofs::Ignored::passed))]
     fn ignores_change(&self, columns: &[Column], old: &[Val], new: &[Val]) -> bool
         ensures { result ≡ are_ignored self.now (changed_columns columns.now old.now new.now) }
     {
