@@ -35,6 +35,13 @@ insert-last (e ∷ es) a w above =
     let greater : nat_cmp a e.0 ≡ Greater = grind (arith, nat_tests, above.0) in
     ap (λ o. match_ordering o ((a, w) ∷ e ∷ es) ((e.0, w) ∷ es) (e ∷ insert_entry nat_cmp es a w)) greater ∙ ap (λ rest. e ∷ rest) (insert-last es a w above.1)
 
+-- one that was put at a place above all, and removed again
+pub remove-last : {W : Type 0} (es : List (ℕ × W)) (a : ℕ) (w : W) → AllByRecursion (λ b. b < a) (keys_of es) → remove_entry (is_at (nat_cmp a)) (es ++ (a, w) ∷ []) ≡ es
+remove-last [] a w above = grind (arith, nat_tests)
+remove-last (e ∷ es) a w above =
+    ap (λ t. cond t (es ++ (a, w) ∷ []) (e ∷ remove_entry (is_at (nat_cmp a)) (es ++ (a, w) ∷ []))) (above_is_other a e.0 above.0)
+    ∙ ap (λ rest. e ∷ rest) (remove-last es a w above.1)
+
 -- ---- keys
 
 -- whether a key is an entry's
@@ -66,14 +73,6 @@ listed_more es p w q =
     cond-or (eq_by_cmp due_cmp (w.due, p) q) (is_listed q es)
     ∙ ap (λ b. b || is_listed q es) (keys_symm (w.due, p) q)
     ∙ sym (any-append (λ e. eq_by_cmp due_cmp q (due_key e)) es (p, w))
-
--- one that was added and removed again
-pub listed_again : (es : Entries) (p : ℕ) (w : Retry) (q : ℤ × ℕ) (was : Bool) → AreBelow p es → was ≡ is_listed q es
-    → cond (eq_by_cmp due_cmp (w.due, p) q) false (cond (eq_by_cmp due_cmp (w.due, p) q) true was) ≡ is_listed q es
-listed_again es p w q was below is = elim (eq_by_cmp due_cmp (w.due, p) q) as (λ t. eq_by_cmp due_cmp (w.due, p) q ≡ t → cond t false (cond t true was) ≡ is_listed q es) [
-  | true ↦ λ tie. sym (ap (λ k. is_listed k es) (sym (due_ties-is (w.due, p) q tie)) ∙ above_listed w.due p es below)
-  | false ↦ λ _. is
-] refl
 
 -- one less
 pub listed_less : (es : Entries) (p : ℕ) (w : Retry) (q : ℤ × ℕ) → InOrder es → at p es ≡ Some w

@@ -1,5 +1,5 @@
 -- The index by subscription and event id: who waits, and one more or one less.
-use Rattle.std.proofs.Common.{◌≡◌, ℕ, Bool, true, false, cond, not, [], ◌∷◌, ◌++◌, Option, Some, None, is_some, refl, sym, subst, ◌∙◌, ap}
+use Rattle.std.proofs.Common.{◌≡◌, ℕ, true, false, cond, not, [], ◌∷◌, ◌++◌, Some, None, is_some, refl, sym, subst, ◌∙◌, ap}
 use Rattle.std.specs.Prelude.{◌==◌, ◌&&◌}
 use Rattle.std.specs.List.{list_any}
 use Rattle.std.specs.Ordering.{nat_cmp, eq_by_cmp}
@@ -149,11 +149,6 @@ module _ (es : Entries) (places fewer : PlacesBySub) (place : ℕ) (w : Retry) (
         | true ↦ λ is. absurd (cc (sym apart ∙ ap (eq_by_cmp nat_cmp place) (own_place a v found is) ∙ ties_itself place))
         | false ↦ λ _. refl
       ] refl))))
-
--- what was added and removed again
-pub added_again : (here : Bool) (one was : Option ℕ) → (here ≡ true → was ≡ None) → cond here None (cond here one was) ≡ was
-added_again true one was none = sym (none refl)
-added_again false one was none = refl
 
 pub placed_same : (es : Entries) (places same : PlacesBySub) → IsPlaced es places → ((s i : ℕ) → place_of same s i ≡ place_of places s i) → IsPlaced es same
 placed_same es places same placed is = record {

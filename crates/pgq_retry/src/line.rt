@@ -66,9 +66,9 @@ impl Line {
         ensures in_order { InOrder self.new }
     {
         let due = (waiting.due, place);
-        self.dues.insert(due)?;
-        let Ok(_) = self.entries.insert(place, waiting) else {
-            self.dues.remove(&due);
+        drop(self.entries.insert(place, waiting)?);
+        let Ok(_) = self.dues.insert(due) else {
+            drop(self.entries.remove(&place));
             return Err(AllocError);
         };
         Ok(())
@@ -90,7 +90,7 @@ impl Line {
         ensures others { self.new ≡ remove_entry (is_at (nat_cmp place)) self.old }
         ensures in_order { InOrder self.new }
     {
-        self.remove(place);
+        drop(self.remove(place));
     }
 
     /// The place of the first by due moment.

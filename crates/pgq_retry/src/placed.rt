@@ -100,9 +100,9 @@ impl Placed {
         ensures err { OnErr result (self.new ≡ self.old) }
     {
         let (sub, ev_id) = (waiting.sub, waiting.event.ev_id);
-        self.places.add(self.alloc, sub, ev_id, place)?;
-        let Ok(()) = self.line.push(place, waiting) else {
-            self.places.remove(sub, ev_id);
+        self.line.push(place, waiting)?;
+        let Ok(()) = self.places.add(self.alloc, sub, ev_id, place) else {
+            self.line.discard(place);
             return Err(AllocError);
         };
         Ok(())

@@ -60,7 +60,7 @@ impl Places {
             None => {
                 let mut places = BTreeMap::new(alloc);
                 places.insert(ev_id, place)?;
-                self.by_sub.insert(sub, places)?;
+                drop(self.by_sub.insert(sub, places)?);
             }
         }
         Ok(())
@@ -76,7 +76,7 @@ impl Places {
         };
         places.remove(&ev_id);
         if places.is_empty() {
-            self.by_sub.remove(&sub);
+            drop(self.by_sub.remove(&sub));
         }
     }
 

@@ -4,7 +4,7 @@ ghost use Rattle.pgq_retry.specs.Retries.{is_asked, count_of, by_due, due_now, l
 use crate::placed::Placed;
 use crate::retry::Retry;
 use sky_val::NoMemory;
-use std::alloc::Global;
+use std::alloc::{AllocError, Global};
 use std::marker::Model;
 
 /// The events of one database that wait to be retried, in the order in which they were asked for.
@@ -63,10 +63,15 @@ impl RetryQueue {
         ensures ok { IfOk result (λ new. self.new ≡ (if new then self.old ++ waiting ∷ [] else self.old)) }
         ensures err { OnErr result (self.new ≡ self.old) }
     {
+        // Freed in place, each of its texts would be a case of the proof: hence `drop`.
         if self.contains(waiting.sub, waiting.event.ev_id) {
+            drop(waiting);
             return Ok(false);
         }
-        let place = self.placed.next_place()?;
+        let Ok(place) = self.placed.next_place() else {
+            drop(waiting);
+            return Err(AllocError);
+        };
         self.placed.push(place, waiting)?;
         Ok(true)
     }

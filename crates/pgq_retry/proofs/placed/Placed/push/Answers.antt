@@ -1,28 +1,35 @@
-use Rattle.std.proofs.Common.{◌∙◌, ap, sym, subst, None, Some, cond}
-use Rattle.std.specs.Prelude.{◌==◌, ◌&&◌}
-use Rattle.std.specs.Map.{values_of}
-use Rattle.std.proofs.lemmas.Bool.{and_parts, eqb-true}
+use Rattle.std.proofs.Common.{◌≡◌, ◌∙◌, ap, sym, subst}
+use Rattle.std.specs.Ordering.{nat_cmp}
+use Rattle.std.specs.Map.{values_of, remove_entry}
+use Rattle.std.specs.BTreeMap.{is_at}
 use Rattle.pgq_retry.specs.Retries.{is_asked}
-use Rattle.pgq_retry.specs.Kept.{AreBelow, InOrder, place_of, IsPlaced}
-use Rattle.pgq_retry.proofs.Indexed.{has_none, placed_more, placed_same, added_again}
+use Rattle.pgq_retry.specs.Kept.{AreBelow, InOrder, IsPlaced}
+use Rattle.pgq_retry.proofs.DueIndex.{remove-last}
+use Rattle.pgq_retry.proofs.Indexed.{has_none, placed_more, placed_same}
 use Rattle.pgq_retry.proofs.placed.Placed.push.Goals as goal
+
+pub invariant_of-self : goal.invariant_of-self
+invariant_of-self c = subst (λ es. IsPlaced es c.self.inside.places.by_sub) (sym c.in_err-push.ensures.err) c.self.invariant
 
 pub invariant_of-self-in-Ok : goal.invariant_of-self-in-Ok
 invariant_of-self-in-Ok c =
     let fresh = has_none c.self.inside.line c.self.inside.places.by_sub c.self.invariant c.args.waiting.sub c.args.waiting.event.ev_id (ap (λ es. is_asked c.args.waiting.sub c.args.waiting.event.ev_id (values_of es)) c.self.view_is ∙ c.requires.fresh) in
-    subst (λ es. IsPlaced es c.add.new.self.by_sub) (sym c.in-Ok.ensures.ok)
+    subst (λ es. IsPlaced es c.add.new.self.by_sub) (sym c.in_ok-push.ensures.ok)
     (placed_more c.self.inside.line c.self.inside.places.by_sub c.add.new.self.by_sub c.args.place c.args.waiting c.self.invariant
-    (subst (AreBelow c.args.place) (sym c.self.view_is) c.requires.above) fresh c.in_ok-add.ensures.ok
-    (subst InOrder c.in-Ok.ensures.ok c.in-Ok.ensures.in_order))
+    (subst (AreBelow c.args.place) (sym c.self.view_is) c.requires.above) fresh c.in-Ok.ensures.ok
+    (subst InOrder c.in_ok-push.ensures.ok c.in_ok-push.ensures.in_order))
+
+-- one that is put in and taken back leaves what was there
+back : (c : goal.After-discard) → c.discard.new.self ≡ c.self.inside.line
+back c =
+    c.discard.ensures.others
+    ∙ ap (remove_entry (is_at (nat_cmp c.args.place))) c.in_ok-push.ensures.ok
+    ∙ remove-last c.self.inside.line c.args.place c.args.waiting (subst (AreBelow c.args.place) (sym c.self.view_is) c.requires.above)
 
 pub invariant_of-self-in_default : goal.invariant_of-self-in_default
 invariant_of-self-in_default c =
-    let fresh = has_none c.self.inside.line c.self.inside.places.by_sub c.self.invariant c.args.waiting.sub c.args.waiting.event.ev_id (ap (λ es. is_asked c.args.waiting.sub c.args.waiting.event.ev_id (values_of es)) c.self.view_is ∙ c.requires.fresh) in
-    subst (λ es. IsPlaced es c.remove.new.self.by_sub) (sym c.in_default.ensures.err)
-    (placed_same c.self.inside.line c.self.inside.places.by_sub c.remove.new.self.by_sub c.self.invariant (λ s i.
-    c.remove.ensures s i
-    ∙ ap (cond (s == c.args.waiting.sub && i == c.args.waiting.event.ev_id) None) (c.in_ok-add.ensures.ok s i)
-    ∙ added_again (s == c.args.waiting.sub && i == c.args.waiting.event.ev_id) (Some c.args.place) (place_of c.self.inside.places.by_sub s i) (λ is.
-    let parts = and_parts (s == c.args.waiting.sub) (i == c.args.waiting.event.ev_id) is in
-    ap (λ s. place_of c.self.inside.places.by_sub s i) (eqb-true s c.args.waiting.sub parts.0)
-    ∙ ap (place_of c.self.inside.places.by_sub c.args.waiting.sub) (eqb-true i c.args.waiting.event.ev_id parts.1) ∙ fresh)))
+    subst (λ es. IsPlaced es c.add.new.self.by_sub) (sym (back c))
+    (placed_same c.self.inside.line c.self.inside.places.by_sub c.add.new.self.by_sub c.self.invariant c.in_default.ensures.err)
+
+pub returns-in_default : goal.returns-in_default
+returns-in_default c = record { ok = tt; err = back c ∙ c.self.view_is }
