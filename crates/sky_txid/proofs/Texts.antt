@@ -1,5 +1,7 @@
 -- Texts that grow at their end.
-use Rattle.std.proofs.Common.{◌≡◌, ℕ, zero, suc, ◌+◌, ◌<◌, ◌≤◌, List, [], ◌∷◌, ◌++◌, length, take, get_or, map, sym, refl, ◌∙◌, ap, arith, append_assoc, append-nil}
+use Rattle.std.proofs.Common.{◌≡◌, ℕ, zero, suc, ◌+◌, ◌<◌, ◌≤◌, List, [], ◌∷◌, ◌++◌, length, take, get_or, map, Result, Ok, Err, sym, refl, ◌∙◌, ap, arith, append_assoc, append-nil}
+use Rattle.std.specs.Result.{OnErr}
+use Rattle.std.proofs.Math.Seq.{take-append_seam}
 use Rattle.std.proofs.lemmas.List.{take_more, map-append}
 use Rattle.std.specs.Fmt.{decimal}
 use Rattle.std.specs.List.{join_with_byte}
@@ -14,6 +16,15 @@ kept_before (x ∷ old) more (y ∷ new) h = grind (arith, h, kept_before old mo
 -- the same, of a text that is the old one and more
 pub kept_by : (old more mid new : List ℕ) → mid ≡ old ++ more → take (length mid) new ≡ mid → take (length old) new ≡ old
 kept_by old more mid new is h = kept_before old more new (rw is at h)
+
+-- what was appended to leaves what was there before
+pub kept_under : (old more new : List ℕ) → new ≡ old ++ more → take (length old) new ≡ old
+kept_under old more new is = rw is (take-append_seam old more)
+
+-- what is true however a call ends is true where it fails
+pub where_failed : {T E : Type 0} {P : Type 0} (r : Result T E) → P → OnErr r P
+where_failed (Ok v) p = tt
+where_failed (Err e) p = p
 
 -- one more piece, appended
 pub join-push : (c : ℕ) (first : List ℕ) (pieces : List (List ℕ)) (piece : List ℕ) → join_with_byte c ((first ∷ pieces) ++ piece ∷ []) ≡ join_with_byte c (first ∷ pieces) ++ (c ∷ piece)
