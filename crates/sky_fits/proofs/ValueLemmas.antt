@@ -111,3 +111,11 @@ pub key-pass : (columns : List Column) (key : List Val) (index place : ℕ) (col
 key-pass columns key index place column value here within is taken_here =
     sym (ap (λ cs. takes cs (drop place key)) here ∙ ap (takes (column ∷ key_columns (drop (index + 1) columns))) (drop-from key place value within is)
     ∙ takes-pass column (key_columns (drop (index + 1) columns)) value (drop (place + 1) key) taken_here)
+
+-- and at one that its column doesn't take, the key is refused
+pub key-stop : (columns : List Column) (key : List Val) (index place : ℕ) (column : Column) (value : Val) (stop : Stop)
+    → key_columns (drop index columns) ≡ column ∷ key_columns (drop (index + 1) columns) → place < length key → get_or key place value ≡ value
+    → StopsAs stop (fits (column ∷ []) (value ∷ [])) → StopsAs stop (takes (key_columns (drop index columns)) (drop place key))
+key-stop columns key index place column value stop here within is refused =
+    subst (StopsAs stop) (sym (ap (λ cs. takes cs (drop place key)) here ∙ ap (takes (column ∷ key_columns (drop (index + 1) columns))) (drop-from key place value within is)))
+    (takes-stop column (key_columns (drop (index + 1) columns)) value (drop (place + 1) key) stop refused)
