@@ -85,7 +85,7 @@ fn copies(alloc: Global, found: &[&Stored]) -> Result<Vec<Event>, NoMemory>
 {
     let mut events = Vec::with_capacity(alloc, found.len())?;
     for stored in found {
-        events.push(stored.event(alloc)?)?;
+        events.push_reserved(stored.event(alloc)?);
     }
     Ok(events)
 }
@@ -96,7 +96,7 @@ pub fn recorded<'a>(alloc: Global, found: &[&'a Stored]) -> Result<Vec<Recorded<
 {
     let mut events = Vec::with_capacity(alloc, found.len())?;
     for stored in found {
-        events.push(stored.recorded())?;
+        events.push_reserved(stored.recorded());
     }
     Ok(events)
 }

@@ -26,7 +26,7 @@ pub(crate) fn move_to<'a>(
 {
     events.reserve(placed.len())?;
     for (_, event) in placed {
-        events.push(event)?;
+        events.push_reserved(event);
     }
     Ok(())
 }
