@@ -47,7 +47,7 @@ fn nothing_given(alloc: Global, columns: &[Column]) -> Result<Vec<Option<Val>>, 
 {
     let mut given = Vec::with_capacity(alloc, columns.len())?;
     for _ in columns {
-        given.push(None)?;
+        given.push_reserved(None);
     }
     Ok(given)
 }
