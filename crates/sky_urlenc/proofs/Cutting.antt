@@ -42,11 +42,3 @@ pub pieces_first : (start : ℕ) (text before behind : List ℕ) → (before, be
     → pieces_from start text ≡ record { start = start; bytes = before } ∷ pieces_from (start + (length text - length behind)) behind
 pieces_first start text before behind cut some =
     subst (StartsWith start text) (sym cut) (starts_with_first start text) ∙ cond-true _ _ _ (lt-ltb 0 (length before) some)
-
-shorter_at : (text : List ℕ) (found : ℕ) → 0 < length text → length (drop (found + 1) text) < length text
-shorter_at text found some = omega (arith, length-drop (found + 1) text)
-
--- what comes after the first piece is shorter
-pub behind_shorter : (text before behind : List ℕ) → (before, behind) ≡ first_piece text → 0 < length text → length behind < length text
-behind_shorter text before behind cut some =
-    grind (arith, cut, shorter_at text)

@@ -25,7 +25,6 @@ pub fn event_type(alloc: Global, op: Op, schema: &Schema) -> Result<Text, NoMemo
 }
 
 /// The same, if it is short enough to take no memory of its own.
-#[tactic(auto, using(crate::proofs::RowTexts::key_next, crate::proofs::RowTexts::next_as_first, crate::proofs::RowTexts::next_behind_byte))]
 fn short_type(op: Op, schema: &Schema) -> Option<ArrayString<MOST_IN_PLACE>>
     ensures { IfSome result (λ text. text.bytes ≡ event_type op schema.now) }
 {
@@ -70,7 +69,6 @@ fn op_mark(op: Op) -> &'static str
     }
 }
 
-#[tactic(auto, using(crate::proofs::RowTexts::key_next, crate::proofs::RowTexts::next_as_first, crate::proofs::RowTexts::next_behind_byte))]
 fn append_key_names(columns: &[Column], into: &mut String) -> Result<(), NoMemory>
     ensures { OnOk result (string_bytes into.new ≡ string_bytes into.old
         ++ join_with_byte comma (map (λ column. column.name) (key_columns columns.now))) }

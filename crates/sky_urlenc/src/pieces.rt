@@ -60,7 +60,6 @@ impl<'a> Iterator for Pieces<'a> {
 
     ghost remaining = { λ it. at_most (length it.rest.now) };
 
-    #[tactic(auto, using(crate::proofs::Cutting::pieces_first, crate::proofs::Cutting::behind_shorter))]
     fn next(&mut self) -> Option<Piece<'a>> {
         while !self.rest.is_empty() {
             let start = self.start;
