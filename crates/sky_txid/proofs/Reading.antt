@@ -32,9 +32,6 @@ split_none byte (b ∷ text) others =
 pub range_behind : (text : List ℕ) (place : ℕ) → take (length text - (place + 1)) (drop (place + 1) text) ≡ drop (suc place) text
 range_behind text place = rw add-one (take_all (length text - suc place) (drop (suc place) text) (omega (arith, length-drop (suc place) text)))
 
--- what a text is cut into
-pub ruleset cuts = (split_found, split_none, range_behind)
-
 -- there is one part or more
 pub split_parts : (p : ℕ → Bool) (text : List ℕ) → (first : List ℕ) × (rest : List (List ℕ)) × (slice_split p text ≡ first ∷ rest)
 split_parts p [] = ([], [], refl)
@@ -89,16 +86,6 @@ digits_more ds k lt h front = rw add-one (more ds k lt h front)
 -- a value so far that is too large with the next digit, or even without
 pub number_too_large : (ds : List ℕ) (k value : ℕ) → k < length ds → is_ascii_digit (get_or ds k 0) ≡ true → digits_value 10 (take k ds) ≡ value → 2 ^ 64 ≤ value * 10 + (get_or ds k 0 - 48) → parse_number ds ≡ None
 number_too_large ds k value lt h is large = let more = value_more ds k value lt h is in number_large ds (k + 1) (omega arith)
-
--- all the digits
-pub number_all : (ds : List ℕ) (k value : ℕ) → 0 < length ds → length ds ≤ k → all_ascii_digits (take k ds) ≡ true → digits_value 10 (take k ds) ≡ value → value < 2 ^ 64 → parse_number ds ≡ Some value
-number_all ds k value nonempty le digits is fits =
-    let whole : take k ds ≡ ds = take_all k ds le in
-    let all_value = rw whole at is in
-    number_read ds nonempty (rw whole at digits) (omega arith) ∙ ap Some all_value
-
--- what each digit of a number adds
-pub ruleset digit_steps = (number_no_digit, number_too_large, number_all, value_more, digits_more)
 
 -- a list's text that isn't empty
 pub list_read : (text : List ℕ) → 0 < length text → parse_list text ≡ parse_numbers (slice_split (λ b. b == comma) text)

@@ -132,7 +132,6 @@ impl Snapshot {
     }
 
     /// Appends `xmin:xmax:xip` in decimal, the ids of `xip` separated by commas.
-    #[tactic(auto, using(crate::proofs::ReadBack::read_back))]
     pub fn print(&self, into: &mut Vec<u8>) -> Result<(), NoMemory>
         ensures ok { OnOk result (into.new.items ≡ into.old.items ++ snapshot_text self.now) }
         ensures err { OnErr result (into.new.items ≡ into.old.items) }

@@ -53,7 +53,6 @@ pub(crate) fn append_parts(
 }
 
 /// The bytes before the first such byte, and those after it.
-#[tactic(auto, using(crate::proofs::Reading::cuts))]
 fn cut(text: &[u8], byte: u8) -> Option<(&[u8], &[u8])>
     ensures parts { MatchOption result (parts_at byte text.now ≡ text.now ∷ [])
         (λ cut. parts_at byte text.now ≡ cut.0.now ∷ parts_at byte cut.1.now) }
@@ -68,7 +67,6 @@ fn cut(text: &[u8], byte: u8) -> Option<(&[u8], &[u8])>
 }
 
 /// The three parts around two colons, if there are no more.
-#[tactic(auto, using(crate::proofs::Reading::four_parts))]
 pub(crate) fn three_parts(text: &[u8]) -> Option<(&[u8], &[u8], &[u8])>
     ensures { MatchOption result (parse_snapshot text.now ≡ None)
         (λ parts. parts_at colon text.now ≡ parts.0.now ∷ parts.1.now ∷ parts.2.now ∷ []) }
@@ -82,7 +80,6 @@ pub(crate) fn three_parts(text: &[u8]) -> Option<(&[u8], &[u8], &[u8])>
 }
 
 /// The number that one or more digits write, if it is below `2^64`.
-#[tactic(auto, using(crate::proofs::Reading::digit_steps))]
 pub(crate) fn number(digits: &[u8]) -> Option<u64>
     ensures { result ≡ parse_number digits.now }
 {
