@@ -276,12 +276,30 @@ impl Table {
         if at.has_row != needs_row {
             return Ok(false);
         }
+        self.write_logged(place, txid, key, row, at.has_own)?;
+        Ok(true)
+    }
+
+    /// The same as `write_at`, for a transaction of which it is known whether it has a version at the key. If its keys are
+    /// logged, the key isn't looked for among them.
+    #[inline(always)]
+    fn write_logged(
+        &mut self,
+        place: Option<usize>,
+        txid: u64,
+        key: Key,
+        row: Option<Row>,
+        has_own: bool,
+    ) -> Result<(), NoMemory>
+        requires place { place ≡ place_in self.old key }
+        requires own { has_own ≡ is_some (version_of txid (versions_at key self.old.versions)) }
+        ensures ok { OnOk result
+            (self.new ≡ record self.old { versions = written txid key row self.old.versions; places = self.new.places }) }
+        ensures err { OnErr result (self.new ≡ self.old) }
+    {
         let logged = key.copy(self.alloc)?;
         index_or_log(&mut self.written, &mut self.log, self.alloc, txid, logged)?;
-        let version = Version { txid, row };
-        self.rows
-            .put(&mut self.older, place, key, version, at.has_own)?;
-        Ok(true)
+        self.rows.put(&mut self.older, place, key, Version { txid, row }, has_own)
     }
 
     /// How the transaction stands at the key, which was found, if only the newest version may be its own.
