@@ -20,7 +20,7 @@ use Rattle.sky_keys.proofs.VersionLemmas.{version_of-without, without-none}
 use Rattle.sky_keys.proofs.EntryLemmas.{key_ties-is}
 use Rattle.sky_rows.specs.Table.{forgotten_at}
 use Rattle.sky_rows.specs.declared.written.Written.{Written}
-use Rattle.sky_rows.specs.Written.{indexed, is_unindexed, wrote, IsKept, AllKept}
+use Rattle.sky_rows.specs.Written.{is_unindexed, wrote, IsKept, AllKept}
 use Rattle.sky_rows.proofs.TableLemmas.{all_kept_more}
 use Rattle.std.proofs.lemmas.Bool.Decides.{nat_tests}
 

@@ -1,14 +1,16 @@
 -- The places of keys' slots, after a slot came, changed or went.
 use Rattle.std.proofs.Common.{◌≡◌, ◌≢◌, ℕ, zero, suc, ◌<◌, Bool, true, false, cond, List, [], ◌∷◌, length, get_or, Ordering, Less, Equal, Greater, Option, Some, None, Result, Ok, Err, refl, sym, ◌∙◌, ap, subst, arith, is_some, get_or-set_same, get_or-set_other}
-use Rattle.std.specs.Prelude.{◌==◌, option_map, filter, IsSome, IfSome, OnOk, OnErr}
+use Rattle.std.specs.Prelude.{◌==◌, option_map, filter, slice_get, IsSome, IfSome, OnOk, OnErr}
 use Rattle.std.specs.Option.{unwrap_or}
 use Rattle.std.specs.List.Sorted.{IsStrictlySortedBy}
 use Rattle.std.specs.Ordering.{eq_by_cmp, is_eq, match_ordering}
 use Rattle.std.specs.Map.{keys_of, lookup, set_value, remove_entry}
 use Rattle.std.specs.BTreeMap.{is_at, insert_entry}
-use Rattle.std.specs.Cmp.{tied_itself}
+use Rattle.std.specs.Cmp.{eq_by_cmp_equiv, tied_itself}
 use Rattle.std.proofs.lemmas.Bool.{eqb-true, eq-eqb}
 use Rattle.std.proofs.lemmas.Option.{same_Some}
+use Rattle.std.proofs.lemmas.Map.Entries.{lookup_from_place}
+use Rattle.std.proofs.lemmas.Map.Keys.{IsDistinct-from_sorted}
 use Rattle.slab.specs.Slab.{Slab, Updates, with_value, get as slab_get}
 use Rattle.sky_val.specs.declared.val.Val.{Val}
 use Rattle.sky_val.specs.Order.{key_cmp}
@@ -370,9 +372,21 @@ rows-filter slots test (e ∷ es) = elim (test e.0) as (λ b. rows_of slots (con
   | false ↦ rows-filter slots test es
 ]
 
--- what is kept of the first key of those that are left
-pub first_kept : (slots : Slab Slot) (es rest : Places) (q : List Val) (p : ℕ) (kept : Kept) → es ≡ (q, p) ∷ rest → Some kept ≡ kept_at slots p → rows_of slots es ≡ (q, kept) ∷ rows_of slots rest
-first_kept slots es rest q p kept first is = ap (rows_of slots) first ∙ ap (λ o. (q, unwrap_or o nothing) ∷ rows_of slots rest) (sym is)
+-- each of these keys is found at the place beside it
+abbrev pub AreFound : Places → Places → Type 0
+AreFound places [] = Unit {0}
+AreFound places (e ∷ es) = (place_at places e.0 ≡ Some e.1) × AreFound places es
 
-pub first_nothing : (slots : Slab Slot) (es rest : Places) (q : List Val) (p : ℕ) → es ≡ (q, p) ∷ rest → None ≡ kept_at slots p → rows_of slots es ≡ (q, nothing) ∷ rows_of slots rest
-first_nothing slots es rest q p first is = ap (rows_of slots) first ∙ ap (λ o. (q, unwrap_or o nothing) ∷ rows_of slots rest) (sym is)
+found_each : (places es : Places) → ((i : ℕ) (q : List Val) (p : ℕ) → slice_get es i ≡ Some (q, p) → place_at places q ≡ Some p) → AreFound places es
+found_each places [] each = tt
+found_each places (e ∷ es) each = (each 0 e.0 e.1 refl, found_each places es (λ i. each (suc i)))
+
+pub all_found : (places : Places) → IsStrictlySortedBy key_cmp (keys_of places) → AreFound places places
+all_found places order = found_each places places (λ i q p. lookup_from_place (eq_by_cmp_equiv key_cmp-IsTotalOrder) places i q p (IsDistinct-from_sorted key_cmp (keys_of places) order))
+
+pub some_found : (places : Places) (test : List Val → Bool) (es : Places) → AreFound places es → AreFound places (filter (λ e. test e.0) es)
+some_found places test [] found = tt
+some_found places test (e ∷ es) found = elim (test e.0) as (λ b. AreFound places (cond b (e ∷ filter (λ e. test e.0) es) (filter (λ e. test e.0) es))) [
+  | true ↦ (found.0, some_found places test es found.1)
+  | false ↦ some_found places test es found.1
+]

@@ -5,6 +5,7 @@ use Rattle.std.specs.Option.{unwrap_or}
 use Rattle.std.specs.List.Sorted.{IsStrictlySortedBy}
 use Rattle.std.specs.Map.{keys_of, lookup, set_value, remove_entry}
 use Rattle.std.specs.BTreeMap.{is_at, insert_entry}
+use Rattle.slab.specs.Slab.{Slab}
 use Rattle.sky_val.specs.declared.val.Val.{Val}
 use Rattle.sky_val.specs.Order.{key_cmp}
 use Rattle.sky_val.specs.Entries.{Entries, at, is_in_order}
@@ -13,7 +14,10 @@ use Rattle.sky_rows.specs.declared.kept.Kept.{Kept}
 use Rattle.sky_rows.specs.Versions.{IsOneOfEach}
 use Rattle.sky_rows.specs.Older.{OlderView}
 use Rattle.sky_rows.specs.Kept.{versions_of, all_versions, IsUsed, Moves, AreOwn}
+use Rattle.sky_rows.specs.declared.rows.Slot.{Slot}
+use Rattle.sky_rows.specs.Rows.{Places, place_at, kept_at, nothing, rows_of}
 use Rattle.sky_rows.specs.Table.{forgotten_at}
+use Rattle.sky_rows.proofs.PlaceLemmas.{lookup-rows}
 use Rattle.sky_rows.proofs.Found.{one-with, one-without}
 use Rattle.sky_rows.proofs.TableLemmas.{lookup-at, in_order-sorted, written-set, unchanged-set, written-insert}
 use Rattle.sky_rows.proofs.ForgetLemmas.{forgotten_at-none, forgotten_at-left, forgotten_at-remove}
@@ -33,6 +37,12 @@ found_at older key es o is = sym (lookup-at key (all_versions older es)) ∙ loo
 
 pub versions_found : (older : OlderView) (key : List Val) (es : Entries Kept) (kept : Kept) → Some kept ≡ lookup (is_at (key_cmp key)) es → versions_at key (all_versions older es) ≡ versions_of older kept
 versions_found older key es kept is = ap (λ o. unwrap_or o []) (found_at older key es (Some kept) is)
+
+pub versions_there : (older : OlderView) (slots : Slab Slot) (places : Places) (key : List Val) (p : ℕ) → place_at places key ≡ Some p
+    → versions_at key (all_versions older (rows_of slots places)) ≡ versions_of older (unwrap_or (kept_at slots p) nothing)
+versions_there older slots places key p is =
+    versions_found older key (rows_of slots places) (unwrap_or (kept_at slots p) nothing)
+    (ap (option_map (λ p. unwrap_or (kept_at slots p) nothing)) (sym is) ∙ sym (lookup-rows slots (is_at (key_cmp key)) places))
 
 pub none_found : (older : OlderView) (key : List Val) (es : Entries Kept) → None ≡ lookup (is_at (key_cmp key)) es → versions_at key (all_versions older es) ≡ []
 none_found older key es is = ap (λ o. unwrap_or o []) (found_at older key es None is)

@@ -169,20 +169,6 @@ all_insert older key kept (e ∷ es) = elim (key_cmp key e.0) as (λ o. all_vers
 
 -- ---- some of the keys
 
-lack_filter : (test : List Val → Bool) (list : Option ℕ) (es : Entries Kept) → Lack list es → Lack list (filter (λ e. test e.0) es)
-lack_filter test list [] lack = tt
-lack_filter test list (e ∷ es) lack = elim (test e.0) as (λ b. Lack list (cond b (e ∷ filter (λ e. test e.0) es) (filter (λ e. test e.0) es))) [
-  | true ↦ (lack.0, lack_filter test list es lack.1)
-  | false ↦ lack_filter test list es lack.1
-]
-
-pub own_filter : (older : OlderView) (test : List Val → Bool) (es : Entries Kept) → AreOwn older es → AreOwn older (filter (λ e. test e.0) es)
-own_filter older test [] own = tt
-own_filter older test (e ∷ es) own = elim (test e.0) as (λ b. AreOwn older (cond b (e ∷ filter (λ e. test e.0) es) (filter (λ e. test e.0) es))) [
-  | true ↦ (own.0, own.1, lack_filter test e.1.list es own.2, own_filter older test es own.3)
-  | false ↦ own_filter older test es own.3
-]
-
 pub all_filter : (older : OlderView) (test : List Val → Bool) (es : Entries Kept) → all_versions older (filter (λ e. test e.0) es) ≡ filter (λ e. test e.0) (all_versions older es)
 all_filter older test [] = refl
 all_filter older test (e ∷ es) = elim (test e.0) as (λ b. all_versions older (cond b (e ∷ filter (λ e. test e.0) es) (filter (λ e. test e.0) es))

@@ -8,7 +8,7 @@ ghost use Rattle.sky_val.specs.declared.val.Val.{Val};
 ghost use Rattle.sky_val.specs.Order.{key_cmp};
 ghost use Rattle.sky_keys.specs.Versions.{version_of, versions_at, written};
 ghost use Rattle.sky_rows.specs.Kept.{all_versions, AreOwn};
-ghost use Rattle.sky_rows.specs.Rows.{place_at, key_at, kept_at, rows_in, AreThere};
+ghost use Rattle.sky_rows.specs.Rows.{place_at, key_at, rows_in, AreThere};
 ghost use Rattle.sky_rows.specs.Table.{forgotten_at};
 
 use crate::kept::Kept;
@@ -73,7 +73,8 @@ impl Rows {
 
     /// The place of each key, in the order of the keys.
     pub(crate) fn places(&self) -> &BTreeMap<Key, usize>
-        ensures { result.now.entries ≡ self.now.places }
+        ensures entries { result.now.entries ≡ self.now.places }
+        ensures order { IsStrictlySortedBy key_cmp (keys_of self.now.places) }
     {
         &self.places
     }
@@ -84,14 +85,6 @@ impl Rows {
         ensures there { AreThere self.now.slots self.now.places }
     {
         self.slots.capacity()
-    }
-
-    /// What is kept of the key at the place.
-    pub(crate) fn at(&self, place: usize) -> Option<&Kept>
-        ensures { option_copied result ≡ kept_at self.now.slots place }
-    {
-        let slot = self.slots.get(place)?;
-        Some(&slot.kept)
     }
 
     /// What is kept of the key that was found at the place.

@@ -167,10 +167,7 @@ impl Table {
             if found.len() == most {
                 break;
             }
-            let Some(kept) = self.rows.at(*place) else {
-                continue;
-            };
-            if let Some(row) = kept.read(&self.older, snapshot, self.written.writer(own, key)) {
+            if let Some(row) = self.read_at(Some(*place), key, snapshot, own) {
                 found.push(row.copy(self.alloc)?)?;
             }
         }
@@ -183,13 +180,7 @@ impl Table {
     {
         let mut found = Vec::new(self.alloc);
         for (key, place) in self.rows.places() {
-            let Some(kept) = self.rows.at(*place) else {
-                continue;
-            };
-            if kept
-                .read(&self.older, snapshot, self.written.writer(own, key))
-                .is_some()
-            {
+            if self.read_at(Some(*place), key, snapshot, own).is_some() {
                 found.push(key.copy(self.alloc)?)?;
             }
         }

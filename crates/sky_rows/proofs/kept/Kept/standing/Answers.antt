@@ -1,6 +1,5 @@
-use Rattle.std.proofs.Common.{◌≡◌, ◌∙◌, ap, sym, refl, is_some, cond, true, false, Option, Some, None, Bor}
+use Rattle.std.proofs.Common.{◌≡◌, ◌∙◌, ap, sym, is_some, cond, Some, None}
 use Rattle.std.specs.Option.{option_copied}
-use Rattle.sky_val.specs.declared.val.Val.{Val}
 use Rattle.sky_keys.specs.Versions.{version_of, read}
 use Rattle.sky_rows.specs.Kept.{versions_of}
 use Rattle.sky_rows.proofs.Standing.{newest-own, newest-none, read-own, copied-row}
