@@ -9,10 +9,14 @@ pub no_keys : {T : Type 0} (ks : List T) → length ks ≡ 0 → ks ≡ []
 no_keys [] e = refl
 no_keys (k ∷ ks) e = absurd (omega arith)
 
--- what holds anyway holds if a call failed
+-- what holds anyway holds if a call failed, and if it succeeded
 pub on_err_always : {X E P : Type 0} (r : Result X E) → P → OnErr r P
 on_err_always (Ok x) p = tt
 on_err_always (Err e) p = p
+
+pub on_ok_always : {X E P : Type 0} (r : Result X E) → P → OnOk r P
+on_ok_always (Ok x) p = p
+on_ok_always (Err e) p = tt
 
 -- what follows from what holds if a call succeeded
 pub on_ok_then : {X E P Q : Type 0} (r : Result X E) → (P → Q) → OnOk r P → OnOk r Q

@@ -1,4 +1,4 @@
-ghost use Rattle.std.specs.Prelude.{◌≡◌, ◌<◌, ℕ, length, slice_get, true, false, Some, OnOk, OnSome, IfSome, IfNone};
+ghost use Rattle.std.specs.Prelude.{◌≡◌, ◌<◌, ℕ, length, slice_get, true, false, Some, IfOk, OnOk, OnSome, IfSome, IfNone};
 ghost use Rattle.sky_locks.specs.Sessions.{keys_of, has_key, has_room, KeepsKeys, ChangesKey};
 ghost use Rattle.sky_locks.specs.Waiters.{is_among};
 ghost use Rattle.sky_locks.specs.declared.lock_key.LockKey.{LockKey};
@@ -50,14 +50,20 @@ impl HeldKeys {
         Ok(())
     }
 
-    /// Makes room for one more key of the session.
-    pub(crate) fn reserve(&mut self, alloc: Global, who: SessionId) -> Result<(), NoMemory>
+    /// Makes room for this key of the session. The answer is a copy of it.
+    pub(crate) fn reserve(
+        &mut self,
+        alloc: Global,
+        who: SessionId,
+        key: &LockKey,
+    ) -> Result<LockKey, NoMemory>
+        ensures copy { IfOk result (λ copy. copy ≡ key.now) }
         ensures room { OnOk result (has_room self.new who ≡ true) }
         ensures same { KeepsKeys self.old self.new }
     {
         self.make_room(alloc, who)?;
         self.keys[who as usize].reserve(1)?;
-        Ok(())
+        key.copy(alloc)
     }
 
     /// Lists the key as one of the session's, for which there is room.

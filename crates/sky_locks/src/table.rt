@@ -116,8 +116,7 @@ impl Table {
         ensures err { OnErr result (self.new.held ≡ self.old.held) }
         ensures waiting { self.new.waiting ≡ self.old.waiting }
     {
-        let listed = key.copy(self.alloc)?;
-        self.listed.reserve(self.alloc, who)?;
+        let listed = self.listed.reserve(self.alloc, who, key)?;
         match self.slots.hold(self.alloc, who, key)? {
             Some(holder) => Ok(Some(holder)),
             None => {

@@ -1,6 +1,7 @@
 use Rattle.std.proofs.Common.{◌<◌, ◌∙◌, ap, sym, subst, length, slice_set, arith}
 use Rattle.std.specs.Prelude.{vec_len, vec_capacity}
 use Rattle.sky_locks.specs.Sessions.{KeysBySession, has_key}
+use Rattle.sky_locks.proofs.Basics.{on_ok_always}
 use Rattle.sky_locks.proofs.HeldLemmas.{AreOnce, keys-set, keys-read, all_once, keys_kept, room_made}
 use Rattle.sky_locks.proofs.held_keys.HeldKeys.reserve.Goals as goal
 
@@ -33,7 +34,7 @@ pub returns-clause-room : goal.returns-clause-room
 returns-clause-room c =
     let within : c.args.who < length c.self.inside.keys.items = subst (λ (ks : KeysBySession). c.args.who < length ks) (sym c.self.view_is) c.in_ok-make_room.ensures.room in
     let room : vec_len c.reserve.new.self < vec_capacity c.reserve.new.self = omega (arith, c.in_ok-reserve.ensures.ok) in
-    room_made c.self.inside.keys.items c.args.who c.reserve.new.self within room
+    on_ok_always c.copy.result (room_made c.self.inside.keys.items c.args.who c.reserve.new.self within room)
 
 pub returns-clause-same : goal.returns-clause-same
 returns-clause-same c = λ s q.

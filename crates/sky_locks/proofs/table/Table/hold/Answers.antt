@@ -18,7 +18,7 @@ invariant_of-self-in-None c =
       holds = index-held (has_key c.self.inside.listed) (has_key c.add.new.self) (holder_at c.self.inside.slots) (holder_at c.hold.new.self) c.args.who c.args.key.now
           (λ s q. c.add.ensures s q
           ∙ ap (cond (s == c.args.who && eq_by_cmp lock_cmp c.in_ok-listed.listed q) true) (c.reserve.ensures.same s q)
-          ∙ ap (λ k. cond (s == c.args.who && eq_by_cmp lock_cmp k q) true (has_key c.self.inside.listed s q)) c.in_ok-listed.ensures)
+          ∙ ap (λ k. cond (s == c.args.who && eq_by_cmp lock_cmp k q) true (has_key c.self.inside.listed s q)) c.in_ok-listed.ensures.copy)
           holds none c.self.invariant.holds;
     }
 
