@@ -1,5 +1,8 @@
-ghost use Rattle.std.specs.Prelude.{◌≡◌, ◌<◌, ◌==◌, nat_eq, not, filter, true, None, Some, [], is_some, option_copied, slice_get, IfOk, IfNone, OnOk, OnErr, OnSome};
+ghost use Rattle.std.specs.Prelude.{◌≡◌, ◌<◌, ◌==◌, nat_eq, not, filter, true, None, Some, if◌then◌else◌, [], is_some, option_copied, slice_get, IfOk, IfNone, OnOk, OnErr, OnSome};
 ghost use Rattle.std.specs.List.{IsDistinct};
+ghost use Rattle.std.specs.Ordering.{eq_by_cmp};
+ghost use Rattle.slab.specs.Slab.{HasRoomFor};
+ghost use Rattle.sky_locks.specs.Order.{lock_cmp};
 ghost use Rattle.sky_locks.specs.Slots.{place_at, slot_at, holder_at, queue_at, held_in, Holds, HoldsAs, IsFree, SameHolders, SameHeld, Joins, Leaves, HasQueue, SameQueues};
 ghost use Rattle.sky_locks.specs.declared.lock_key.LockKey.{LockKey};
 
@@ -166,9 +169,7 @@ impl Slots {
             holder,
             queue,
         };
-        self.slots.reserve(1)?;
-        let place = self.slots.vacant_key();
-        self.places.insert(key.copy(alloc)?, place)?;
+        let place = take_place(&mut self.slots, &mut self.places, alloc, key)?;
         self.slots.insert_reserved(slot);
         self.hints[hint_place(key)] = place;
         self.tidy();
@@ -247,6 +248,26 @@ impl Slots {
         unlink(&mut slot.queue, who);
         !slot.queue.is_empty()
     }
+}
+
+/// Reserves memory for one slot more, and enters its place as that of the key.
+fn take_place(
+    slots: &mut Slab<Slot>,
+    places: &mut BTreeMap<LockKey, usize>,
+    alloc: Global,
+    key: &LockKey,
+) -> Result<usize, NoMemory>
+    ensures slots { slots.new ≡ record slots.old { capacity = slots.new.capacity } }
+    ensures room { OnOk result (HasRoomFor slots.new 1) }
+    ensures place { IfOk result (λ place. place ≡ slots.new.vacant_key) }
+    ensures found { IfOk result (λ place. (q : LockKey)
+        → place_at places.new.entries q ≡ (if eq_by_cmp lock_cmp key.now q then Some place else place_at places.old.entries q)) }
+    ensures err { OnErr result (places.new.entries ≡ places.old.entries) }
+{
+    slots.reserve(1)?;
+    let place = slots.vacant_key();
+    places.insert(key.copy(alloc)?, place)?;
+    Ok(place)
 }
 
 /// The place of a key among the hints, by its last value: most keys differ there, and neither a long text nor a long
