@@ -1,4 +1,5 @@
 use Rattle.std.proofs.Common.{ap, sym, subst, refl}
+use Rattle.std.specs.Prelude.{IsSome}
 use Rattle.std.specs.List.Sorted.{IsStrictlySortedBy}
 use Rattle.std.specs.Map.{keys_of, set_value}
 use Rattle.std.specs.BTreeMap.{is_at}
@@ -6,7 +7,7 @@ use Rattle.sky_val.specs.Order.{key_cmp}
 use Rattle.sky_rows.specs.Kept.{versions_of}
 use Rattle.sky_rows.specs.Rows.{RowsView, rows_in}
 use Rattle.sky_rows.proofs.KeptLemmas.{none_if}
-use Rattle.sky_rows.proofs.PlaceLemmas.{rows_order, its_there, at_its_key, own_found, own_placed, own_set, own_gone, gone_placed}
+use Rattle.sky_rows.proofs.PlaceLemmas.{rows_order, its_there, at_its_key, own_found, own_placed, own_set, own_gone, gone_placed, written_there}
 use Rattle.sky_rows.proofs.RowChanges.{used_at, one_at, forget_own, forget_left, forget_last, forget_last_own}
 use Rattle.sky_rows.proofs.rows.Rows.forget.Goals as goal
 
@@ -52,3 +53,8 @@ pub returns-clause-own : goal.returns-clause-own
 returns-clause-own c = forget_last_own c.args.txid c.in-Some.slot.now.key c.args.older.now c.outlives.new.older (rows_in c.args.self.now) c.in-Some.slot.now.kept c.outlives.new.self c.requires (own_found c.self.inside.slots c.self.inside.places.entries c.args.self.now c.self.view_is c.self.invariant c.args.place c.in-Some.slot.now (sym c.in-Some.ensures.value) c.in-Some.slot.now.key (its_there c.self.inside.slots c.args.self.now c.args.place c.in-Some.slot.now (ap (λ (r : RowsView). r.slots) c.self.view_is) (sym c.in-Some.ensures.value)))
     c.outlives.ensures.moves c.outlives.ensures.value (set_value (is_at (key_cmp c.in-Some.slot.now.key)) (rows_in c.args.self.now) c.outlives.new.self) refl _ (own_gone c.self.inside.slots c.self.inside.places.entries c.args.self.now c.self.view_is c.self.invariant c.args.place c.in-Some.slot.now (sym c.in-Some.ensures.value) c.in-Some.slot.now.key (its_there c.self.inside.slots c.args.self.now c.args.place c.in-Some.slot.now (ap (λ (r : RowsView). r.slots) c.self.view_is) (sym c.in-Some.ensures.value)) c.outlives.new.self
     c.remove-slot.new.self c.remove.new.self.entries c.remove-slot.result c.remove-slot.ensures.value c.remove-slot.ensures.updates c.remove.ensures.entries)
+
+pub remove-slot-requires : goal.remove-slot-requires
+remove-slot-requires c =
+    let was = c.in-Some.slot.now in
+    subst IsSome (sym (written_there c.self.inside.slots c.args.place was (record { key = was.key; kept = c.outlives.new.self }) (sym c.in-Some.ensures.value) refl)) refl
