@@ -2,7 +2,7 @@ use Rattle.std.proofs.Common.{◌≡◌, ◌∙◌, ◌++◌, ◌∷◌, [], ap,
 use Rattle.std.specs.Prelude.{option_and_then}
 use Rattle.slab.specs.Slab.{with_value, get as slab_get}
 use Rattle.sky_locks.specs.declared.slots.Slot.{Slot}
-use Rattle.sky_locks.specs.Slots.{SlotsView, place_at, slot_holder, slot_queue, holder_at, queue_at, held_in, Joins}
+use Rattle.sky_locks.specs.Slots.{SlotsView, place_at, slot_holder, slot_queue, holder_at, queue_at, held_in, SameHolders, SameQueues, Joins}
 use Rattle.sky_locks.proofs.Basics.{on_err_always, on_ok_then, either_way}
 use Rattle.sky_locks.proofs.PlaceLemmas.{found_place, has_slot, puts-written}
 use Rattle.sky_locks.proofs.SlotLemmas.{put-read, put-kept, same-there, joins-none, held-same}
@@ -46,3 +46,36 @@ returns-clause-ok c =
     let puts = puts-written old c.self.invariant c.args.key.now c.in-Some.place was now here c.index_mut-slot.ensures.value refl in
     subst (λ (s : SlotsView). Joins (queue_at s) c.args.who c.args.key.now (queue_at new)) c.self.view_is (put-read slot_queue (λ ks. ks ++ c.args.who ∷ []) old new c.args.key.now (Some now) puts
     (c.in_ok-push-2.ensures.items ∙ sym (ap (λ o. slot_queue (option_and_then (slab_get old.slots) o) ++ c.args.who ∷ []) here ∙ ap (λ o. slot_queue o ++ c.args.who ∷ []) c.index_mut-slot.ensures.value)))
+
+pub returns-in_err-push-2-clause-holders : goal.returns-in_err-push-2-clause-holders
+returns-in_err-push-2-clause-holders c =
+    let old : SlotsView = record { slots = c.self.inside.slots; places = c.self.inside.places.entries } in
+    let here : place_at old.places c.args.key.now ≡ Some c.in-Some.place = found_place old c.args.self.now c.args.key.now c.in-Some.place c.self.view_is c.in-Some.ensures in
+    let was : Slot = c.index_mut-slot.result.now in
+    let now : Slot = record { key = was.key; holder = was.holder; queue = c.push-2.new.self } in
+    let new : SlotsView = record { slots = with_value old.slots c.in-Some.place now; places = old.places } in
+    let puts = puts-written old c.self.invariant c.args.key.now c.in-Some.place was now here c.index_mut-slot.ensures.value refl in
+    subst (λ (s : SlotsView). SameHolders s new) c.self.view_is
+    (put-kept slot_holder old new c.args.key.now (Some now) puts (sym (ap (λ o. slot_holder (option_and_then (slab_get old.slots) o)) here ∙ ap slot_holder c.index_mut-slot.ensures.value)))
+
+pub returns-clause-holders : goal.returns-clause-holders
+returns-clause-holders c =
+    let old : SlotsView = record { slots = c.self.inside.slots; places = c.self.inside.places.entries } in
+    let here : place_at old.places c.args.key.now ≡ Some c.in-Some.place = found_place old c.args.self.now c.args.key.now c.in-Some.place c.self.view_is c.in-Some.ensures in
+    let was : Slot = c.index_mut-slot.result.now in
+    let now : Slot = record { key = was.key; holder = was.holder; queue = c.push-2.new.self } in
+    let new : SlotsView = record { slots = with_value old.slots c.in-Some.place now; places = old.places } in
+    let puts = puts-written old c.self.invariant c.args.key.now c.in-Some.place was now here c.index_mut-slot.ensures.value refl in
+    subst (λ (s : SlotsView). SameHolders s new) c.self.view_is
+    (put-kept slot_holder old new c.args.key.now (Some now) puts (sym (ap (λ o. slot_holder (option_and_then (slab_get old.slots) o)) here ∙ ap slot_holder c.index_mut-slot.ensures.value)))
+
+pub returns-in_err-push-2-clause-err : goal.returns-in_err-push-2-clause-err
+returns-in_err-push-2-clause-err c =
+    let old : SlotsView = record { slots = c.self.inside.slots; places = c.self.inside.places.entries } in
+    let here : place_at old.places c.args.key.now ≡ Some c.in-Some.place = found_place old c.args.self.now c.args.key.now c.in-Some.place c.self.view_is c.in-Some.ensures in
+    let was : Slot = c.index_mut-slot.result.now in
+    let now : Slot = record { key = was.key; holder = was.holder; queue = c.push-2.new.self } in
+    let new : SlotsView = record { slots = with_value old.slots c.in-Some.place now; places = old.places } in
+    let puts = puts-written old c.self.invariant c.args.key.now c.in-Some.place was now here c.index_mut-slot.ensures.value refl in
+    on_err_always c.from_residual-in_err-push-2.result (subst (λ (s : SlotsView). SameQueues s new) c.self.view_is
+    (put-kept slot_queue old new c.args.key.now (Some now) puts (c.in_err-push-2.ensures.items ∙ sym (ap (λ o. slot_queue (option_and_then (slab_get old.slots) o)) here ∙ ap slot_queue c.index_mut-slot.ensures.value))))
