@@ -39,6 +39,13 @@ all-left P sub ev_id rs left is all = subst (All P) (sym is) (All-filter (λ w. 
 pub within-left : {rounds : ℕ} → (sub ev_id : ℕ) (queues : List QueueView) (rs left : List Retry) → left ≡ without sub ev_id rs → RetriedWithin rounds queues rs → RetriedWithin rounds queues left
 within-left {rounds} sub ev_id queues rs left is within = record { waiting = all-left (IsWaiting (rounds + 1) queues) sub ev_id rs left is within.waiting; stored = within.stored }
 
+-- retries may have come back once more
+pub once-more : {rounds : ℕ} → (queues : List QueueView) (rs : List Retry) → RetriedWithin rounds queues rs → RetriedWithin (rounds + 1) queues rs
+once-more {rounds} queues rs within = record {
+  waiting = λ k d lt. let waits = within.waiting k d lt in record { owner = waits.owner; moment = waits.moment; most = (let most = waits.most in omega (arith, most)) };
+  stored = λ n k d lt i e low. let most = within.stored n k d lt i e low in omega (arith, most);
+}
+
 -- one is back in its queue, and waits no more
 pub brought-as : (v now : QueuesView) (r : Retry) (t : ℕ) (moment : ℤ) (old new : QueueView) (left : List Retry) → v ≡ now → r.queue < length v.queues → old ≡ get_or v.queues r.queue old
     → new ≡ retabled (with_stored (brought_by t r.event)) old → left ≡ without r.sub r.event.ev_id v.retries

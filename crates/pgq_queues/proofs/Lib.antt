@@ -11,3 +11,5 @@ pub mod BroughtBack
 pub mod Telling
 pub mod RotatedQueues
 pub mod HeldBack
+pub mod Unchanged
+pub mod Asked

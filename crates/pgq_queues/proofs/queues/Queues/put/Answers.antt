@@ -1,6 +1,12 @@
-use Rattle.std.proofs.Common.{inl, inr}
+use Rattle.std.proofs.Common.{inl, inr, refl, ap}
 use Rattle.pgq_queues.proofs.Waiting.{put-still, put-within}
-use Rattle.pgq_queues.proofs.Marked.{queue-kept, on-err}
+use Rattle.pgq_queues.proofs.Marked.{queue-kept, on-err, queues-set}
+use Rattle.pgq_tables.specs.Tables.{with_stored}
+use Rattle.sky_model.specs.State.{with_tables}
+use Rattle.pgq_queues.specs.Views.{QueueView}
+use Rattle.pgq_queues.specs.Seen.{seen_queue}
+use Rattle.pgq_queues.proofs.TracedLists.{stands-kept}
+use Rattle.pgq_queues.proofs.Unchanged.{rest-kept}
 use Rattle.pgq_queues.proofs.queues.Queues.put.Goals as goal
 
 pub invariant_of-self : goal.invariant_of-self
@@ -17,3 +23,19 @@ returns-clause-stand c = put-still _ _ c.args.queue c.args.event c.get_mut.resul
 
 pub returns-in_err-put-clause-err : goal.returns-in_err-put-clause-err
 returns-in_err-put-clause-err c = on-err c.from_residual.result _ (queue-kept _ _ c.args.queue c.get_mut.result.now c.put.new.self c.self.view_is c.get_mut.ensures.value c.in_err-put.ensures.err)
+
+pub get_mut-requires : goal.get_mut-requires
+get_mut-requires c = stands-kept _ _ c.args.queue c.self.view_is c.requires.queue
+
+pub put-requires : goal.put-requires
+put-requires c = c.requires.time
+
+pub returns-clause-mark : goal.returns-clause-mark
+returns-clause-mark c =
+    queues-set _ _ c.args.queue c.get_mut.result.now c.put.new.self (with_tables (with_stored c.args.event)) c.self.view_is c.get_mut.ensures.within c.get_mut.ensures.value (ap seen_queue c.in_ok-put.ensures.ok) (ap QueueView.subs c.in_ok-put.ensures.ok)
+
+pub returns-in_err-put-clause-rest : goal.returns-in_err-put-clause-rest
+returns-in_err-put-clause-rest c = rest-kept _ _ _ c.self.view_is refl refl refl refl
+
+pub returns-clause-rest : goal.returns-clause-rest
+returns-clause-rest c = rest-kept _ _ _ c.self.view_is refl refl refl refl

@@ -1,10 +1,12 @@
-use Rattle.std.proofs.Common.{◌+◌, Some, None, ap}
+use Rattle.std.proofs.Common.{◌+◌, Some, None, ap, length, refl, ◌∙◌, ◌<◌, subst, sym}
 use Rattle.pgq_sub.specs.Views.{SubView}
-use Rattle.pgq_queues.specs.Views.{QueuesView}
+use Rattle.pgq_queues.specs.Views.{QueuesView, QueueView}
 use Rattle.pgq_queues.proofs.TracedLists.{stands-kept}
 use Rattle.pgq_queues.proofs.Consumed.{becomes, not-kept, within-come, registered-as}
-use Rattle.pgq_queues.proofs.Waiting.{retried-come}
-use Rattle.pgq_queues.proofs.Marked.{queue-kept, on-err}
+use Rattle.pgq_queues.proofs.Waiting.{retried-come, alike-within}
+use Rattle.pgq_queues.proofs.Marked.{queue-kept, on-err, queue-at}
+use Rattle.sky_model.specs.State.{Queue}
+use Rattle.pgq_queues.proofs.Unchanged.{rest-kept}
 use Rattle.pgq_queues.proofs.queues.Queues.register.Goals as goal
 
 pub invariant_of-self-2 : goal.invariant_of-self-2
@@ -27,3 +29,23 @@ returns-clause-mark c =
 
 pub returns-in_err-register-clause-err : goal.returns-in_err-register-clause-err
 returns-in_err-register-clause-err c = on-err c.from_residual.result _ (queue-kept _ _ c.args.queue c.get_mut.result.now c.register.new.self c.self.view_is c.get_mut.ensures.value c.in_err-register.ensures.err)
+
+pub get_mut-requires : goal.get_mut-requires
+get_mut-requires c = stands-kept _ _ c.args.queue c.self.view_is c.requires.queue
+
+pub register-requires-clause-new : goal.register-requires-clause-new
+register-requires-clause-new c = ap (λ (q : Queue). q.sub c.args.consumer.now) (queue-at _ _ c.args.queue c.get_mut.result.now c.self.view_is c.get_mut.ensures.within c.get_mut.ensures.value) ∙ c.requires.new
+
+pub register-requires-clause-room : goal.register-requires-clause-room
+register-requires-clause-room c = subst (λ (q : Queue). length q.members < 256) (sym (queue-at _ _ c.args.queue c.get_mut.result.now c.self.view_is c.get_mut.ensures.within c.get_mut.ensures.value)) c.requires.room
+
+pub invariant_of-self : goal.invariant_of-self
+invariant_of-self c = let same = c.in_err-register.ensures.err in
+    alike-within _ _ c.args.queue c.get_mut.result.now c.register.new.self c.self.view_is c.requires.queue c.get_mut.ensures.within c.get_mut.ensures.value (ap QueueView.ticks same) (ap QueueView.subs same)
+    (ap (λ (q : QueueView). q.event_tables.tables) same) c.self.invariant
+
+pub returns-in_err-register-clause-rest : goal.returns-in_err-register-clause-rest
+returns-in_err-register-clause-rest c = rest-kept _ _ _ c.self.view_is refl refl refl refl
+
+pub returns-clause-rest : goal.returns-clause-rest
+returns-clause-rest c = rest-kept _ _ _ c.self.view_is refl refl refl refl

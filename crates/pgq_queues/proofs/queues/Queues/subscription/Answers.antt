@@ -1,6 +1,6 @@
 -- pgq_queues/proofs/queues/Queues/subscription/Answers.antt
 use Rattle.std.proofs.Common.{◌≡◌, Some, sym, ap, ◌∙◌, option_map}
-use Rattle.pgq_sub.specs.Views.{SubView, seen_sub}
+use Rattle.pgq_sub.specs.Views.{seen_sub}
 use Rattle.pgq_queues.specs.Seen.{sub_at}
 use Rattle.pgq_queues.proofs.Consumed.{sub-there, open-there}
 use Rattle.pgq_queues.proofs.queues.Queues.subscription.Goals.{After-copy}
