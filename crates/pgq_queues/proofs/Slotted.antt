@@ -1,5 +1,6 @@
 -- What is shown of slots, each of which has one queue or none.
-use Rattle.std.proofs.Common.{◌≡◌, ℕ, zero, suc, ◌<◌, List, [], ◌∷◌, map, length, get_or, slice_set, refl, sym, ◌∙◌, ap, subst, arith}
+use Rattle.std.proofs.Common.{◌≡◌, ℕ, zero, suc, ◌<◌, List, [], ◌∷◌, ◌++◌, map, length, get_or, slice_set, refl, sym, ◌∙◌, ap, subst, arith}
+use Rattle.std.proofs.lemmas.List.{map-append}
 use Rattle.pgq_queues.specs.Views.{QueueView}
 use Rattle.pgq_queues.specs.Seen.{no_queue, Stands}
 use Rattle.pgq_queues.specs.Rotated.{undone_in}
@@ -37,3 +38,10 @@ pub undone-get : (t : ℕ) (queues : List QueueView) (n : ℕ) → get_or (map (
 undone-get t [] n = refl
 undone-get t (q ∷ qs) zero = refl
 undone-get t (q ∷ qs) (suc n) = undone-get t qs n
+
+-- one slot more, with a queue
+pub slot-more : {A : Type 0} (items : A → List QueueView) (old new : List A) (slot : A) (shown : List QueueView) (q made : QueueView) → map (λ x. get_or (items x) 0 no_queue) old ≡ shown → new ≡ old ++ slot ∷ []
+    → items slot ≡ q ∷ [] → q ≡ made → map (λ x. get_or (items x) 0 no_queue) new ≡ shown ++ made ∷ []
+slot-more items old new slot shown q made same more has is =
+    ap (map (λ x. get_or (items x) 0 no_queue)) more ∙ map-append (λ x. get_or (items x) 0 no_queue) old (slot ∷ [])
+    ∙ (λ j. same j ++ (ap (λ (xs : List QueueView). get_or xs 0 no_queue) has ∙ is) j ∷ [])

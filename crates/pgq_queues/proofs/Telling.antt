@@ -3,7 +3,7 @@ use Rattle.std.proofs.Common.{◌≡◌, ℕ, ℤ, ◌+◌, ◌-◌, ◌<◌, �
 use Rattle.std.specs.Prelude.{◌≢◌, not, ◌&&◌}
 use Rattle.std.proofs.lemmas.Bool.{and_parts}
 use Rattle.std.proofs.lemmas.Bool.Decides.{nat_tests}
-use Rattle.std.proofs.lemmas.List.{take_more, drop_more, append-nil, map-append, set-set, set-get_or, get_or_read, get_or-set_same, length-set}
+use Rattle.std.proofs.lemmas.List.{take_more, drop_more, drop_all, append-nil, map-append, set-set, set-get_or, get_or_read, get_or-set_same, length-set}
 use Rattle.std.proofs.lemmas.List.Elements.{filter-append}
 use Rattle.sky_val.specs.declared.val.Val.{Val}
 use Rattle.sky_urlenc.specs.RowEvents.{TracedWrite, Trigger, RowEvent, leaves_out, event_of}
@@ -142,8 +142,12 @@ module _ (t : TracedView) (old new : Option (List Val)) where
       ∙ ap (λ f. ids_left f (from (i + 1))) (raised-more seq (upto i) (event_at i))
       ∙ ap (λ es. ids_left (λ n. seq n + count_of n es) (from (i + 1))) (sym (upto-told i lt out))
 
-  from-left_out : (i : ℕ) → i < length t.triggers → out_at i ≡ true → from i ≡ from (i + 1)
+  pub from-left_out : (i : ℕ) → i < length t.triggers → out_at i ≡ true → from i ≡ from (i + 1)
   from-left_out i lt out = ap (events_by t old new) (drop_more t.triggers i no_trigger lt) ∙ one_more (trigger_at i) (drop (i + 1) t.triggers) true out
+
+  -- none is left at the end
+  pub from-end : (i : ℕ) → length t.triggers ≤ i → from i ≡ []
+  from-end i end = ap (events_by t old new) (drop_all i t.triggers end)
 
   pub ids-left_out : (seq : ℕ → ℕ) (i : ℕ) → i < length t.triggers → out_at i ≡ true → ids_from seq i ≡ ids_from seq (i + 1)
   ids-left_out seq i lt out =
@@ -172,6 +176,13 @@ taken-back queues i x = set-set queues i x (get_or queues i no_queue) ∙ set-ge
 pub found-at : (queues : List QueueView) (q n : ℕ) (found : QueueView) → q ≡ n → q < length queues → found ≡ get_or queues q found → found ≡ get_or queues n no_queue
 found-at queues q n found same lt is = get_or_read queues q found lt is no_queue ∙ ap (λ m. get_or queues m no_queue) same
 
+-- for the next event there is an id
+pub room-next : (queues : List QueueView) (e : RowEvent) (es : List RowEvent) (q : ℕ) (was : QueueView) → q ≡ e.queue → q < length queues → was ≡ get_or queues q was → ids_left (sequences queues) (e ∷ es) ≡ true → was.seq + 1 < 2 ^ 62
+room-next queues e es q was there lt found room =
+    let few : not (nat_le (2 ^ 62) (sequences queues e.queue + 1)) ≡ true = (and_parts _ _ room).0 in
+    let here : was.seq ≡ sequences queues e.queue = ap QueueView.seq (found-at queues q e.queue was there lt found) in
+    grind (arith, nat_tests)
+
 -- the next event is stored in its queue
 pub told-there : (queues : List QueueView) (now at : ℤ) (txid q : ℕ) (event e : RowEvent) (was is : QueueView) → q ≡ e.queue → event ≡ e → at ≡ now → q < length queues → was ≡ get_or queues q was
     → is ≡ telling at txid event was → slice_set queues q is ≡ slice_set queues e.queue (telling now txid e (get_or queues e.queue no_queue))
@@ -180,18 +191,22 @@ told-there queues now at txid q event e was is there same time lt found told = �
     new : is ≡ telling now txid e (get_or queues e.queue no_queue)
     new = told ∙ (λ i. telling (time i) txid (same i) (found-at queues q e.queue was there lt found i))
 
--- and that queue takes it back
-pub back-there : (queues told : List QueueView) (now : ℤ) (txid q : ℕ) (e : RowEvent) (was is : QueueView) → q ≡ e.queue → q < length queues → q < length told
-    → told ≡ slice_set queues e.queue (telling now txid e (get_or queues e.queue no_queue)) → was ≡ get_or told q was
-    → ((m : ℤ) (t : ℕ) (event : RowEvent) (old : QueueView) → was ≡ telling m t event old → is ≡ old) → slice_set told q is ≡ queues
-back-there queues told now txid q e was is there lt low after found back =
-    (λ i. slice_set (after i) (there i) (back now txid e (get_or queues e.queue no_queue) here i)) ∙ taken-back queues e.queue new
-  where
-    new : QueueView
-    new = telling now txid e (get_or queues e.queue no_queue)
+-- and that queue has it
+pub told-here : (queues told : List QueueView) (now : ℤ) (txid q : ℕ) (e : RowEvent) (was : QueueView) → q ≡ e.queue → q < length queues → q < length told
+    → told ≡ slice_set queues e.queue (telling now txid e (get_or queues e.queue no_queue)) → was ≡ get_or told q was → was ≡ telling now txid e (get_or queues e.queue no_queue)
+told-here queues told now txid q e was there lt low after found =
+    found-at told q e.queue was there low found ∙ ap (λ xs. get_or xs e.queue no_queue) after
+    ∙ get_or-set_same queues e.queue (telling now txid e (get_or queues e.queue no_queue)) no_queue (subst (λ n. n < length queues) there lt)
 
-    here : was ≡ new
-    here = found-at told q e.queue was there low found ∙ ap (λ xs. get_or xs e.queue no_queue) after ∙ get_or-set_same queues e.queue new no_queue (subst (λ n. n < length queues) there lt)
+pub told-some : (queues told : List QueueView) (now : ℤ) (txid q : ℕ) (e : RowEvent) (was : QueueView) → q ≡ e.queue → q < length queues → q < length told
+    → told ≡ slice_set queues e.queue (telling now txid e (get_or queues e.queue no_queue)) → was ≡ get_or told q was → (m : ℤ) × (t : ℕ) × (x : RowEvent) × (old : QueueView) × (was ≡ telling m t x old)
+told-some queues told now txid q e was there lt low after found = (now, txid, e, get_or queues e.queue no_queue, told-here queues told now txid q e was there lt low after found)
+
+-- until it takes it back
+pub back-there : (queues told : List QueueView) (now : ℤ) (txid q : ℕ) (e : RowEvent) (was is : QueueView) → q ≡ e.queue → told ≡ slice_set queues e.queue (telling now txid e (get_or queues e.queue no_queue))
+    → was ≡ telling now txid e (get_or queues e.queue no_queue) → ((m : ℤ) (t : ℕ) (event : RowEvent) (old : QueueView) → was ≡ telling m t event old → is ≡ old) → slice_set told q is ≡ queues
+back-there queues told now txid q e was is there after here back =
+    (λ i. slice_set (after i) (there i) (back now txid e (get_or queues e.queue no_queue) here i)) ∙ taken-back queues e.queue (telling now txid e (get_or queues e.queue no_queue))
 
 -- ---- a whole write
 

@@ -177,6 +177,12 @@ traced-new queues triggers old new n t updates absent none within = record {
   places = places-kept triggers old new n t updates (none ∙ nothing-kept (kept old n) absent) within.places;
 }
 
+-- that is kept then
+pub kept-there : (old new : List (ℕ × TracedTableView)) (n : ℕ) (t : TracedTableView) → Updated old new n (Some t) → is_some (kept new n) ≡ true
+kept-there old new n t updates =
+    let same : (n == n) ≡ true = grind (arith, nat_tests) in
+    ap is_some (kept-updated old new n (Some t) updates n ∙ ap (λ b. if b then Some t else kept old n) same)
+
 -- and if a trigger was added
 pub traced-more : (queues : List QueueView) (triggers ts more : List TableTrigger) (x : TableTrigger) (old new : List (ℕ × TracedTableView)) (n place : ℕ) (t was : TracedTableView)
     → ts ≡ triggers → more ≡ ts ++ x ∷ [] → Updated old new n (Some t) → x.table ≡ n → Some was ≡ kept old n → t ≡ record was { places = was.places ++ place ∷ [] } → place ≡ length ts
@@ -202,16 +208,27 @@ tables-where v ts new n t updates same part here are m = subst (IsTraced part m 
     by true e = let one : n ≡ m = grind (arith, nat_tests) in subst (λ k. IsTable part k t.name t.columns) one here
     by false e = other (kept v.traced_tables m) (same m e) (are m)
 
+-- a table that is there
+table-there : (part : RowPart) (n : ℕ) (ts : List TableTrigger) (was : TracedTableView) (o : Option TracedTableView) → Some was ≡ o → IsTraced part n ts o → IsTable part n was.name was.columns
+table-there part n ts was o at is = subst (IsTraced part n ts) (sym at) is
+
 -- a table was added
 pub tables-new : (v now : QueuesView) (new : List (ℕ × TracedTableView)) (n : ℕ) (t : TracedTableView) (name : List ℕ) (columns : List Column) → v ≡ now → Updated v.traced_tables new n (Some t)
     → t.name ≡ name → t.columns ≡ columns → (part : RowPart) → IsTable part n name columns → AreTables part now → (m : ℕ) → IsTraced part m v.triggers (kept new m)
 tables-new v now new n t name columns same updates named of_columns part here are =
     tables-where v v.triggers new n t updates (λ m other. refl) part (here.0 ∙ ap Some (sym named), here.1 ∙ sym of_columns) (subst (AreTables part) (sym same) are)
 
--- or a trigger of a table was added
-table-there : (part : RowPart) (n : ℕ) (ts : List TableTrigger) (was : TracedTableView) (o : Option TracedTableView) → Some was ≡ o → IsTraced part n ts o → IsTable part n was.name was.columns
-table-there part n ts was o at is = subst (IsTraced part n ts) (sym at) is
+-- what is kept of a table stays true if it stays as it was
+pub tables-still : (v now : QueuesView) (ts : List TableTrigger) (new : List (ℕ × TracedTableView)) (n : ℕ) (t was : TracedTableView) → v ≡ now → ts ≡ v.triggers → Updated v.traced_tables new n (Some t)
+    → Some was ≡ kept v.traced_tables n → t ≡ was → (part : RowPart) → AreTables part now → (m : ℕ) → IsTraced part m ts (kept new m)
+tables-still v now ts new n t was same alike updates at is part are =
+    tables-where v ts new n t updates (λ m other. ap (triggers_of m) alike) part
+    (subst (λ (x : TracedTableView). IsTable part n x.name x.columns) (sym is) (table-there part n v.triggers was (kept v.traced_tables n) at (before n))) before
+  where
+    before : AreTables part v
+    before = subst (AreTables part) (sym same) are
 
+-- or a trigger of a table was added
 pub tables-more : (v now : QueuesView) (more : List TableTrigger) (new : List (ℕ × TracedTableView)) (n : ℕ) (x : TableTrigger) (t was : TracedTableView) → v ≡ now → more ≡ v.triggers ++ x ∷ [] → x.table ≡ n
     → Updated v.traced_tables new n (Some t) → Some was ≡ kept v.traced_tables n → t.name ≡ was.name → t.columns ≡ was.columns → (part : RowPart) → AreTables part now → (m : ℕ) → IsTraced part m more (kept new m)
 tables-more v now more new n x t was same is its updates at named of_columns part are =

@@ -1,7 +1,9 @@
 -- What stays as it was, beside the queue that a call changes or looks at.
 use Rattle.std.proofs.Common.{◌≡◌, ℕ, List, length, ◌+◌, ◌-◌, ◌<◌, ◌≤◌, ◌^◌, Bool, true, false, ◌==◌, Result, Ok, Err, IfOk, OnOk, get_or, slice_set, get_or-set_same, refl, sym, ◌∙◌, ap, arith, if◌then◌else◌}
 use Rattle.std.proofs.lemmas.List.{get_or_read}
+use Rattle.sky_names.specs.Named.{NamedView}
 use Rattle.sky_model.specs.State.{Queue}
+use Rattle.sky_model.specs.Triggers.{TableTrigger}
 use Rattle.pgq_queues.specs.Views.{QueueView, QueuesView}
 use Rattle.pgq_queues.specs.Seen.{no_queue, seen_queue, queue_at, reads_at, seen_with, Stands, Beside}
 use Rattle.pgq_queues.specs.Batches.{StillStand}
@@ -17,6 +19,14 @@ rest-kept v now new same time triggers tables rounds = record {
   traced_tables = tables ∙ ap QueuesView.traced_tables same;
   rounds = rounds ∙ ap QueuesView.rounds same;
 }
+
+-- all of it, if names and queues are what they were
+pub slots-same : (v now : QueuesView) (names : NamedView ℕ) (queues : List QueueView) → v ≡ now → names ≡ v.names → queues ≡ v.queues → record v { names = names; queues = queues } ≡ now
+slots-same v now names queues same named is = (λ j. record v { names = named j; queues = is j }) ∙ same
+
+-- what is shown, if the triggers are the same, whatever is kept of their tables
+pub triggers-same : (v now : QueuesView) (ts : List TableTrigger) → v ≡ now → ts ≡ v.triggers → (beside : Beside) → seen_with beside (record v { triggers = ts }) ≡ seen_with beside now
+triggers-same v now ts same is beside = ap (λ (xs : List TableTrigger). seen_with beside (record v { triggers = xs })) is ∙ ap (seen_with beside) same
 
 -- ---- a queue has changed, with the ticks and subscriptions that it had
 

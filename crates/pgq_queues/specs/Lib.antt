@@ -9,3 +9,4 @@ pub mod Rotated
 pub mod Traced
 pub mod Retried
 pub mod EventRule
+pub mod Made

@@ -1,14 +1,15 @@
 ghost use Rattle.std.specs.Prelude.{◌≡◌, ℕ, ℤ, ◌+◌, ◌-◌, [], ◌<◌, ◌^◌, ◌∷◌, ◌++◌, Some, None, IfOk, IfErr, OnOk, OnErr, IfNone, IfSome, length, is_none, is_some, ◌↔◌, ◌≤◌, Ok, Err, find, map, ◌==◌, true, option_map, option_copied};
-ghost use Rattle.pgq_tables.specs.Tables.{full_event, recorded_part, new_tables, with_stored, with_pending};
-ghost use Rattle.sky_model.specs.Config.{default_config, param_of};
+ghost use Rattle.pgq_tables.specs.Tables.{full_event, recorded_part, with_stored, with_pending};
+ghost use Rattle.sky_model.specs.Config.{param_of};
 ghost use Rattle.pgq_tick.specs.Config.{set_to};
 ghost use Rattle.sky_model.specs.Queues.{newest_tick};
 ghost use Rattle.sky_model.specs.Selection.{selected_in};
 ghost use Rattle.pgq_sub.specs.Views.{with_open, finished, at_tick};
-ghost use Rattle.pgq_sub.specs.Seen.{seen_subs, open_in, no_subs, with_member, with_sub, without_member};
+ghost use Rattle.pgq_sub.specs.Seen.{seen_subs, open_in, with_member, with_sub, without_member};
 ghost use Rattle.sky_model.specs.StepQueue.{is_due, info_of, has_part_in};
 ghost use Rattle.sky_model.specs.Queues.{id_of, tick};
 ghost use Rattle.pgq_queues.specs.Seen.{seen_queue, seen_span};
+ghost use Rattle.pgq_queues.specs.Made.{new_queue};
 ghost use Rattle.sky_model.specs.Moment.{HasMoment, IsTime};
 ghost use Rattle.sky_model.specs.Printed.{EventsHaveMoments};
 ghost use Rattle.pgq_queues.specs.Views.{QueueView};
@@ -66,7 +67,7 @@ impl Queue {
         snapshot: Snapshot,
     ) -> Result<Queue, NoMemory>
         requires { IsTime now }
-        ensures { IfOk result (λ queue. queue ≡ record { config = default_config; seq = 0; event_tables = record { tables = new_tables txid now; reads = 0 }; ticks = record { id = 1; time = now; snapshot = snapshot; seq = 0 } ∷ []; subs = no_subs }) }
+        ensures { IfOk result (λ queue. queue ≡ new_queue txid now snapshot) }
     {
         let first = Tick {
             id: 1,

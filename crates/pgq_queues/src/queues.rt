@@ -335,9 +335,8 @@ impl Queues {
         ensures err { OnErr result (self.new ≡ self.old) }
         ensures rest { KeepsRest self.old self.new }
     {
-        let queue = Queue::new(self.alloc, txid, now, snapshot)?;
         let number = self.slots.len();
-        self.slots.add(queue)?;
+        self.slots.make(txid, now, snapshot)?;
         match self.names.add(name, number) {
             Ok(_) => Ok(()),
             Err(no_memory) => {
@@ -577,7 +576,7 @@ impl Queues {
         if self.traced_tables.contains_key(&number) {
             return Ok(());
         }
-        let table = TracedTable::new(self.alloc, name.copy(self.alloc)?, schema.copy(self.alloc)?);
+        let table = TracedTable::new(self.alloc, name, schema)?;
         self.traced_tables.insert(number, table)?;
         Ok(())
     }

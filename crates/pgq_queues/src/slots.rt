@@ -1,9 +1,12 @@
 ghost use Rattle.std.specs.Prelude.{◌≡◌, ◌<◌, [], ◌∷◌, ◌++◌, List, OnOk, OnErr, length, slice_index_or, slice_set};
 ghost use Rattle.std.specs.Borrow.{Lends, sem};
+ghost use Rattle.sky_model.specs.Moment.{IsTime};
 ghost use Rattle.pgq_queues.specs.Views.{QueueView};
 ghost use Rattle.pgq_queues.specs.Seen.{no_queue, Stands};
+ghost use Rattle.pgq_queues.specs.Made.{new_queue};
 
 use crate::queue::Queue;
+use sky_txid::Snapshot;
 use sky_val::NoMemory;
 use std::alloc::Global;
 use std::marker::Model;
@@ -66,14 +69,17 @@ impl Slots {
         &mut self.slots[number][0]
     }
 
-    /// Appends a queue, which has the next number.
-    pub(crate) fn add(&mut self, queue: Queue) -> Result<(), NoMemory>
-        ensures ok { OnOk result (self.new ≡ self.old ++ queue ∷ []) }
+    /// Appends a queue, which has the next number, as a transaction makes it at this moment.
+    pub(crate) fn make(&mut self, txid: u64, now: i64, snapshot: Snapshot) -> Result<(), NoMemory>
+        requires { IsTime now }
+        ensures ok { OnOk result (self.new ≡ self.old ++ new_queue txid now snapshot ∷ []) }
         ensures err { OnErr result (self.new ≡ self.old) }
     {
-        let mut slot = Vec::with_capacity(*self.slots.allocator(), 1)?;
-        slot.push(queue)?;
-        self.slots.push(slot)?;
+        let alloc = *self.slots.allocator();
+        self.slots.reserve(1)?;
+        let mut slot = Vec::with_capacity(alloc, 1)?;
+        slot.push_reserved(Queue::new(alloc, txid, now, snapshot)?);
+        self.slots.push_reserved(slot);
         Ok(())
     }
 

@@ -1,4 +1,4 @@
-ghost use Rattle.std.specs.Prelude.{◌≡◌, ◌<◌, [], ◌∷◌, ◌++◌, OnOk, OnErr, length, slice_index_or};
+ghost use Rattle.std.specs.Prelude.{◌≡◌, ◌<◌, [], ◌∷◌, ◌++◌, IfOk, OnOk, OnErr, length, slice_index_or};
 ghost use Rattle.std.specs.List.{All};
 ghost use Rattle.sky_model.specs.StepTrigger.{has_name, has_trigger};
 ghost use Rattle.sky_model.specs.Triggers.{is_sets};
@@ -62,15 +62,15 @@ impl Model for TracedTable {
 }
 
 impl TracedTable {
-    /// A table without triggers.
-    pub fn new(alloc: Global, name: Text, schema: Schema) -> TracedTable
-        ensures { result ≡ record { name = name; columns = schema; places = [] } }
+    /// A table of this name and these columns, without triggers.
+    pub fn new(alloc: Global, name: &Text, schema: &Schema) -> Result<TracedTable, NoMemory>
+        ensures { IfOk result (λ table. table ≡ record { name = name.now; columns = schema.now; places = [] }) }
     {
-        TracedTable {
-            name,
-            schema,
+        Ok(TracedTable {
+            name: name.copy(alloc)?,
+            schema: schema.copy(alloc)?,
             places: Vec::new(alloc),
-        }
+        })
     }
 
     /// How many triggers it has.
