@@ -5,6 +5,7 @@ use Rattle.std.proofs.lemmas.Bool.{and_parts}
 use Rattle.std.proofs.lemmas.Bool.Decides.{nat_tests}
 use Rattle.std.proofs.lemmas.List.{take_more, drop_more, drop_all, append-nil, map-append, set-set, set-get_or, get_or_read, get_or-set_same, length-set}
 use Rattle.std.proofs.lemmas.List.Elements.{filter-append}
+use Rattle.sky_val.specs.declared.column.Column.{Column}
 use Rattle.sky_val.specs.declared.val.Val.{Val}
 use Rattle.sky_urlenc.specs.RowEvents.{TracedWrite, Trigger, RowEvent, leaves_out, event_of}
 use Rattle.sky_model.specs.Triggers.{TableTrigger}
@@ -102,6 +103,14 @@ module _ (t : TracedView) (old new : Option (List Val)) where
 
   upto-told : (i : ℕ) → i < length t.triggers → out_at i ≡ false → upto (i + 1) ≡ upto i ++ event_at i ∷ []
   upto-told i lt out = upto-next i lt ∙ ap (λ es. upto i ++ es) (one_more (trigger_at i) [] false out)
+
+  -- what the code reads of the trigger at a place: whether it leaves out the write, and its event
+  pub read-out : (i : ℕ) (x : Trigger) (columns : List Column) (r b : Bool) → x ≡ (trigger_at i).trigger → columns ≡ t.columns → r ≡ leaves_out x columns old new → r ≡ b → out_at i ≡ b
+  read-out i x columns r b its same is one = sym (λ j. leaves_out (its j) (same j) old new) ∙ sym is ∙ one
+
+  pub read-event : (i : ℕ) (x : Trigger) (name : List ℕ) (columns : List Column) (event : RowEvent) → x ≡ (trigger_at i).trigger → name ≡ t.name → columns ≡ t.columns
+      → event ≡ event_of (record { table = name; columns = columns; old = old; new = new }) x → event ≡ event_at i
+  read-event i x name columns event its named same is = is ∙ (λ j. event_of (record { table = named j; columns = same j; old = old; new = new }) (its j))
 
   -- ---- how many events of the first triggers are of a queue
 
@@ -209,6 +218,12 @@ back-there queues told now txid q e was is there after here back =
     (λ i. slice_set (after i) (there i) (back now txid e (get_or queues e.queue no_queue) here i)) ∙ taken-back queues e.queue (telling now txid e (get_or queues e.queue no_queue))
 
 -- ---- a whole write
+
+-- they are the same if the next trigger leaves out the write
+pub told-rest : {A E : Type 0} (r : Result A E) (t : TracedView) (old new : Option (List Val)) (i : ℕ) (queues told : List QueueView) (now at : ℤ) (txid : ℕ) → at ≡ now → from t old new i ≡ from t old new (i + 1)
+    → OnOk r (told ≡ telling_all at txid (from t old new (i + 1)) queues) → OnOk r (told ≡ telling_all now txid (from t old new i) queues)
+told-rest (Err e) t old new i queues told now at txid time same is = tt
+told-rest (Ok a) t old new i queues told now at txid time same is = is ∙ (λ j. telling_all (time j) txid (sym same j) queues)
 
 -- as many queues stand after events as before
 pub telling-length : (now : ℤ) (txid : ℕ) (es : List RowEvent) (queues : List QueueView) → length (telling_all now txid es queues) ≡ length queues

@@ -526,8 +526,7 @@ impl Queues {
         ensures rounds { self.new.rounds ≡ self.old.rounds }
     {
         self.keep_table(name, schema, trigger.table)?;
-        self.store_trigger(trigger)?;
-        Ok(())
+        self.store_trigger(trigger)
     }
 
     /// The table has no trigger of a set any more.

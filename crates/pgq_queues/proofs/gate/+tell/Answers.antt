@@ -1,8 +1,8 @@
-use Rattle.std.proofs.Common.{◌≡◌, ◌<◌, ◌+◌, List, length, refl, sym, ◌∙◌, ap, subst, arith, option_copied, slice_set, get_or, to_z, of_z, w64}
+use Rattle.std.proofs.Common.{◌≡◌, true, false, ◌<◌, ◌+◌, List, length, refl, sym, ◌∙◌, ap, subst, arith, option_copied, slice_set, get_or, to_z, of_z, w64}
 use Rattle.std.proofs.lemmas.Int.{to_z-of_z}
 use Rattle.std.proofs.lemmas.List.{set-get_or}
-use Rattle.std.proofs.lemmas.Result.{IfOk-from_err, IfOk-weaker}
-use Rattle.sky_urlenc.specs.RowEvents.{Trigger, RowEvent, leaves_out, event_of}
+use Rattle.std.proofs.lemmas.Result.{IfOk-from_err}
+use Rattle.sky_urlenc.specs.RowEvents.{Trigger, RowEvent}
 use Rattle.sky_model.specs.Moment.{HasMoment}
 use Rattle.pgq_queues.specs.Views.{QueueView}
 use Rattle.pgq_queues.specs.Seen.{no_queue, Stands}
@@ -10,7 +10,7 @@ use Rattle.pgq_queues.specs.Traced.{no_trigger}
 use Rattle.pgq_queues.specs.EventRule.{sequences, ids_left, telling, telling_all}
 use Rattle.pgq_queues.proofs.Marked.{on-err}
 use Rattle.pgq_queues.proofs.TracedLists.{goes-same, goes-then, goes-alike}
-use Rattle.pgq_queues.proofs.Telling.{event_at, from, from-told, from-left_out, from-end, room-next, ids-rest, told-there, told-here, told-some, back-there, told-stand}
+use Rattle.pgq_queues.proofs.Telling.{told-rest, event_at, out_at, from, read-out, read-event, from-told, from-left_out, from-end, room-next, ids-rest, told-there, told-here, told-some, back-there, told-stand}
 use Rattle.pgq_queues.proofs.gate.+tell.Goals as goal
 
 pub get-requires : goal.get-requires
@@ -40,7 +40,7 @@ tell-requires n c =
     let i = c.args.place in
     let fits : i < length t.triggers = omega (arith, c.requires.place, c.if-place-count.false, c.count.ensures) in
     let same : c.trigger-trigger.result.now ≡ (get_or t.triggers i no_trigger).trigger = c.trigger-trigger.ensures in
-    let out = sym (λ j. leaves_out (same j) (c.schema.ensures j) old new) ∙ sym c.leaves_out.ensures ∙ c.if-leaves_out.true in (
+    let out : out_at t old new i ≡ true = read-out t old new i _ _ _ _ same c.schema.ensures c.leaves_out.ensures c.if-leaves_out.true in (
       omega (arith, fits, c.decreases),
       (
         omega (arith, fits),
@@ -58,7 +58,7 @@ tell-requires-2 n c =
     let e : RowEvent = event_at t old new i in
     let fits : i < length t.triggers = omega (arith, c.requires.place, c.if-place-count.false, c.count.ensures) in
     let same : c.trigger-trigger.result.now ≡ (get_or t.triggers i no_trigger).trigger = c.trigger-trigger.ensures in
-    let out = sym (λ j. leaves_out (same j) (c.schema.ensures j) old new) ∙ sym c.leaves_out.ensures ∙ c.if-leaves_out.false in
+    let out : out_at t old new i ≡ false = read-out t old new i _ _ _ _ same c.schema.ensures c.leaves_out.ensures c.if-leaves_out.false in
     let queue : c.queue-queue.result ≡ e.queue = c.queue-queue.ensures ∙ ap Trigger.queue same in
     record {
       time = subst HasMoment (sym (to_z-of_z w64 c.args.now c.ranges.now)) c.requires.time;
@@ -75,7 +75,7 @@ tell-requires-3 n c =
     let e : RowEvent = event_at t old new i in
     let fits : i < length t.triggers = omega (arith, c.requires.place, c.if-place-count.false, c.count.ensures) in
     let same : c.trigger-trigger.result.now ≡ (get_or t.triggers i no_trigger).trigger = c.trigger-trigger.ensures in
-    let out = sym (λ j. leaves_out (same j) (c.schema.ensures j) old new) ∙ sym c.leaves_out.ensures ∙ c.if-leaves_out.false in
+    let out : out_at t old new i ≡ false = read-out t old new i _ _ _ _ same c.schema.ensures c.leaves_out.ensures c.if-leaves_out.false in
     let queue : c.queue-queue.result ≡ e.queue = c.queue-queue.ensures ∙ ap Trigger.queue same in
     let stands : Stands queues c.queue-queue.result = subst (Stands queues) (sym (c.queue-queue.ensures ∙ ap Trigger.queue same)) (c.requires.within i no_trigger fits) in
     let time : to_z w64 (of_z w64 c.args.now) ≡ c.args.now = to_z-of_z w64 c.args.now c.ranges.now in
@@ -83,7 +83,7 @@ tell-requires-3 n c =
     let still = told-stand queues c.queue-queue.result c.get_mut.result.now c.tell-2.new.self (to_z w64 (of_z w64 c.args.now)) c.args.txid c.in_ok-event.event c.get_mut.ensures.within c.get_mut.ensures.value stands c.in_ok-tell.ensures.ok in
     let after : slice_set queues c.queue-queue.result c.tell-2.new.self ≡ slice_set queues e.queue (telling c.args.now c.args.txid e (get_or queues e.queue no_queue)) =
     told-there queues c.args.now (to_z w64 (of_z w64 c.args.now)) c.args.txid c.queue-queue.result c.in_ok-event.event e c.get_mut.result.now c.tell-2.new.self queue
-    (c.in_ok-event.ensures ∙ (λ j. event_of (record { table = c.name.ensures j; columns = c.schema-2.ensures j; old = old; new = new }) (same j))) time c.get_mut.ensures.within c.get_mut.ensures.value c.in_ok-tell.ensures.ok in (
+    (read-event t old new i _ _ _ _ same c.name.ensures c.schema-2.ensures c.in_ok-event.ensures) time c.get_mut.ensures.within c.get_mut.ensures.value c.in_ok-tell.ensures.ok in (
       omega (arith, fits, c.decreases),
       (
         omega (arith, fits),
@@ -122,7 +122,7 @@ take_back-requires n c =
     let time : to_z w64 (of_z w64 c.args.now) ≡ c.args.now = to_z-of_z w64 c.args.now c.ranges.now in
     let after : slice_set queues c.queue-queue.result c.tell-2.new.self ≡ slice_set queues e.queue (telling c.args.now c.args.txid e (get_or queues e.queue no_queue)) =
     told-there queues c.args.now (to_z w64 (of_z w64 c.args.now)) c.args.txid c.queue-queue.result c.in_ok-event.event e c.get_mut.result.now c.tell-2.new.self queue
-    (c.in_ok-event.ensures ∙ (λ j. event_of (record { table = c.name.ensures j; columns = c.schema-2.ensures j; old = old; new = new }) (same j))) time c.get_mut.ensures.within c.get_mut.ensures.value c.in_ok-tell.ensures.ok in
+    (read-event t old new i _ _ _ _ same c.name.ensures c.schema-2.ensures c.in_ok-event.ensures) time c.get_mut.ensures.within c.get_mut.ensures.value c.in_ok-tell.ensures.ok in
     told-some queues c.tell-3.new.queues c.args.now c.args.txid c.queue-queue.result e c.get_mut-in-Err.result.now queue c.get_mut.ensures.within c.get_mut-in-Err.ensures.within (c.in-Err.ensures.err ∙ after) c.get_mut-in-Err.ensures.value
 
 pub returns-then-place-count : goal.returns-then-place-count
@@ -143,9 +143,9 @@ returns-then-leaves_out n c =
     let fits : i < length t.triggers = omega (arith, c.requires.place, c.if-place-count.false, c.count.ensures) in
     let same : c.trigger-trigger.result.now ≡ (get_or t.triggers i no_trigger).trigger = c.trigger-trigger.ensures in
     let time : to_z w64 (of_z w64 c.args.now) ≡ c.args.now = to_z-of_z w64 c.args.now c.ranges.now in
-    let out = sym (λ j. leaves_out (same j) (c.schema.ensures j) old new) ∙ sym c.leaves_out.ensures ∙ c.if-leaves_out.true in
+    let out : out_at t old new i ≡ true = read-out t old new i _ _ _ _ same c.schema.ensures c.leaves_out.ensures c.if-leaves_out.true in
     record {
-      ok = IfOk-weaker c.tell.result _ _ (λ _ is. is ∙ (λ j. telling_all (time j) c.args.txid (sym (from-left_out t old new i fits out) j) queues)) c.tell.ensures.ok;
+      ok = told-rest c.tell.result t old new i queues c.tell.new.queues c.args.now (to_z w64 (of_z w64 c.args.now)) c.args.txid time (from-left_out t old new i fits out) c.tell.ensures.ok;
       err = c.tell.ensures.err;
       stand = c.tell.ensures.stand;
     }
@@ -187,11 +187,11 @@ returns-in-Ok-clause-ok n c =
     let time : to_z w64 (of_z w64 c.args.now) ≡ c.args.now = to_z-of_z w64 c.args.now c.ranges.now in
     let fits : i < length t.triggers = omega (arith, c.requires.place, c.if-place-count.false, c.count.ensures) in
     let same : c.trigger-trigger.result.now ≡ (get_or t.triggers i no_trigger).trigger = c.trigger-trigger.ensures in
-    let out = sym (λ j. leaves_out (same j) (c.schema.ensures j) old new) ∙ sym c.leaves_out.ensures ∙ c.if-leaves_out.false in
+    let out : out_at t old new i ≡ false = read-out t old new i _ _ _ _ same c.schema.ensures c.leaves_out.ensures c.if-leaves_out.false in
     let queue : c.queue-queue.result ≡ e.queue = c.queue-queue.ensures ∙ ap Trigger.queue same in
     let after : slice_set queues c.queue-queue.result c.tell-2.new.self ≡ slice_set queues e.queue (telling c.args.now c.args.txid e (get_or queues e.queue no_queue)) =
     told-there queues c.args.now (to_z w64 (of_z w64 c.args.now)) c.args.txid c.queue-queue.result c.in_ok-event.event e c.get_mut.result.now c.tell-2.new.self queue
-    (c.in_ok-event.ensures ∙ (λ j. event_of (record { table = c.name.ensures j; columns = c.schema-2.ensures j; old = old; new = new }) (same j))) time c.get_mut.ensures.within c.get_mut.ensures.value c.in_ok-tell.ensures.ok in
+    (read-event t old new i _ _ _ _ same c.name.ensures c.schema-2.ensures c.in_ok-event.ensures) time c.get_mut.ensures.within c.get_mut.ensures.value c.in_ok-tell.ensures.ok in
     c.in-Ok.ensures.ok
     ∙ (λ j. telling_all (time j) c.args.txid (from t old new (i + 1)) (after j))
     ∙ ap (λ es. telling_all c.args.now c.args.txid es queues) (sym (from-told t old new i fits out))
@@ -220,7 +220,7 @@ returns-in-Err-clause-err n c =
     let time : to_z w64 (of_z w64 c.args.now) ≡ c.args.now = to_z-of_z w64 c.args.now c.ranges.now in
     let after : slice_set queues c.queue-queue.result c.tell-2.new.self ≡ slice_set queues e.queue (telling c.args.now c.args.txid e (get_or queues e.queue no_queue)) =
     told-there queues c.args.now (to_z w64 (of_z w64 c.args.now)) c.args.txid c.queue-queue.result c.in_ok-event.event e c.get_mut.result.now c.tell-2.new.self queue
-    (c.in_ok-event.ensures ∙ (λ j. event_of (record { table = c.name.ensures j; columns = c.schema-2.ensures j; old = old; new = new }) (same j))) time c.get_mut.ensures.within c.get_mut.ensures.value c.in_ok-tell.ensures.ok in
+    (read-event t old new i _ _ _ _ same c.name.ensures c.schema-2.ensures c.in_ok-event.ensures) time c.get_mut.ensures.within c.get_mut.ensures.value c.in_ok-tell.ensures.ok in
     let here = told-here queues c.tell-3.new.queues c.args.now c.args.txid c.queue-queue.result e c.get_mut-in-Err.result.now queue c.get_mut.ensures.within c.get_mut-in-Err.ensures.within (c.in-Err.ensures.err ∙ after) c.get_mut-in-Err.ensures.value in
     back-there queues c.tell-3.new.queues c.args.now c.args.txid c.queue-queue.result e c.get_mut-in-Err.result.now c.take_back.new.self queue (c.in-Err.ensures.err ∙ after) here c.take_back.ensures
 

@@ -1,4 +1,4 @@
-use Rattle.std.proofs.Common.{None, Some, option_map, is_some, sym, ◌∙◌, ap}
+use Rattle.std.proofs.Common.{None, Some, option_map, is_some, sym, ◌∙◌, ap, refl}
 use Rattle.pgq_sub.specs.Views.{finished}
 use Rattle.sky_names.specs.Named.{value_of}
 use Rattle.pgq_queues.specs.Views.{QueueView}
@@ -7,6 +7,7 @@ use Rattle.pgq_queues.proofs.Marked.{kept-updated}
 use Rattle.pgq_queues.proofs.Indexed.{finished-none}
 use Rattle.pgq_queues.proofs.Consumed.{becomes, sub-here, within-less, closed-as, if-there, if-nothing}
 use Rattle.pgq_queues.proofs.Waiting.{finish-keeps, retried-becomes}
+use Rattle.pgq_queues.proofs.Unchanged.{rest-kept}
 use Rattle.pgq_queues.proofs.queues.Queues.close_batch.Goals as goal
 
 pub invariant_of-self-2 : goal.invariant_of-self-2
@@ -42,3 +43,6 @@ returns-clause-none c =
     let closed = closed-as _ _ c.self.inside.last_batch_id c.args.id c.in-Some.place c.get_mut.result.now c.close_batch.new.self c.remove.new.self.entries c.self.view_is c.get_mut.ensures.within c.get_mut.ensures.value
     c.close_batch.ensures.but c.close_batch.ensures.subs c.in-Some.ensures.value (kept-updated c.self.inside.batches.entries c.remove.new.self.entries c.args.id None c.remove.ensures.updates.0) c.self.invariant.1.1.0.indexed in
     if-nothing _ closed.0 _ closed.1
+
+pub returns-clause-rest : goal.returns-clause-rest
+returns-clause-rest c = rest-kept _ _ _ c.self.view_is refl refl refl refl

@@ -7,6 +7,7 @@ use Rattle.pgq_queues.proofs.TracedLists.{stands-kept}
 use Rattle.pgq_queues.proofs.Indexed.{and_at}
 use Rattle.pgq_queues.proofs.Consumed.{becomes, is-free, within-more, opened-as}
 use Rattle.pgq_queues.proofs.Waiting.{open-keeps, retried-becomes}
+use Rattle.pgq_queues.proofs.Unchanged.{rest-kept}
 use Rattle.pgq_queues.proofs.queues.Queues.open_batch.Goals as goal
 
 pub invariant_of-self-2 : goal.invariant_of-self-2
@@ -36,3 +37,12 @@ returns-clause-mark c =
     (λ n. kept-updated old c.insert.new.self.entries id (Some (record { queue = c.args.queue; consumer = c.in_ok-copy.field-0 })) c.in_ok-insert.ensures.updates.0 n
     ∙ ap (λ (name : List ℕ). and_at id (record { queue = c.args.queue; consumer = name }) n (kept old n)) c.in_ok-copy.ensures)
     c.self.invariant.1.1.0.indexed
+
+pub get_mut-requires : goal.get_mut-requires
+get_mut-requires c = stands-kept _ _ c.args.queue c.self.view_is c.requires.queue
+
+pub returns-in_err-insert-clause-rest : goal.returns-in_err-insert-clause-rest
+returns-in_err-insert-clause-rest c = rest-kept _ _ _ c.self.view_is refl refl refl refl
+
+pub returns-clause-rest : goal.returns-clause-rest
+returns-clause-rest c = rest-kept _ _ _ c.self.view_is refl refl refl refl

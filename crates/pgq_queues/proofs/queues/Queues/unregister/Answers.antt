@@ -7,6 +7,7 @@ use Rattle.pgq_queues.proofs.Marked.{queue-kept}
 use Rattle.pgq_queues.proofs.TracedLists.{stands-kept}
 use Rattle.pgq_queues.proofs.Consumed.{becomes, within-less, unregistered-as, if-not}
 use Rattle.pgq_queues.proofs.Waiting.{alike-within, retried-leave}
+use Rattle.pgq_queues.proofs.Unchanged.{rest-kept}
 use Rattle.pgq_queues.proofs.queues.Queues.unregister.Goals as goal
 
 pub invariant_of-self : goal.invariant_of-self
@@ -37,3 +38,12 @@ pub returns-clause-mark : goal.returns-clause-mark
 returns-clause-mark c =
     unregistered-as _ _ c.self.inside.last_batch_id c.args.queue c.id-id.result c.args.consumer.now (option_map OpenBatch.id c.active.result) c.get_mut.result.now c.unregister.new.self c.forget.new.places.entries c.drop_sub.new.self
     c.self.view_is c.get_mut.ensures.within c.get_mut.ensures.value c.unregister.ensures.but c.unregister.ensures.subs (ap (option_map OpenBatch.id) c.active.ensures ∙ ap open_id c.in_ok-sub.ensures.was) c.forget.ensures c.self.invariant.1.1.0.indexed c.drop_sub.ensures
+
+pub get_mut-requires : goal.get_mut-requires
+get_mut-requires c = stands-kept _ _ c.args.queue c.self.view_is c.requires
+
+pub returns-in_err-sub-clause-rest : goal.returns-in_err-sub-clause-rest
+returns-in_err-sub-clause-rest c = rest-kept _ _ _ c.self.view_is refl refl refl refl
+
+pub returns-clause-rest : goal.returns-clause-rest
+returns-clause-rest c = rest-kept _ _ _ c.self.view_is refl refl refl refl
