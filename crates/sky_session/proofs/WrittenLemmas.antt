@@ -1,11 +1,12 @@
 -- A write in a session's transaction.
-use Rattle.std.proofs.Common.{◌≡◌, ℕ, List, [], ◌∷◌, ◌++◌, Bool, true, false, Option, Some, None, Ok, refl, ◌∙◌, ap}
+use Rattle.std.proofs.Common.{◌≡◌, ℕ, List, [], ◌∷◌, ◌++◌, Bool, true, false, Option, Some, None, Ok, Err, refl, ◌∙◌, ap}
 use Rattle.std.specs.Prelude.{not, ◌&&◌}
 use Rattle.sky_val.specs.declared.val.Val.{Val}
 use Rattle.sky_model.specs.History.{Mark, of_session, tabled, wrote}
 use Rattle.sky_model.specs.Sessions.{Block, outside, inside, failed, Session}
 use Rattle.sky_model.specs.State.{RowPart, after_part, after_part_marks}
 use Rattle.sky_model.specs.declared.reply.Reply.TheVariants.{Number}
+use Rattle.sky_model.specs.declared.reply.Refusal.{Refusal}
 use Rattle.sky_model.specs.declared.reply.Refusal.TheVariants.{EventIdsSpent}
 use Rattle.sky_model.specs.Outcome.{◌>>=◌, ◌>>◌, refused_if, does_marks}
 use Rattle.sky_model.specs.OwnTransaction.{txid_for, begin_of, commit_of, in_own}
@@ -62,3 +63,17 @@ gated-has_room gate g d who t table key old new is room =
     ap (λ c. gated gate g (c >>= (λ u. does_marks (Number 1) (in_own who u (d.session who) (tabled (wrote (of_session who) u table key old new) ∷ []))))) is
     ∙ ap (λ b. refused_if (not b) EventIdsSpent >> does_marks (Number 1) (in_own who t (d.session who) (tabled (wrote (of_session who) t table key old new) ∷ [])))
     (written-takes gate g who t (d.session who) table key old new ∙ room)
+
+-- if it has none, the write is refused
+pub gated-no_room : {G : Type 0} (gate : Gate G) (g : G) (d : RowPart) (who t table : ℕ) (key : List Val) (old new : Option (List Val)) → txid_for d who ≡ Ok t
+    → gate.has_room g (record { table = table; old = old; new = new }) ≡ false → gated gate g (writes_key d who table key old new) ≡ Err EventIdsSpent
+gated-no_room gate g d who t table key old new is full =
+    ap (λ c. gated gate g (c >>= (λ u. does_marks (Number 1) (in_own who u (d.session who) (tabled (wrote (of_session who) u table key old new) ∷ []))))) is
+    ∙ ap (λ b. refused_if (not b) EventIdsSpent >> does_marks (Number 1) (in_own who t (d.session who) (tabled (wrote (of_session who) t table key old new) ∷ [])))
+    (written-takes gate g who t (d.session who) table key old new ∙ full)
+
+-- and so it is if there is no id for the transaction
+pub gated-no_id : {G : Type 0} (gate : Gate G) (g : G) (d : RowPart) (who table : ℕ) (key : List Val) (old new : Option (List Val)) (refusal : Refusal) → txid_for d who ≡ Err refusal
+    → gated gate g (writes_key d who table key old new) ≡ Err refusal
+gated-no_id gate g d who table key old new refusal is =
+    ap (λ c. gated gate g (c >>= (λ u. does_marks (Number 1) (in_own who u (d.session who) (tabled (wrote (of_session who) u table key old new) ∷ []))))) is

@@ -1,3 +1,4 @@
 pub mod Effects
 pub mod Gives
 pub mod Committing
+pub mod Finding

@@ -10,14 +10,20 @@
 //! The earlier ones aren't repeated: columns never change, and callers make no table read-only while a running
 //! transaction has written it, so none for whose keys a session waits.
 
-ghost use Rattle.std.specs.Prelude.{◌≡◌, ◌<◌, false, None, Some, length};
+ghost use Rattle.std.specs.Prelude.{◌≡◌, ◌<◌, List, Option, false, None, Some, IfOk, IfErr, OnOk, is_some, length};
+ghost use Rattle.sky_val.specs.declared.val.Val.{Val};
 ghost use Rattle.sky_keys.specs.Waits.{other_holder, is_waiting};
+ghost use Rattle.sky_model.specs.declared.stmt.Attempt.{Attempt};
 ghost use Rattle.sky_model.specs.declared.stmt.Attempt.TheVariants.{Insertion, Changes, Deletion};
+ghost use Rattle.sky_model.specs.Outcome.{Checked, refused_if};
+ghost use Rattle.sky_model.specs.declared.reply.Refusal.TheVariants.{Duplicate};
 ghost use Rattle.sky_model.specs.ShownRows.{rows_by};
 ghost use Rattle.sky_model.specs.StepLocks.{blocked};
 ghost use Rattle.sky_model.specs.StepRows.{attempts};
+ghost use Rattle.sky_model.specs.Stops.{StopsAs};
+ghost use Rattle.sky_session.specs.Finding.{Finds, change_shown};
 ghost use Rattle.sky_session.specs.Gives.{Ran, Writes};
-ghost use Rattle.sky_state.specs.Seen.{seen};
+ghost use Rattle.sky_state.specs.Seen.{seen, found_in};
 
 use crate::answer::RowStep;
 use crate::row_statements::{check_seen, tell_write, write_key};
@@ -47,6 +53,21 @@ fn wait(
     }
 }
 
+/// The place of a key that has no row. If it has one, its insert is refused.
+fn find_room(state: &RowState, who: SessionId, key: &LockKey) -> Result<Option<usize>, Stop>
+    requires within { key.now.table < length (seen state.now).tables }
+    ensures place { IfOk result (λ place. place ≡ found_in state.now key.now.table key.now.key) }
+    ensures ok { OnOk result (is_some ((rows_by (seen state.now)).key who key.now.table key.now.key).standing ≡ false) }
+    ensures err { IfErr result (λ stop. StopsAs stop (refused_if (is_some ((rows_by (seen state.now)).key who key.now.table key.now.key).standing) Duplicate)) }
+{
+    let now = state.snapshot_now()?;
+    let place = state.find(key.table, &key.key);
+    if state.has_standing(who, key.table, &key.key, place, &now) {
+        return Err(Stop::Refused(Refusal::Duplicate));
+    }
+    Ok(place)
+}
+
 /// Inserts the row at the key.
 pub(crate) fn insert_key<G: WriteGate>(
     state: &mut RowState,
@@ -64,14 +85,40 @@ pub(crate) fn insert_key<G: WriteGate>(
         let attempt = Attempt::Insertion(row.copy(state.alloc())?);
         return wait(state, who, &key, attempt, holder, step);
     }
-    let now = state.snapshot_now()?;
-    let place = state.find(key.table, &key.key);
-    if state.has_standing(who, key.table, &key.key, place, &now) {
-        return Err(Stop::Refused(Refusal::Duplicate));
-    }
+    let place = find_room(state, who, &key)?;
     let row = row.copy(state.alloc())?;
     let txid = tell_write(state, who, &key, None, Some(&row), gate, &mut step.effects)?;
     Ok(write_key(state, who, txid, key, place, Some(row), step)?)
+}
+
+/// What an update or a delete finds at its key.
+#[derive(Clone, Copy)]
+pub(crate) enum Found<'a> {
+    /// The session sees no row there.
+    NoRow,
+    /// It sees a row, and this other session holds the key.
+    Held(SessionId),
+    /// It sees this row, which it may change, and the key has this place.
+    Free(Option<usize>, &'a Row),
+}
+
+/// Makes the tests that an update and a delete have in common, in their order.
+fn find_row<'a>(state: &'a RowState, who: SessionId, key: &LockKey) -> Result<Found<'a>, Stop>
+    requires within { key.now.table < length (seen state.now).tables }
+    ensures ok { IfOk result (Finds state.now who key.now.table key.now.key) }
+    ensures err { (attempt : Attempt) (new_of : List Val → Checked (Option (List Val)))
+        → IfErr result (λ stop. StopsAs stop (change_shown state.now who key.now.table key.now.key attempt new_of)) }
+{
+    let now = state.snapshot_now()?;
+    let place = state.find(key.table, &key.key);
+    let Some(row) = state.row_shown(who, key.table, &key.key, place, &now) else {
+        return Ok(Found::NoRow);
+    };
+    if let Some(holder) = state.other_holder(who, key) {
+        return Ok(Found::Held(holder));
+    }
+    check_seen(state, who, key.table, &key.key, place, &now)?;
+    Ok(Found::Free(place, row))
 }
 
 /// Changes the row that the session sees at the key; if there is none, it changes 0 rows.
@@ -87,16 +134,14 @@ pub(crate) fn change_key<G: WriteGate>(
     requires awake { is_waiting who (seen state.old).waiting ≡ false }
     ensures { Writes G.rule (state.old, gate.old) (state.new, gate.new) step.old step.new who result (attempts (seen state.old) ((rows_by (seen state.old)).key who key.table key.key) who key.table key.key (Changes sets.now)) }
 {
-    let now = state.snapshot_now()?;
-    let place = state.find(key.table, &key.key);
-    let Some(old) = state.row_shown(who, key.table, &key.key, place, &now) else {
-        return Ok(step.answer(who, Reply::Number(0))?);
+    let (place, old) = match find_row(state, who, &key)? {
+        Found::NoRow => return Ok(step.answer(who, Reply::Number(0))?),
+        Found::Held(holder) => {
+            let attempt = Attempt::Changes(sets.copy(state.alloc())?);
+            return wait(state, who, &key, attempt, holder, step);
+        }
+        Found::Free(place, old) => (place, old),
     };
-    if let Some(holder) = state.other_holder(who, &key) {
-        let attempt = Attempt::Changes(sets.copy(state.alloc())?);
-        return wait(state, who, &key, attempt, holder, step);
-    }
-    check_seen(state, who, key.table, &key.key, place, &now)?;
     let columns = state.schema(key.table).columns();
     let new = with_sets(state.alloc(), columns, sets.as_slice(), old)?;
     let txid = tell_write(
@@ -123,15 +168,13 @@ pub(crate) fn delete_key<G: WriteGate>(
     requires awake { is_waiting who (seen state.old).waiting ≡ false }
     ensures { Writes G.rule (state.old, gate.old) (state.new, gate.new) step.old step.new who result (attempts (seen state.old) ((rows_by (seen state.old)).key who key.table key.key) who key.table key.key Deletion) }
 {
-    let now = state.snapshot_now()?;
-    let place = state.find(key.table, &key.key);
-    let Some(old) = state.row_shown(who, key.table, &key.key, place, &now) else {
-        return Ok(step.answer(who, Reply::Number(0))?);
+    let (place, old) = match find_row(state, who, &key)? {
+        Found::NoRow => return Ok(step.answer(who, Reply::Number(0))?),
+        Found::Held(holder) => {
+            return wait(state, who, &key, Attempt::Deletion, holder, step);
+        }
+        Found::Free(place, old) => (place, old),
     };
-    if let Some(holder) = state.other_holder(who, &key) {
-        return wait(state, who, &key, Attempt::Deletion, holder, step);
-    }
-    check_seen(state, who, key.table, &key.key, place, &now)?;
     let txid = tell_write(state, who, &key, Some(old), None, gate, &mut step.effects)?;
     Ok(write_key(state, who, txid, key, place, None, step)?)
 }

@@ -1,4 +1,4 @@
-use Rattle.std.proofs.Common.{◌≡◌, ◌∙◌, true, IfOk, ap, subst}
+use Rattle.std.proofs.Common.{◌≡◌, true, IfOk, subst}
 use Rattle.sky_model.specs.History.{of_worker, tabled, wrote}
 use Rattle.sky_model.specs.State.{after_part}
 use Rattle.sky_state.specs.Views.{RowStateView}
