@@ -1,5 +1,5 @@
 -- The marks of workers' transactions, in what the code keeps.
-use Rattle.std.proofs.Common.{◌≡◌, ℕ, ◌+◌, List, [], ◌∷◌, ◌++◌, true, false, not, ◌&&◌, ◌||◌, ◌==◌, Option, filter, ap, ◌∙◌}
+use Rattle.std.proofs.Common.{◌≡◌, ℕ, ◌+◌, ◌<◌, List, [], ◌∷◌, ◌++◌, true, false, not, ◌&&◌, ◌||◌, ◌==◌, Option, filter, length, get_or, sym, ap, ◌∙◌}
 use Rattle.sky_names.specs.Named.{NamedView}
 use Rattle.sky_val.specs.declared.val.Val.{Val}
 use Rattle.sky_keys.specs.Versions.{written, forgotten}
@@ -8,7 +8,8 @@ use Rattle.sky_rows.specs.Table.{TableView}
 use Rattle.sky_model.specs.History.{of_worker, began, ended, tabled, wrote}
 use Rattle.sky_model.specs.State.{changed_at, after_part}
 use Rattle.sky_state.specs.Views.{RowStateView}
-use Rattle.sky_state.specs.Seen.{columns_of, versions_of, wrote_in, seen}
+use Rattle.sky_state.proofs.SessionLists.{read-at}
+use Rattle.sky_state.specs.Seen.{no_table, columns_of, versions_of, wrote_in, seen}
 
 -- a worker's transaction that begins runs
 pub work_begun-as : (v now : RowStateView) (trans : TransView) (workers : List ℕ) (t : ℕ) → v ≡ now
@@ -26,6 +27,11 @@ pub work_wrote-as : (v now : RowStateView) (tables : List TableView) (writers : 
 work_wrote-as v now tables writers t table key old row same columns versions writes =
     (λ i. record (seen v) { columns = columns i; versions = versions i; wrote_in = writes i })
     ∙ ap (λ (w : RowStateView). after_part (seen w) (tabled (wrote of_worker t table key old row))) same
+
+-- a table that was reached, and pruned, has the versions that are seen
+pub versions-reached : (v now : RowStateView) (n : ℕ) (reached pruned : TableView) → v ≡ now → n < length v.tables.values → reached ≡ get_or v.tables.values n reached → pruned ≡ reached → pruned.versions ≡ (seen now).versions n
+versions-reached v now n reached pruned same lt at is =
+    ap (λ (table : TableView). table.versions) (is ∙ sym (read-at v.tables.values n reached no_table lt at)) ∙ ap (λ (w : RowStateView). versions_of w.tables.values n) same
 
 -- one that has committed doesn't
 pub work_committed-as : (v now : RowStateView) (trans : TransView) (workers : List ℕ) (writers : List (ℕ × ℕ)) (t : ℕ) → v ≡ now

@@ -1,5 +1,5 @@
 -- A session that waits is the last of the queue, or would wait for itself.
-use Rattle.std.proofs.Common.{◌≡◌, ◌<◌, Some, length, refl, ap, sym, ◌∙◌, subst}
+use Rattle.std.proofs.Common.{◌<◌, Some, length, refl, ap, sym, ◌∙◌, subst}
 use Rattle.std.specs.Prelude.{IfNone, IfSome}
 use Rattle.sky_keys.specs.Waits.{LeadsBack}
 use Rattle.sky_locks.specs.Locks.{waits_for_in, WaitsForKey, ClosesRing}
