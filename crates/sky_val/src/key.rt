@@ -48,9 +48,16 @@ impl KeyValues {
 }
 
 /// A key of a row: the values of the key columns, in their order.
-#[derive(Debug, Drop)]
+#[derive(Debug)]
 pub struct Key {
     values: KeyValues,
+}
+
+// By hand, so that dropping a key is one step for the functions that own one.
+impl Drop for Key {
+    fn drop(self) {
+        let Key { values: _ } = self;
+    }
 }
 
 impl Model for Key {

@@ -36,9 +36,16 @@ impl RowValues {
 }
 
 /// A row of a table: its values, in the order of the columns.
-#[derive(Debug, Drop)]
+#[derive(Debug)]
 pub struct Row {
     values: RowValues,
+}
+
+// By hand, so that dropping a row is one step for the functions that own one.
+impl Drop for Row {
+    fn drop(self) {
+        let Row { values: _ } = self;
+    }
 }
 
 impl Model for Row {

@@ -61,9 +61,15 @@ impl Kept {
 }
 
 /// A text: bytes that are UTF-8.
-#[derive(Drop)]
 pub struct Text {
     kept: Kept,
+}
+
+// By hand, so that dropping a text is one step for the functions that own one.
+impl Drop for Text {
+    fn drop(self) {
+        let Text { kept: _ } = self;
+    }
 }
 
 impl Model for Text {
