@@ -8,12 +8,24 @@ use std::alloc::Global;
 use std::marker::Model;
 
 /// A table of a leaf.
-#[derive(Debug, Drop)]
+#[derive(Debug)]
 pub struct LeafTable {
     name: Text,
     state: TableState,
     snapshot: Option<Snapshot>,
     tick: u64,
+}
+
+// By hand, so that dropping a table is one step for the functions that own one.
+impl Drop for LeafTable {
+    fn drop(self) {
+        let LeafTable {
+            name: _,
+            state: _,
+            snapshot: _,
+            tick: _,
+        } = self;
+    }
 }
 
 impl Model for LeafTable {
@@ -90,12 +102,24 @@ impl LeafTable {
 }
 
 /// The root of a set, where the tables of the set are written.
-#[derive(Debug, Drop)]
+#[derive(Debug)]
 pub struct Root {
     name: Text,
     queue: Text,
     tables: Vec<Text>,
     consumers: Vec<Text>,
+}
+
+// By hand, so that dropping a root is one step for the functions that own one.
+impl Drop for Root {
+    fn drop(self) {
+        let Root {
+            name: _,
+            queue: _,
+            tables: _,
+            consumers: _,
+        } = self;
+    }
 }
 
 impl Model for Root {
@@ -188,12 +212,24 @@ impl Root {
 }
 
 /// A leaf of a set, whose tables are copies of a root's.
-#[derive(Debug, Drop)]
+#[derive(Debug)]
 pub struct Leaf {
     name: Text,
     provider: Text,
     tick: u64,
     tables: Vec<LeafTable>,
+}
+
+// By hand, so that dropping a leaf is one step for the functions that own one.
+impl Drop for Leaf {
+    fn drop(self) {
+        let Leaf {
+            name: _,
+            provider: _,
+            tick: _,
+            tables: _,
+        } = self;
+    }
 }
 
 impl Model for Leaf {

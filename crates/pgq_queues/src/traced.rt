@@ -10,11 +10,21 @@ use std::alloc::Global;
 use std::marker::Model;
 
 /// A trigger of a table; that of a set of replicated tables has no name.
-#[derive(Drop)]
 pub struct TableTrigger {
     pub table: u32,
     pub name: Option<Text>,
     pub trigger: Trigger,
+}
+
+// By hand, so that dropping a trigger is one step for the functions that own one.
+impl Drop for TableTrigger {
+    fn drop(self) {
+        let TableTrigger {
+            table: _,
+            name: _,
+            trigger: _,
+        } = self;
+    }
 }
 
 impl Model for TableTrigger {
@@ -46,11 +56,21 @@ impl TableTrigger {
 
 /// What is kept of a table with triggers: what their events say of it, and the places of its own among the triggers of
 /// all tables, in the order of making.
-#[derive(Drop)]
 pub struct TracedTable {
     name: Text,
     schema: Schema,
     places: Vec<usize>,
+}
+
+// By hand, so that dropping one is one step for the functions that own one.
+impl Drop for TracedTable {
+    fn drop(self) {
+        let TracedTable {
+            name: _,
+            schema: _,
+            places: _,
+        } = self;
+    }
 }
 
 impl Model for TracedTable {

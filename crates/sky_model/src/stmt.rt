@@ -128,9 +128,16 @@ enum SetValues {
 }
 
 /// The changes of an update, in order.
-#[derive(Debug, Drop)]
+#[derive(Debug)]
 pub struct Sets {
     sets: SetValues,
+}
+
+// By hand, so that dropping changes is one step for the functions that own one.
+impl Drop for Sets {
+    fn drop(self) {
+        let Sets { sets: _ } = self;
+    }
 }
 
 impl Model for Sets {
