@@ -13,6 +13,8 @@ pub mod Switched
 pub mod RotationSteps
 pub mod Looking
 pub mod NodeSteps
+pub mod RootSteps
+pub mod BatchSteps
 pub mod ProviderSteps
 pub mod CopySteps
 pub mod ApplySteps

@@ -4,7 +4,7 @@ use Rattle.std.proofs.lemmas.Bool.Decides.{nat_tests}
 use Rattle.sky_names.specs.Places.{place_of}
 use Rattle.sky_names.proofs.PlaceLemmas.{bytes_eq_refl}
 use Rattle.londiste_state.specs.declared.state.TableState.{TableState}
-use Rattle.londiste_state.specs.Nodes.{Node, Leaf, of_root, of_leaf, is_among, all_but}
+use Rattle.londiste_state.specs.Nodes.{Node, of_root, of_leaf, is_among, all_but}
 use Rattle.sky_model.specs.declared.reply.Reply.TheVariants.{Done, Number, Null}
 use Rattle.sky_model.specs.declared.reply.Limit.TheVariants.{Consumers, Triggers}
 use Rattle.sky_model.specs.declared.reply.Refusal.TheVariants.{ConsumerExists, IdsSpent, TableBusy, TooMany}
@@ -166,13 +166,12 @@ joined-as v now queues node q tick newest consumer same mark noding at =
 noded-as : (v now : DbView) (node : Option Node) (mark : NodeMark) → ((d : Database) → after_mark d (noded mark) ≡ record d { node = after_node mark d.node }) → v ≡ now → node ≡ after_node mark v.node.own → seen_database (record v { node = record v.node { own = node } }) ≡ after_marks (seen_database now) (noded mark ∷ [])
 noded-as v now node mark plain same noding = (λ i. seen_with (with_node (record v.node { own = noding i }) (seen v.rows)) v.queues) ∙ sym (plain (seen_database v)) ∙ ap (λ (w : DbView). after_marks (seen_database w) (noded mark ∷ [])) same
 
-pub leaf-as : (v now : DbView) (leaf : Leaf) (n p name provider : List ℕ) (tick : ℕ) → v ≡ now → (seen_database now).node ≡ None → leaf ≡ record { name = n; provider = p; tick = tick; tables = [] } → n ≡ name → p ≡ provider
-    → Serves (seen_database now) (seen_database (record v { node = record v.node { own = Some (of_leaf leaf) } })) (making_leaf name provider tick)
-leaf-as v now leaf n p name provider tick same bare is named from =
+pub leaf-if : {E : Type 0} (v now : DbView) (node : Option Node) (name provider : List ℕ) (tick : ℕ) (r : Result (Unit {0}) E) → v ≡ now → (seen_database now).node ≡ None
+    → OnOk r (node ≡ after_node (leaf_made name provider tick) v.node.own) → OnOk r (Serves (seen_database now) (seen_database (record v { node = record v.node { own = node } })) (making_leaf name provider tick))
+leaf-if v now node name provider tick (Ok _) same bare noding =
     let may : may_serve (making_leaf name provider tick) (seen_database now).node ≡ true = ap is_none bare in
-    let whole : leaf ≡ record { name = name; provider = provider; tick = tick; tables = [] } = is ∙ (λ i. record { name = named i; provider = from i; tick = tick; tables = [] }) in
-    let made : Some (of_leaf leaf) ≡ after_node (leaf_made name provider tick) v.node.own = ap (λ (l : Leaf). Some (of_leaf l)) whole in
-    serves-by (seen_database now) _ (making_leaf name provider tick) _ (is-served (seen_database now) (making_leaf name provider tick) may) (noded-as v now (Some (of_leaf leaf)) (leaf_made name provider tick) (λ d. refl) same made)
+    serves-by (seen_database now) _ (making_leaf name provider tick) _ (is-served (seen_database now) (making_leaf name provider tick) may) (noded-as v now node (leaf_made name provider tick) (λ d. refl) same noding)
+leaf-if v now node name provider tick (Err e) same bare noding = tt
 
 -- ---- a table joins a leaf, or leaves it
 

@@ -1,20 +1,24 @@
 //! The statements on consumers and their batches.
 
-ghost use Rattle.std.specs.Prelude.{◌≡◌, ◌+◌, false, None, Some, OnOk, is_some};
+ghost use Rattle.std.specs.Prelude.{◌≡◌, ◌+◌, false, None, Some, IfOk, IfErr, IfSome, OnOk, is_some};
 ghost use Rattle.sky_model.specs.Queues.{tick};
-ghost use Rattle.sky_model.specs.StepConsumer.{registers, register_consumer, register_consumer_at, unregister_consumer, opens_batch, next_batch, get_batch_events, get_batch_info, finish_batch, consumer_info};
-ghost use Rattle.sky_model.specs.Outcome.{reply_of};
+ghost use Rattle.sky_model.specs.StepConsumer.{registers, register_consumer, register_consumer_at, unregister_consumer, opens_batch, next_batch, get_batch_events, get_batch_info, is_nodes_batch, finish_batch, consumer_info};
+ghost use Rattle.sky_model.specs.Outcome.{answers, reply_of};
 ghost use Rattle.sky_model.specs.Reader.{shown_by};
+ghost use Rattle.sky_model.specs.Stops.{StopsAs};
+ghost use Rattle.sky_model.specs.declared.reply.Reply.TheVariants.{BatchInfo};
 ghost use Rattle.pgq_sub.specs.Views.{seen_sub};
-ghost use Rattle.pgq_queues.specs.Seen.{Stands};
+ghost use Rattle.pgq_queues.specs.Seen.{Beside, seen_with, Stands};
 ghost use Rattle.pgq_db.specs.Seen.{seen_database};
 ghost use Rattle.pgq_db.specs.Looks.{LooksUnlessCut, ListsFrom};
 ghost use Rattle.pgq_db.specs.Gives.{Ran};
 
 use crate::db::Db;
+use pgq_queues::Queues;
 use pgq_sub::Sub;
 use sky_model::{BoxedBatchInfo, ConsumerInfo, Events, Limit, Refusal, Replies, Reply, Stop};
 use sky_val::{SessionId, Text};
+use std::alloc::Global;
 
 impl Db {
     /// `register_consumer NAME CONSUMER`: a subscription at the newest tick.
@@ -195,10 +199,7 @@ impl Db {
     ) -> Result<(), Stop>
         ensures { Ran self.now self.now replies.old replies.new who result (get_batch_info (seen_database self.now) id) }
     {
-        let Some(batch) = self.queues.batch(id) else {
-            return Err(Stop::Refused(Refusal::NoBatch));
-        };
-        let info = BoxedBatchInfo::new(self.alloc, self.queues.batch_info(&batch)?)?;
+        let info = batch_info(self.alloc, &self.queues, id)?;
         replies.push(who, Reply::BatchInfo(info))?;
         Ok(())
     }
@@ -212,16 +213,27 @@ impl Db {
     ) -> Result<(), Stop>
         ensures { Ran self.old self.new replies.old replies.new who result (finish_batch (seen_database self.old) id) }
     {
+        let is_active = self.may_finish(id)?;
+        if is_active {
+            self.queues.close_batch(id);
+        }
+        replies.push(who, Reply::Number(u64::from(is_active)))?;
+        Ok(())
+    }
+
+    /// Whether there is an active batch of this id, or a refusal if it is a node's.
+    fn may_finish(&self, id: u64) -> Result<bool, Stop>
+        ensures active { IfOk result (λ active. active ≡ is_some ((seen_database self.now).batch id)) }
+        ensures foreign { OnOk result (IfSome ((seen_database self.now).batch id) (λ batch. is_nodes_batch (seen_database self.now) batch ≡ false)) }
+        ensures err { IfErr result (λ stop. StopsAs stop (finish_batch (seen_database self.now) id)) }
+    {
         let Some(batch) = self.queues.batch(id) else {
-            replies.push(who, Reply::Number(0))?;
-            return Ok(());
+            return Ok(false);
         };
         if self.is_nodes_of(batch.queue, batch.consumer) {
             return Err(Stop::Refused(Refusal::NodeConsumer));
         }
-        self.queues.close_batch(id);
-        replies.push(who, Reply::Number(1))?;
-        Ok(())
+        Ok(true)
     }
 
     /// `consumer_info NAME CONSUMER`: where a consumer is, and its active batch.
@@ -248,4 +260,16 @@ impl Db {
         replies.push(who, Reply::ConsumerInfo(info))?;
         Ok(())
     }
+}
+
+/// What is shown of an active batch, or a refusal if none has this id.
+fn batch_info(alloc: Global, queues: &Queues, id: u64) -> Result<BoxedBatchInfo, Stop>
+    ensures ok { (beside : Beside) → IfOk result (λ info. get_batch_info (seen_with beside queues.now) id ≡ answers (BatchInfo info)) }
+    ensures err { (beside : Beside) → IfErr result (λ stop. StopsAs stop (get_batch_info (seen_with beside queues.now) id)) }
+{
+    let Some(batch) = queues.batch(id) else {
+        return Err(Stop::Refused(Refusal::NoBatch));
+    };
+    let info = queues.batch_info(&batch)?;
+    Ok(BoxedBatchInfo::new(alloc, info)?)
 }

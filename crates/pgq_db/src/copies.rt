@@ -1,7 +1,7 @@
 //! The copies of tables from another database that run in this one: each writes in one transaction, which no session
 //! sees before it ends.
 
-ghost use Rattle.std.specs.Prelude.{◌≡◌, false, true, None, IfErr, IfOk, IfSome, OnOk, List, ℕ, map};
+ghost use Rattle.std.specs.Prelude.{◌≡◌, ◌<◌, false, true, None, IfErr, IfOk, IfSome, OnOk, List, ℕ, length, map};
 ghost use Rattle.sky_txid.specs.Ids.{contains};
 ghost use Rattle.sky_model.specs.Copies.{copy_txid};
 ghost use Rattle.sky_model.specs.CopyMoves.{columns_for, copy_running};
@@ -11,7 +11,7 @@ ghost use Rattle.sky_model.specs.DatabaseSteps.{DatabaseSteps, IsMade};
 ghost use Rattle.sky_model.specs.Nodes.{after_node};
 ghost use Rattle.sky_model.specs.History.{of_copy, ended, copied};
 ghost use Rattle.sky_model.specs.State.{after_part, after_part_marks, after_mark, after_marks};
-ghost use Rattle.sky_model.specs.StepCopy.{all_fit, copy_write, copy_writes, given_up};
+ghost use Rattle.sky_model.specs.StepCopy.{all_fit, copy_write, copy_writes, given_up, rows_now};
 ghost use Rattle.sky_model.specs.StepNode.{beginning_copy, copying_rows, ending_copy, giving_up_copy, may_serve, node_does};
 ghost use Rattle.sky_state.specs.Seen.{seen};
 ghost use Rattle.pgq_queues.specs.Views.{QueuesView};
@@ -42,11 +42,10 @@ impl Db {
         let Some((number, _)) = self.rows.table(table) else {
             return Ok(());
         };
-        let snapshot = self.rows.snapshot_now()?;
-        let keys = self.rows.keys_under(&snapshot, number)?;
+        let keys = keys_now(&self.rows, number)?;
         let txid = self.rows.begin_worker()?;
-        self.node.copies.begin(number, txid)?;
         delete_all(&mut self.rows, txid, number, keys)?;
+        self.node.copies.begin(number, txid)?;
         Ok(())
     }
 
@@ -150,6 +149,15 @@ fn write(
     ensures agree { (queues : QueuesView) → Agree (seen rows.old) queues → Agree (seen rows.new) queues }
 {
     rows.worker_write(txid, table, key, row)
+}
+
+/// The keys of the rows that a table has at present.
+fn keys_now(rows: &RowDb, table: u32) -> Result<Vec<Key>, NoMemory>
+    requires { table < length (seen rows.now).tables }
+    ensures { IfOk result (λ keys. keys.items ≡ map (λ e. e.0) (rows_now (seen rows.now) table)) }
+{
+    let snapshot = rows.snapshot_now()?;
+    rows.keys_under(&snapshot, table)
 }
 
 /// A copy's transaction deletes keys.

@@ -1,20 +1,22 @@
 //! The root or leaf that a database is in a set of replicated tables, and what a database does for nodes: its own and
 //! those of other databases. A caller decides which of these calls a statement makes, and in which databases.
 
-ghost use Rattle.std.specs.Prelude.{◌≡◌, ◌++◌, [], ◌∷◌, true, None, Some, Ok, IfOk, IfErr, IfSome, OnOk, OnErr, is_some, option_copied, option_map};
+ghost use Rattle.std.specs.Prelude.{◌≡◌, ◌<◌, ◌++◌, [], ◌∷◌, ℕ, ℤ, true, None, Some, Ok, IfOk, IfErr, IfSome, OnOk, OnErr, is_some, length, option_copied, option_map};
 ghost use Rattle.londiste_state.specs.declared.node.Node.TheVariants as node;
 ghost use Rattle.sky_model.specs.History.{noded, NodeMark, root_made, set_added, set_removed, joined, parted, leaf_made, leaf_added, leaf_removed, state_set};
 ghost use Rattle.sky_model.specs.Moment.{IsTime};
 ghost use Rattle.sky_model.specs.Nodes.{after_node, is_set_queue, is_leafs};
 ghost use Rattle.sky_model.specs.NodesOfWorld.{columns_called};
-ghost use Rattle.sky_model.specs.Queues.{queue_name};
+ghost use Rattle.sky_model.specs.Queues.{queue_name, queue_number};
 ghost use Rattle.sky_model.specs.Daemon.{quietly};
 ghost use Rattle.sky_model.specs.DatabaseCalls.{served};
 ghost use Rattle.sky_model.specs.DatabaseSteps.{DatabaseSteps, IsMade};
 ghost use Rattle.sky_model.specs.StepConsumer.{has_dot, is_nodes};
 ghost use Rattle.sky_model.specs.StepQueue.{newest_id};
 ghost use Rattle.sky_model.specs.StepNode.{set_queue, set_trigger, create_root, joining, making_leaf, adding, removing, moving, listing, unlisting, table_number, may_serve, node_does};
-ghost use Rattle.pgq_queues.specs.Seen.{Stands};
+ghost use Rattle.sky_model.specs.State.{Database};
+ghost use Rattle.sky_model.specs.Stops.{StopsAs};
+ghost use Rattle.pgq_queues.specs.Seen.{Stands, queues_of};
 ghost use Rattle.pgq_db.specs.Gives.{Ran};
 ghost use Rattle.pgq_db.specs.Seen.{seen_database};
 ghost use Rattle.pgq_db.specs.Served.{Serves, JoinRefused, RootRefused, ServesUnlessBusy};
@@ -22,7 +24,7 @@ ghost use Rattle.pgq_db.specs.Served.{Serves, JoinRefused, RootRefused, ServesUn
 use crate::db::Db;
 use crate::faults::{JoinFault, RootFault};
 use londiste_state::{Leaf, Node, Root, TableState};
-use pgq_queues::TableTrigger;
+use pgq_queues::{Queues, TableTrigger};
 use sky_model::{Limit, Refusal, Replies, Reply, Stop};
 use sky_urlenc::Trigger;
 use sky_val::{NoMemory, Schema, SessionId, Text};
@@ -91,11 +93,7 @@ impl Db {
         ensures err { OnErr result (seen_database self.new ≡ seen_database self.old) }
         ensures steps { OnOk result (DatabaseSteps (seen_database self.old) (seen_database self.new) (served (making_leaf name.now provider.now tick)) (quietly (node_does (seen_database self.old) (making_leaf name.now provider.now tick)))) }
     {
-        let name = name.copy(self.alloc)?;
-        let provider = provider.copy(self.alloc)?;
-        let leaf = Leaf::new(self.alloc, name, provider, tick);
-        self.node.own = Some(Node::Leaf(leaf));
-        Ok(())
+        make_leaf(self.alloc, &mut self.node.own, name, provider, tick)
     }
 
     /// Adds a table to the leaf, which doesn't have it yet. From then on sessions may not write it. If a running
@@ -206,31 +204,11 @@ impl Db {
         requires { IsTime now }
         ensures { Ran self.old self.new replies.old replies.new who result (create_root (seen_database self.old) now who name.now queue.now) }
     {
-        if self.node.own.is_some() {
-            let name = name.copy(self.alloc)?;
-            return Err(Stop::Refused(Refusal::NodeExists(name)));
-        }
-        if self.queues.number(queue).is_some() {
-            let queue = queue.copy(self.alloc)?;
-            return Err(Stop::Refused(Refusal::QueueExists(queue)));
-        }
-        if self.queues.count() >= Limit::Queues.most() {
-            return Err(Stop::Refused(Refusal::TooMany(Limit::Queues)));
-        }
+        check_root(self.alloc, &self.node.own, &self.queues, name, queue)?;
         let txid = self.next_txid(who)?;
         self.new_queue(now, who, txid, queue)?;
-        self.make_root(name, queue)?;
+        make_root(self.alloc, &mut self.node.own, name, queue)?;
         replies.push(who, Reply::Done)?;
-        Ok(())
-    }
-
-    fn make_root(&mut self, name: &Text, queue: &Text) -> Result<(), NoMemory>
-        ensures { OnOk result (seen_database self.new ≡ record (seen_database self.old) { node = after_node (root_made name.now queue.now) (seen_database self.old).node }) }
-    {
-        let name = name.copy(self.alloc)?;
-        let queue = queue.copy(self.alloc)?;
-        let root = Root::new(self.alloc, name, queue);
-        self.node.own = Some(Node::Root(root));
         Ok(())
     }
 
@@ -296,6 +274,64 @@ fn has_dot(name: &Text) -> bool
     ensures { result ≡ has_dot name.now }
 {
     name.bytes().contains(&b'.')
+}
+
+/// Refuses a root: the database has a node already, or the set's queue can't be made.
+fn check_root(
+    alloc: Global,
+    node: &Option<Node>,
+    queues: &Queues,
+    name: &Text,
+    queue: &Text,
+) -> Result<(), Stop>
+    ensures bare { OnOk result (node.now ≡ None) }
+    ensures new { OnOk result (queue_number queue.now (queues_of queues.now) ≡ None) }
+    ensures room { OnOk result (length (queues_of queues.now) < 64) }
+    ensures err { IfErr result (λ stop. (d : Database) (now : ℤ) (who : ℕ) → d.node ≡ node.now → d.queues ≡ queues_of queues.now
+        → StopsAs stop (create_root d now who name.now queue.now)) }
+{
+    if node.is_some() {
+        return Err(Stop::Refused(Refusal::NodeExists(name.copy(alloc)?)));
+    }
+    if queues.number(queue).is_some() {
+        return Err(Stop::Refused(Refusal::QueueExists(queue.copy(alloc)?)));
+    }
+    if queues.count() >= Limit::Queues.most() {
+        return Err(Stop::Refused(Refusal::TooMany(Limit::Queues)));
+    }
+    Ok(())
+}
+
+/// The database's node is the root of a set, whose queue has this name.
+fn make_root(
+    alloc: Global,
+    node: &mut Option<Node>,
+    name: &Text,
+    queue: &Text,
+) -> Result<(), NoMemory>
+    ensures { OnOk result (node.new ≡ after_node (root_made name.now queue.now) node.old) }
+{
+    let name = name.copy(alloc)?;
+    let queue = queue.copy(alloc)?;
+    *node = Some(Node::Root(Root::new(alloc, name, queue)));
+    Ok(())
+}
+
+/// The database's node is a leaf of the root of this name, at a tick of the root's queue. On an error nothing changes.
+fn make_leaf(
+    alloc: Global,
+    node: &mut Option<Node>,
+    name: &Text,
+    provider: &Text,
+    tick: u64,
+) -> Result<(), NoMemory>
+    ensures ok { OnOk result (node.new ≡ after_node (leaf_made name.now provider.now tick) node.old) }
+    ensures err { OnErr result (node.new ≡ node.old) }
+{
+    let name = name.copy(alloc)?;
+    let provider = provider.copy(alloc)?;
+    *node = Some(Node::Leaf(Leaf::new(alloc, name, provider, tick)));
+    Ok(())
 }
 
 /// The trigger of a set on a table, whose events go to the set's queue.

@@ -1,12 +1,20 @@
-use Rattle.std.proofs.Common.{sym, ap, ◌∙◌}
-use Rattle.pgq_queues.specs.Seen.{seen_batch, batch_at}
+use Rattle.std.proofs.Common.{◌≡◌, IfSome, sym, ap, subst}
+use Rattle.sky_model.specs.History.{queued, closed}
+use Rattle.sky_model.specs.State.{after_mark}
 use Rattle.pgq_db.specs.Views.{DbView}
 use Rattle.pgq_db.specs.Seen.{seen_database}
-use Rattle.pgq_db.proofs.ConsumerSteps.{closed-as, gives-finish}
+use Rattle.pgq_db.proofs.BatchSteps.{closed-if, Finished, gives-finished}
 use Rattle.pgq_db.proofs.db.Db.finish_batch.Goals as goal
+use Rattle.pgq_db.proofs.db.Db.finish_batch.Goals.{then-is_active, else-is_active}
 
 pub returns : goal.returns
 returns c =
-    gives-finish (seen_database c.args.self.now) _ c.args.who c.args.id (seen_batch c.in-Some.batch) _ _ (c.in-Some.ensures.batch ∙ ap (λ (v : DbView). batch_at v.queues c.args.id) c.self.view_is)
-    (sym c.is_nodes_of.ensures ∙ c.if-is_nodes_of.false)
-    (closed-as _ _ c.close_batch.new.self c.args.id (seen_batch c.in-Some.batch) c.self.view_is c.in-Some.ensures.batch c.close_batch.ensures.mark) c.in_ok-push-2.ensures.ok
+    let d = seen_database c.args.self.now in
+    let left : Finished d (seen_database c.if-is_active.self) (d.batch c.args.id) c.in_ok-is_active.is_active =
+    elim c.if-is_active.branch [
+      | then-is_active w ↦
+          subst (Finished d (seen_database c.if-is_active.self) (d.batch c.args.id)) (sym w.if-is_active.true)
+          (subst (λ (x : DbView). IfSome (d.batch c.args.id) (λ b. seen_database x ≡ after_mark d (queued (closed b)))) (sym w.self-is) (closed-if _ _ w.close_batch.new.self c.args.id c.self.view_is w.close_batch.ensures.mark))
+      | else-is_active w ↦ subst (Finished d (seen_database c.if-is_active.self) (d.batch c.args.id)) (sym w.if-is_active.false) (ap seen_database w.self-is)
+    ] in
+    gives-finished d _ c.args.who c.args.id _ _ _ _ c.in_ok-is_active.ensures.active c.in_ok-is_active.ensures.foreign left c.from.ensures c.in_ok-push.ensures.ok

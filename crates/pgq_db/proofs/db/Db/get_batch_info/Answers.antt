@@ -1,13 +1,24 @@
-use Rattle.std.proofs.Common.{◌∙◌, ap}
-use Rattle.sky_model.specs.StepConsumer.{batch_info_of}
+use Rattle.std.proofs.Common.{◌≡◌, rules, subst}
+use Rattle.sky_model.specs.declared.reply.Reply.TheVariants.{BatchInfo}
+use Rattle.sky_model.specs.Outcome.{answers}
+use Rattle.sky_model.specs.StepConsumer.{get_batch_info}
+use Rattle.sky_model.specs.Stops.{StopsAs}
 use Rattle.sky_state.specs.Seen.{seen}
-use Rattle.pgq_queues.specs.Seen.{seen_batch, batch_at}
 use Rattle.pgq_db.specs.Views.{DbView}
 use Rattle.pgq_db.specs.Seen.{with_node, seen_database}
-use Rattle.pgq_db.proofs.ConsumerSteps.{gives-info}
+use Rattle.pgq_db.proofs.BatchSteps.{gives-shown}
+use Rattle.pgq_db.proofs.RootSteps.{stops-by}
 use Rattle.pgq_db.proofs.db.Db.get_batch_info.Goals as goal
+
+pub returns-in_err-info : goal.returns-in_err-info
+returns-in_err-info c =
+    let d = seen_database c.args.self.now in
+    let stops =
+    stops-by c.in_err-info.field-0.0 d (get_batch_info d c.args.id) c.args.replies.now
+    (subst (λ (v : DbView). StopsAs c.in_err-info.field-0.0 (get_batch_info (seen_database v) c.args.id)) c.self.view_is (c.in_err-info.ensures.err (with_node c.self.inside.node (seen c.self.inside.rows)))) in
+    search (rules, stops)
 
 pub returns : goal.returns
 returns c =
-    gives-info (seen_database c.args.self.now) c.args.who c.args.id c.in-Some.batch _ _ _ (c.in-Some.ensures.batch ∙ ap (λ (v : DbView). batch_at v.queues c.args.id) c.self.view_is)
-    (c.in_ok-info.ensures ∙ c.in_ok-batch_info.ensures (with_node c.self.inside.node (seen c.self.inside.rows)) ∙ ap (λ (v : DbView). batch_info_of (seen_database v) (seen_batch c.in-Some.batch)) c.self.view_is) c.in_ok-push.ensures.ok
+    gives-shown (seen_database c.args.self.now) c.args.who c.args.id c.in_ok-info.info _ _
+    (subst (λ (v : DbView). get_batch_info (seen_database v) c.args.id ≡ answers (BatchInfo c.in_ok-info.info)) c.self.view_is (c.in_ok-info.ensures.ok (with_node c.self.inside.node (seen c.self.inside.rows)))) c.in_ok-push.ensures.ok
