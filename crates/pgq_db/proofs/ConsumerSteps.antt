@@ -3,9 +3,8 @@ use Rattle.std.proofs.Common.{◌≡◌, ℕ, ◌+◌, ◌<◌, ◌≤◌, ◌^�
 use Rattle.std.proofs.lemmas.Bool.Decides.{nat_tests}
 use mir.Val.{bool_byte}
 use Rattle.sky_val.specs.declared.event.Event.{Event}
-use Rattle.sky_model.specs.declared.reply.BatchInfo as shown_batch
 use Rattle.sky_model.specs.declared.reply.Reply.{Reply}
-use Rattle.sky_model.specs.declared.reply.Reply.TheVariants.{Number, Events, BatchInfo}
+use Rattle.sky_model.specs.declared.reply.Reply.TheVariants.{Number, Events}
 use Rattle.sky_model.specs.declared.reply.Limit.TheVariants.{Consumers}
 use Rattle.sky_model.specs.declared.reply.Refusal.TheVariants.{NoBatch, NodeConsumer, NoTick, TickTooOld, TooMany, IdsSpent}
 use Rattle.sky_model.specs.History.{Batch, QueueMark, queued, registered, moved, unregistered, opened, closed}
@@ -18,7 +17,7 @@ use Rattle.sky_model.specs.Outcome.{Outcome, Checked, ◌>>=◌, ◌>>◌, refus
 use Rattle.sky_model.specs.Reader.{shown_by}
 use Rattle.sky_model.specs.StepQueue.{queue_called, newest_id}
 use Rattle.sky_model.specs.Queues.{id_of}
-use Rattle.sky_model.specs.StepConsumer.{is_nodes, is_nodes_batch, registers, register_consumer, register_consumer_at, leaves, unregister_consumer, opens_batch, floor, get_batch_events, batch_info_of, get_batch_info, finishes, finish_batch}
+use Rattle.sky_model.specs.StepConsumer.{is_nodes, registers, register_consumer, register_consumer_at, leaves, unregister_consumer, opens_batch, floor, get_batch_events}
 use Rattle.pgq_queues.specs.declared.batch.Batch as read
 use Rattle.pgq_queues.specs.Views.{QueuesView}
 use Rattle.pgq_queues.specs.Seen.{seen_batch, queue_at, batch_at, seen_with, Beside}
@@ -191,12 +190,6 @@ closed-as v now queues id b same there over =
     marked-as v now queues (λ _. closed b) same
     (subst (λ o. IfSome o (λ batch. (beside : Beside) → seen_with beside queues ≡ after_mark (seen_with beside v.queues) (queued (closed batch)))) (sym there) over)
 
-pub gives-finish : (d s : Database) (who id : ℕ) (b : Batch) (before after : List (ℕ × Reply)) → Some b ≡ d.batch id → is_nodes_batch d b ≡ false
-    → s ≡ after_mark d (queued (closed b)) → after ≡ before ++ (who, Number 1) ∷ [] → Runs d s before after who (finish_batch d id)
-gives-finish d s who id b before after there foreign changed pushed =
-    subst (Runs d s before after who) (sym (ap (finishes d) (sym there) ∙ ap (λ x. refused_if x NodeConsumer >> does_marks (Number 1) (queued (closed b) ∷ [])) foreign))
-    (record { accepted = refl; replied = pushed; changed = changed }, tt)
-
 -- its events
 pub events-as : (d : Database) (id : ℕ) (batch : read.Batch) (events : List Event) → Some (seen_batch batch) ≡ d.batch id → events ≡ selected d (seen_batch batch) → Some events ≡ (shown_by d).events id
 events-as d id batch events there are = ap Some are ∙ ap (option_map (selected d)) there
@@ -208,10 +201,3 @@ pub gives-events : (d s : Database) (who id : ℕ) (events : List Event) (before
     → after ≡ before ++ (who, Events events) ∷ [] → Runs d s before after who (get_batch_events (shown_by d).events id)
 gives-events d s who id events before after are have same pushed =
     subst (λ found. Runs d s before after who (found_or found NoBatch >>= (λ es. answers (Events es)))) are (record { accepted = refl; replied = pushed; changed = same }, have)
-
--- what is shown of it
-pub gives-info : (d : Database) (who id : ℕ) (batch : read.Batch) (info : shown_batch.BatchInfo) (before after : List (ℕ × Reply)) → Some (seen_batch batch) ≡ d.batch id
-    → info ≡ batch_info_of d (seen_batch batch) → after ≡ before ++ (who, BatchInfo info) ∷ [] → Runs d d before after who (get_batch_info d id)
-gives-info d who id batch info before after there is pushed =
-    subst (λ found. Runs d d before after who (found_or found NoBatch >>= (λ b. answers (BatchInfo (batch_info_of d b))))) there
-    (record { accepted = refl; replied = pushed ∙ ap (λ x. before ++ (who, BatchInfo x) ∷ []) is; changed = refl }, tt)

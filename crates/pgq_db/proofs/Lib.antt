@@ -14,6 +14,7 @@ pub mod RotationSteps
 pub mod Looking
 pub mod NodeSteps
 pub mod RootSteps
+pub mod Results
 pub mod BatchSteps
 pub mod ProviderSteps
 pub mod CopySteps

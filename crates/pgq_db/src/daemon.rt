@@ -33,11 +33,10 @@ impl Db {
             (daemon_does database_by_itself (seen_database self.old) part now)) }
     {
         match part {
-            DaemonPart::Tick => self.make_ticks(now)?,
-            DaemonPart::Retry => self.retry_events(now)?,
-            DaemonPart::Maintain => self.rotate(now)?,
+            DaemonPart::Tick => self.make_ticks(now),
+            DaemonPart::Retry => self.retry_events(now),
+            DaemonPart::Maintain => self.rotate(now),
         }
-        Ok(())
     }
 
     /// Whether no part of the work would change anything at a moment; then none would at one before it either. No memory
@@ -133,8 +132,7 @@ impl Db {
         ensures { OnOk result (seen_database self.new ≡ after_marks (seen_database self.old) (daemon_does database_by_itself (seen_database self.old) Maintain now).marks) }
     {
         self.begin_switches(now)?;
-        self.end_rotation()?;
-        Ok(())
+        self.end_rotation()
     }
 
     /// The first step of the rotation of each queue.

@@ -179,8 +179,7 @@ impl Db {
             OnOk result (DatabaseSteps d (seen_database self.new) (failed who now) (with_settling (within_part database_by_itself now) d (failing d.part who))) }
     {
         self.roll_back(who)?;
-        self.settle(now, replies)?;
-        Ok(())
+        self.settle(now, replies)
     }
 
     /// Runs a statement on rows, and those that it unblocks. Events record their writes. The switches of event tables

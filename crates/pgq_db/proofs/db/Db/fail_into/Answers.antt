@@ -6,24 +6,28 @@ use Rattle.sky_histories.proofs.DatabaseStanding.{database_steps_from_exact}
 use Rattle.pgq_db.specs.Seen.{seen_database}
 use Rattle.pgq_db.proofs.Databases.{adds-then}
 use Rattle.pgq_db.proofs.Moments.{then-moments}
+use Rattle.pgq_db.proofs.Results.{on-ok}
 use Rattle.pgq_db.proofs.Waiters.{failure-within}
 use Rattle.pgq_db.proofs.db.Db.fail_into.Goals as goal
 
 pub returns-clause-exact : goal.returns-clause-exact
 returns-clause-exact c =
     let d = seen_database c.args.self.now in
+    on-ok c.settle.result c.settle.ensures.adds (λ settled.
     let adds = adds-then (to_z w64 (of_z w64 c.args.now)) d (seen_database c.roll_back.new.self) _ (failing d.part c.args.who) c.args.replies.now c.args.replies.now _
-    (record { replied = sym (append-nil c.args.replies.now); changed = c.in_ok-roll_back.ensures.marks }) c.in_ok-settle.ensures.adds in
-    rw (to_z-of_z w64 c.args.now c.ranges.now) at adds
+    (record { replied = sym (append-nil c.args.replies.now); changed = c.in_ok-roll_back.ensures.marks }) settled in
+    rw (to_z-of_z w64 c.args.now c.ranges.now) at adds)
 
 pub returns-clause-moments : goal.returns-clause-moments
 returns-clause-moments c =
     let d = seen_database c.args.self.now in
-    let have = then-moments (to_z w64 (of_z w64 c.args.now)) d _ (failing d.part c.args.who) (λ k a at. absurd (omega arith)) c.in_ok-roll_back.ensures.marks c.in_ok-settle.ensures.moments in
-    rw (to_z-of_z w64 c.args.now c.ranges.now) at have
+    on-ok c.settle.result c.settle.ensures.moments (λ settled.
+    let have = then-moments (to_z w64 (of_z w64 c.args.now)) d _ (failing d.part c.args.who) (λ k a at. absurd (omega arith)) c.in_ok-roll_back.ensures.marks settled in
+    rw (to_z-of_z w64 c.args.now c.ranges.now) at have)
 
 pub returns-clause-within : goal.returns-clause-within
-returns-clause-within c = failure-within c.args.now (seen_database c.args.self.now) _ c.args.who (returns-clause-exact c).changed
+returns-clause-within c = on-ok c.settle.result (returns-clause-exact c) (λ adds. failure-within c.args.now (seen_database c.args.self.now) _ c.args.who adds.changed)
 
 pub returns-clause-steps : goal.returns-clause-steps
-returns-clause-steps c = database_steps_from_exact (seen_database c.args.self.now) (seen_database c.settle.new.self) (failed c.args.who c.args.now) (returns-clause-exact c).changed
+returns-clause-steps c =
+    on-ok c.settle.result (returns-clause-exact c) (λ adds. database_steps_from_exact (seen_database c.args.self.now) (seen_database c.settle.new.self) (failed c.args.who c.args.now) adds.changed)
