@@ -20,3 +20,4 @@ pub mod ProviderSteps
 pub mod CopySteps
 pub mod ApplySteps
 pub mod Idle
+pub mod Decided

@@ -10,3 +10,4 @@ pub mod Served
 pub mod Copying
 pub mod Applying
 pub mod Idle
+pub mod Triggering

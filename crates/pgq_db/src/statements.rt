@@ -1,13 +1,15 @@
 //! The statements, each in the database that its session has open. A refusal changes nothing there but
 //! that it may abort the session's block.
 
-ghost use Rattle.std.specs.Prelude.{◌≡◌, ◌&&◌, ◌+◌, ◌<◌, [], ◌∷◌, ◌++◌, true, false, if◌then◌else◌, None, Some, Ok, Err, IfOk, IfErr, OnOk, length};
+ghost use Rattle.std.specs.Prelude.{◌≡◌, ◌&&◌, ◌+◌, ◌<◌, ◌==◌, ℤ, [], ◌∷◌, ◌++◌, true, false, if◌then◌else◌, None, Some, Ok, Err, IfOk, IfErr, IfSome, IfNone, OnOk, is_some, length};
+ghost use Rattle.std.specs.List.{All};
 ghost use Rattle.sky_model.specs.declared.stmt.Where.TheVariants.{WhenReading, WhenOutside};
 ghost use Rattle.sky_model.specs.Nodes.{is_set_queue};
 ghost use Rattle.sky_model.specs.Queues.{queue_number};
-ghost use Rattle.sky_model.specs.History.{queued, made, put};
+ghost use Rattle.sky_model.specs.History.{queued, made, raised, put, dropped};
+ghost use Rattle.sky_model.specs.declared.reply.Reply.TheVariants.{Number};
 ghost use Rattle.sky_model.specs.State.{after_mark, after_marks};
-ghost use Rattle.sky_model.specs.Outcome.{reply_of, or_refused};
+ghost use Rattle.sky_model.specs.Outcome.{reply_of, or_refused, does_marks};
 ghost use Rattle.sky_model.specs.Printed.{HaveMoments};
 ghost use Rattle.sky_model.specs.OwnTransaction.{txid_for, in_own};
 ghost use Rattle.sky_model.specs.StepQueue.{queue_called, create_queue, drop_queue, shown_name, set_queue_config, queue_info, insert_event, ticker, force_tick, tells_of_rows, made_event};
@@ -30,7 +32,7 @@ use crate::change::tells_of_rows;
 use crate::db::Db;
 use pgq_queues::{EVENT_ID_END, Queues, TableTrigger};
 use pgq_tables::PlainEvent;
-use sky_model::{BoxedExtra, Limit, Refusal, Replies, Reply, Stmt, Stop};
+use sky_model::{BoxedExtra, Extra, Limit, Refusal, Replies, Reply, Stmt, Stop};
 use sky_val::{Event, NoMemory, SessionId, Text, copy_option};
 use std::alloc::{AllocError, Global};
 
@@ -294,17 +296,31 @@ impl Db {
         requires time { IsTime now }
         ensures { Ran self.old self.new replies.old replies.new who result (create_queue (seen_database self.old) now who name.now) }
     {
-        if self.queues.number(name).is_some() {
+        let Some(txid) = self.txid_to_make(who, name)? else {
             replies.push(who, Reply::Number(0))?;
             return Ok(());
+        };
+        self.new_queue(now, who, txid, name)?;
+        replies.push(who, Reply::Number(1))?;
+        Ok(())
+    }
+
+    /// The id of the transaction that makes a queue of this name; none if there is such a queue.
+    fn txid_to_make(&self, who: SessionId, name: &Text) -> Result<Option<u64>, Stop>
+        ensures there { IfOk result (λ made. IfNone made (is_some (queue_number name.now (seen_database self.now).queues) ≡ true)) }
+        ensures new { IfOk result (λ made. IfSome made (λ _. queue_number name.now (seen_database self.now).queues ≡ None)) }
+        ensures room { IfOk result (λ made. IfSome made (λ _. length (seen_database self.now).queues < 64)) }
+        ensures id { IfOk result (λ made. IfSome made (λ txid. txid_for (seen_database self.now).part who ≡ Ok txid)) }
+        ensures err { (now : ℤ) → IfErr result (λ stop. StopsAs stop (create_queue (seen_database self.now) now who name.now)) }
+    {
+        if self.queues.number(name).is_some() {
+            return Ok(None);
         }
         if self.queues.count() >= Limit::Queues.most() {
             return Err(Stop::Refused(Refusal::TooMany(Limit::Queues)));
         }
         let txid = self.next_txid(who)?;
-        self.new_queue(now, who, txid, name)?;
-        replies.push(who, Reply::Number(1))?;
-        Ok(())
+        Ok(Some(txid))
     }
 
     pub(crate) fn new_queue(
@@ -333,6 +349,20 @@ impl Db {
     fn drop_queue(&mut self, who: SessionId, name: &Text, replies: &mut Replies) -> Result<(), Stop>
         ensures { Ran self.old self.new replies.old replies.new who result (drop_queue (seen_database self.old) name.now) }
     {
+        let queue = self.unused(name)?;
+        self.queues.drop_queue(name, queue);
+        replies.push(who, Reply::Number(1))?;
+        Ok(())
+    }
+
+    /// The number of the queue of this name, if it may be dropped.
+    fn unused(&self, name: &Text) -> Result<usize, Stop>
+        ensures found { IfOk result (λ queue. queue_number name.now (seen_database self.now).queues ≡ Some queue) }
+        ensures consumers { IfOk result (λ queue. ((seen_database self.now).queue queue).members ≡ []) }
+        ensures triggers { IfOk result (λ queue. All (λ t. (t.trigger.queue == queue) ≡ false) (seen_database self.now).triggers) }
+        ensures drops { IfOk result (λ queue. drop_queue (seen_database self.now) name.now ≡ does_marks (Number 1) (queued (dropped queue) ∷ [])) }
+        ensures err { IfErr result (λ stop. StopsAs stop (drop_queue (seen_database self.now) name.now)) }
+    {
         let queue = self.queue_called(name)?;
         if self.is_set_queue(name) {
             return Err(Stop::Refused(Refusal::SetQueue));
@@ -345,12 +375,10 @@ impl Db {
             let name = shown_name(self.alloc, trigger)?;
             return Err(Stop::Refused(Refusal::HasTriggers(name)));
         }
-        if let Some(txid) = self.least_producer(queue)? {
-            return Err(Stop::Refused(Refusal::QueueBusy(txid)));
+        match self.least_producer(queue)? {
+            Some(txid) => Err(Stop::Refused(Refusal::QueueBusy(txid))),
+            None => Ok(queue),
         }
-        self.queues.drop_queue(name, queue);
-        replies.push(who, Reply::Number(1))?;
-        Ok(())
     }
 
     /// `insert_event NAME TVAL TVAL`: an event with the next id of the queue's sequence.
@@ -471,17 +499,41 @@ impl Db {
     fn force_tick(&mut self, who: SessionId, name: &Text, replies: &mut Replies) -> Result<(), Stop>
         ensures { Ran self.old self.new replies.old replies.new who result (force_tick (seen_database self.old) name.now) }
     {
-        let queue = self.queue_called(name)?;
-        let seq = self.queues.queue(queue).seq();
-        let forced = 2 * self.queues.queue(queue).config().ticker_max_count() + 1000;
-        if seq >= EVENT_ID_END - forced {
-            return Err(Stop::Refused(Refusal::EventIdsSpent));
-        }
-        let newest = self.queues.queue(queue).ticks().newest().id();
-        self.queues.raise(queue, seq + forced);
+        let Forced { queue, seq, newest } = self.forced(name)?;
+        self.queues.raise(queue, seq);
         replies.push(who, Reply::Number(newest))?;
         Ok(())
     }
+
+    /// How far `force_tick` raises the sequence of the queue of this name.
+    fn forced(&self, name: &Text) -> Result<Forced, Stop>
+        ensures stands { IfOk result (λ forced. Stands self.now.queues.queues forced.queue) }
+        ensures raises { IfOk result (λ forced. force_tick (seen_database self.now) name.now
+            ≡ does_marks (Number forced.newest) (queued (raised forced.queue forced.seq) ∷ [])) }
+        ensures err { IfErr result (λ stop. StopsAs stop (force_tick (seen_database self.now) name.now)) }
+    {
+        let number = self.queue_called(name)?;
+        let queue = self.queues.queue(number);
+        let seq = queue.seq();
+        let further = 2 * queue.config().ticker_max_count() + 1000;
+        if seq >= EVENT_ID_END - further {
+            return Err(Stop::Refused(Refusal::EventIdsSpent));
+        }
+        Ok(Forced {
+            queue: number,
+            seq: seq + further,
+            newest: queue.ticks().newest().id(),
+        })
+    }
+}
+
+/// What `force_tick` does to a queue.
+struct Forced {
+    queue: usize,
+    /// The value that the sequence gets.
+    seq: u64,
+    /// The id of the newest tick.
+    newest: u64,
 }
 
 /// The number of the queue of this name, of the queues alone, since `add_trigger` borrows a table meanwhile.
@@ -533,7 +585,7 @@ fn plain_event(
 fn with_extra(alloc: Global, event: PlainEvent, extra: &BoxedExtra) -> Result<Event, NoMemory>
     ensures { IfOk result (λ made. made ≡ made_event event.ev_id event.ev_time event.ev_txid event.ev_type event.ev_data (Some extra.now)) }
 {
-    let extra = extra.as_extra();
+    let extra = copy_extra(alloc, extra.as_extra())?;
     Ok(Event {
         ev_id: event.ev_id,
         ev_time: event.ev_time,
@@ -542,6 +594,17 @@ fn with_extra(alloc: Global, event: PlainEvent, extra: &BoxedExtra) -> Result<Ev
         ev_retry: None,
         ev_type: event.ev_type,
         ev_data: event.ev_data,
+        ev_extra1: extra.ev_extra1,
+        ev_extra2: extra.ev_extra2,
+        ev_extra3: extra.ev_extra3,
+        ev_extra4: extra.ev_extra4,
+    })
+}
+
+fn copy_extra(alloc: Global, extra: &Extra) -> Result<Extra, NoMemory>
+    ensures { IfOk result (λ copy. copy ≡ extra.now) }
+{
+    Ok(Extra {
         ev_extra1: copy_option(alloc, &extra.ev_extra1)?,
         ev_extra2: copy_option(alloc, &extra.ev_extra2)?,
         ev_extra3: copy_option(alloc, &extra.ev_extra3)?,

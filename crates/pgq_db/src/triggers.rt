@@ -1,18 +1,29 @@
 //! The statement that makes a trigger.
 
-ghost use Rattle.std.specs.Prelude.{◌≡◌, find, not, option_copied, option_map, None, Some, IfOk, IfErr, OnOk};
+ghost use Rattle.std.specs.Prelude.{◌≡◌, [], ◌∷◌, find, not, option_copied, option_map, None, Some, Ok, IfOk, IfErr, OnOk};
+ghost use Rattle.sky_names.specs.Places.{place_of};
 ghost use Rattle.sky_model.specs.declared.reply.Refusal.TheVariants.{BadColumn};
-ghost use Rattle.sky_model.specs.Outcome.{refused_by};
+ghost use Rattle.sky_model.specs.declared.reply.Reply.TheVariants.{Done};
+ghost use Rattle.sky_model.specs.History.{queued, traced};
+ghost use Rattle.sky_model.specs.Outcome.{refused_by, does_marks};
+ghost use Rattle.sky_model.specs.StepRows.{table_called};
 ghost use Rattle.sky_model.specs.StepTrigger.{may_ignore, add_trigger};
 ghost use Rattle.sky_model.specs.Stops.{StopsAs};
+ghost use Rattle.sky_state.specs.Seen.{seen};
+ghost use Rattle.pgq_queues.specs.Seen.{Beside, seen_with, Stands};
+ghost use Rattle.pgq_queues.specs.Traced.{IsTable};
 ghost use Rattle.pgq_db.specs.Seen.{seen_database};
 ghost use Rattle.pgq_db.specs.Gives.{Ran};
+ghost use Rattle.pgq_db.specs.Triggering.{free_queue, trigger_fits};
 
 use crate::db::Db;
 use crate::node::is_set_queue;
+use crate::node_part::NodePart;
 use crate::statements::queue_called;
-use pgq_queues::TableTrigger;
+use londiste_state::Node;
+use pgq_queues::{Queues, TableTrigger};
 use sky_model::{ColumnNames, Limit, Refusal, Replies, Reply, Stop};
+use sky_session::RowDb;
 use sky_urlenc::Trigger;
 use sky_val::{NoMemory, Schema, SessionId, Text};
 use std::alloc::Global;
@@ -31,29 +42,104 @@ impl Db {
     ) -> Result<(), Stop>
         ensures { Ran self.old self.new replies.old replies.new who result (add_trigger (seen_database self.old) name.now table.now queue.now backup ignored.now) }
     {
-        let Some((number, schema)) = self.rows.table(table) else {
-            return Err(Stop::Refused(Refusal::NoTable(table.copy(self.alloc)?)));
-        };
-        let into = queue_called(self.alloc, &self.queues, queue)?;
-        if is_set_queue(&self.node.own, queue) {
-            return Err(Stop::Refused(Refusal::SetQueue));
-        }
-        if self.queues.has_trigger(number, name) {
-            let name = name.copy(self.alloc)?;
-            return Err(Stop::Refused(Refusal::TriggerExists(name)));
-        }
-        if self.queues.trigger_count(number) >= Limit::Triggers.most() {
-            return Err(Stop::Refused(Refusal::TooMany(Limit::Triggers)));
-        }
-        let ignored = ignored.as_slice();
-        check_ignored(self.alloc, schema, ignored)?;
-        if let Some(txid) = self.rows.least_writer(number) {
-            return Err(Stop::Refused(Refusal::TableBusy(txid)));
-        }
-        let trigger = new_trigger(self.alloc, number, name, into, backup, ignored)?;
+        let (trigger, schema) = new_trigger(
+            self.alloc,
+            &self.rows,
+            &self.queues,
+            &self.node,
+            name,
+            table,
+            queue,
+            backup,
+            ignored.as_slice(),
+        )?;
         self.queues.trace(table, schema, trigger)?;
         replies.push(who, Reply::Done)?;
         Ok(())
+    }
+}
+
+/// The trigger that `add_trigger` makes, and the columns of its table, or why it is refused.
+fn new_trigger<'a>(
+    alloc: Global,
+    rows: &'a RowDb,
+    queues: &Queues,
+    node: &NodePart,
+    name: &Text,
+    table: &Text,
+    queue: &Text,
+    backup: bool,
+    ignored: &[Text],
+) -> Result<(TableTrigger, &'a Schema), Stop>
+    ensures adds { let d = seen_database (record { rows = rows.now; queues = queues.now; node = node.now }) in
+        IfOk result (λ made. add_trigger d name.now table.now queue.now backup ignored.now
+        ≡ does_marks Done (queued (traced made.0.table made.0.name made.0.trigger) ∷ [])) }
+    ensures table { IfOk result (λ made. IsTable (seen rows.now) made.0.table table.now made.1.now) }
+    ensures stands { IfOk result (λ made. Stands queues.now.queues made.0.trigger.queue) }
+    ensures err { let d = seen_database (record { rows = rows.now; queues = queues.now; node = node.now }) in
+        IfErr result (λ stop. StopsAs stop (add_trigger d name.now table.now queue.now backup ignored.now)) }
+{
+    let (number, schema) = table_called(alloc, rows, table)?;
+    let into = free_queue(alloc, queues, &node.own, queue)?;
+    check_trigger(alloc, rows, queues, number, schema, name, ignored)?;
+    let trigger = trigger_into(alloc, number, name, into, backup, ignored)?;
+    Ok((trigger, schema))
+}
+
+/// The number of the table of this name, and its columns.
+fn table_called<'a>(alloc: Global, rows: &'a RowDb, table: &Text) -> Result<(u32, &'a Schema), Stop>
+    ensures number { IfOk result (λ found. place_of table.now (seen rows.now).tables ≡ Some found.0) }
+    ensures columns { IfOk result (λ found. found.1.now ≡ (seen rows.now).columns found.0) }
+    ensures err { IfErr result (λ stop. StopsAs stop (table_called table.now (seen rows.now))) }
+{
+    match rows.table(table) {
+        Some(found) => Ok(found),
+        None => Err(Stop::Refused(Refusal::NoTable(table.copy(alloc)?))),
+    }
+}
+
+/// The number of the queue of this name, unless it is a set's.
+fn free_queue(
+    alloc: Global,
+    queues: &Queues,
+    node: &Option<Node>,
+    queue: &Text,
+) -> Result<usize, Stop>
+    ensures ok { (beside : Beside) → beside.node ≡ node.now → IfOk result (λ number. free_queue queue.now (seen_with beside queues.now) ≡ Ok number) }
+    ensures stands { IfOk result (λ number. Stands queues.now.queues number) }
+    ensures err { (beside : Beside) → beside.node ≡ node.now → IfErr result (λ stop. StopsAs stop (free_queue queue.now (seen_with beside queues.now))) }
+{
+    let number = queue_called(alloc, queues, queue)?;
+    if is_set_queue(node, queue) {
+        return Err(Stop::Refused(Refusal::SetQueue));
+    }
+    Ok(number)
+}
+
+/// Refuses a trigger of this name that ignores these columns, if the table may not have it.
+fn check_trigger(
+    alloc: Global,
+    rows: &RowDb,
+    queues: &Queues,
+    table: u32,
+    schema: &Schema,
+    name: &Text,
+    ignored: &[Text],
+) -> Result<(), Stop>
+    requires { schema.now ≡ (seen rows.now).columns table }
+    ensures ok { OnOk result (trigger_fits (seen rows.now) queues.now.triggers table name.now ignored.now ≡ Ok tt) }
+    ensures err { IfErr result (λ stop. StopsAs stop (trigger_fits (seen rows.now) queues.now.triggers table name.now ignored.now)) }
+{
+    if queues.has_trigger(table, name) {
+        return Err(Stop::Refused(Refusal::TriggerExists(name.copy(alloc)?)));
+    }
+    if queues.trigger_count(table) >= Limit::Triggers.most() {
+        return Err(Stop::Refused(Refusal::TooMany(Limit::Triggers)));
+    }
+    check_ignored(alloc, schema, ignored)?;
+    match rows.least_writer(table) {
+        Some(txid) => Err(Stop::Refused(Refusal::TableBusy(txid))),
+        None => Ok(()),
     }
 }
 
@@ -86,7 +172,7 @@ fn may_ignore(schema: &Schema, name: &Text) -> bool
 }
 
 /// A trigger of this name of a table, whose events go to the queue of this number.
-fn new_trigger(
+fn trigger_into(
     alloc: Global,
     table: u32,
     name: &Text,

@@ -1,9 +1,11 @@
-use Rattle.std.proofs.Common.{rules, ◌+◌, ◌*◌}
 use Rattle.sky_model.specs.History.{raised}
+use Rattle.sky_model.specs.declared.reply.Reply.TheVariants.{Number}
 use Rattle.pgq_db.proofs.Databases.{marked-as}
+use Rattle.pgq_db.proofs.Decided.{does-mark}
 use Rattle.pgq_db.proofs.db.Db.force_tick.Goals as goal
 
 pub returns : goal.returns
 returns c =
-    let mark = marked-as _ _ c.raise.new.self (λ _. raised c.in_ok-queue.queue (c.seq-seq.result + (2 * c.ticker_max_count.result + 1000))) c.self.view_is c.raise.ensures.mark in
-    search (rules, mark)
+    let f = c.in_ok-queue.field-0 in
+    let mark = marked-as _ _ c.raise.new.self (λ _. raised f.queue f.seq) c.self.view_is c.raise.ensures.mark in
+    does-mark _ _ _ _ c.args.who (Number f.newest) (raised f.queue f.seq) _ c.in_ok-queue.ensures.raises mark c.in_ok-push.ensures.ok tt

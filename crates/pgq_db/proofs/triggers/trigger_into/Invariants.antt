@@ -1,5 +1,5 @@
 use Rattle.std.proofs.Common.{◌≡◌, take}
-use Rattle.pgq_db.proofs.triggers.new_trigger.Given as goal
+use Rattle.pgq_db.proofs.triggers.trigger_into.Given as goal
 
 -- the names so far
 abbrev pub invariant-loop-column : goal.invariant-loop-column
