@@ -1,15 +1,18 @@
 -- What a source gave in several reads.
-use Rattle.std.proofs.Common.{false, ◌≡◌, ℕ, ◌+◌, ◌-◌, ◌≤◌, List, [], ◌++◌, length, take, drop, refl, sym, ap, ◌∙◌, arith, append_assoc, length-drop}
-use Rattle.std.specs.Prelude.{Option, None, Some}
-use Rattle.std.specs.Io.KnownBytes.{Consumes, IsAtEnd}
+use Rattle.std.proofs.Common.{true, false, ◌≡◌, ℕ, ◌+◌, ◌-◌, ◌≤◌, List, [], ◌++◌, length, take, drop, refl, sym, ap, ◌∙◌, arith, append_assoc, append-nil, length-drop, length-take}
+use Rattle.std.specs.Prelude.{Option, None, Some, Result, Ok, Err, OnErr}
+use Rattle.std.specs.Io.KnownBytes.{Consumes, Keeps, IsAtEnd}
 use Rattle.std.proofs.KnownBytes as known
 use borrow.Rule.Slice.PartMut.{put_mid, post_of, same_len_mid}
-use Rattle.std.proofs.lemmas.List.{take-append-le, length-take-le, with_items_is}
+use Rattle.std.proofs.lemmas.Bool.{true≢false}
+use Rattle.std.proofs.lemmas.List.{take-append-le, take-take, length-take-le, with_items_is}
+use Rattle.std.specs.List.{length_refill}
 use Rattle.std.specs.Global.{Vec}
 use Rattle.std.specs.Vec.{with_items}
 use Rattle.std.specs.Prelude.{slice_range}
 use Rattle.std.proofs.Math.Seq.{take-append-add}
-use Rattle.sky_lines.specs.Feeds.{is_settled, Grows}
+use Rattle.sky_lines.specs.Feeds.{has_feed, is_settled, Grows}
+use Rattle.sky_lines.specs.Room.{Held}
 use Rattle.sky_lines.proofs.FeedLemmas.{unsettled}
 
 -- a piece was read, and then another
@@ -63,6 +66,59 @@ moved_and_read bytes first moved room piece old start end count is fills whole k
     let fits : len + (len + 65536 - len) ≤ length room = omega arith in
     bytes_read (with_items bytes moved) room piece old len (len + 65536 - len) count room_fills fits
     (long ∙ length-take-le (len + 65536 - len) (drop len room) (omega (arith, length-drop len room))) few front
+
+-- a read that failed leaves them at the front
+pub moved_and_kept : (bytes : Vec ℕ) (first moved room piece old : List ℕ) (start end : ℕ)
+    → first ≡ bytes.items → length first ≡ bytes.len → length bytes.items ≡ 131072 → length moved ≡ length first → take (end - start) moved ≡ slice_range first start end
+    → room ≡ (with_items bytes moved).items → length room ≡ bytes.len → slice_range bytes.items start end ≡ old → end ≤ length bytes.items → is_settled old ≡ false
+    → length piece ≡ length (take (end - start + 65536 - (end - start)) (drop (end - start) room))
+    → slice_range (with_items (with_items bytes moved) (put_mid (end - start) (end - start + 65536 - (end - start)) room piece)).items 0 (end - start) ≡ old
+moved_and_kept bytes first moved room piece old start end is fills whole kept at_front room_is room_fills view within unsure long =
+    let none : end - start ≡ end - start + 0 = omega arith in
+    ap (slice_range (with_items (with_items bytes moved) (put_mid (end - start) (end - start + 65536 - (end - start)) room piece)).items 0) none
+    ∙ moved_and_read bytes first moved room piece old start end 0 is fills whole kept at_front room_is room_fills view within unsure long (omega arith)
+    ∙ append-nil old
+
+-- what is put in a vector's place leaves its length
+pub room_stays : (bytes : Vec ℕ) (first moved more : List ℕ) → first ≡ bytes.items → length first ≡ bytes.len → length bytes.items ≡ 131072
+    → length (with_items (with_items bytes moved) more).items ≡ 131072
+room_stays bytes first moved more is fills whole =
+    let size : bytes.len ≡ length bytes.items = sym fills ∙ ap length is in
+    sym (length_refill bytes.len (with_items bytes moved).items more (length_refill bytes.len bytes.items moved size)) ∙ size ∙ whole
+
+-- a read gives no more bytes than there was room for
+pub piece_fits : (room piece : List ℕ) (len count : ℕ) → length piece ≡ length (take (len + 65536 - len) (drop len room)) → count ≤ length piece → count ≤ 65536
+piece_fits room piece len count long few = omega (arith, length-take (len + 65536 - len) (drop len room))
+
+-- the line isn't settled by bytes whose front is what didn't settle it
+pub unsettled-front : (bytes shown old : List ℕ) (len count : ℕ) → shown ≡ bytes → slice_range bytes 0 len ≡ old → is_settled old ≡ false → has_feed (take len (take (len + count) shown)) ≡ false
+unsettled-front bytes shown old len count is front unsure =
+    let end : len ≡ len - 0 = omega arith in
+    ap has_feed (take-take len (len + count) shown (omega arith) ∙ ap (take len) is ∙ ap (λ n. take n bytes) end ∙ front) ∙ (unsettled old unsure).0
+
+-- what holds at an error
+pub OnErr-always : {T E P : Type 0} (r : Result T E) → P → OnErr r P
+OnErr-always (Ok v) holds = tt
+OnErr-always (Err e) holds = holds
+
+pub at_most-both : (old mid new : ℕ) → old ≤ mid → mid ≤ new → old ≤ new
+at_most-both old mid new first second = omega arith
+
+-- what doesn't settle the line now didn't before, if it is the same
+pub never_settled : (old now : Held) → is_settled now.pending ≡ false → is_settled old.pending ≡ true → now ≡ old → ⊥
+never_settled old now unsure was same = true≢false (sym was ∙ ap (λ (held : Held). is_settled held.pending) (sym same) ∙ unsure)
+
+-- a read that failed gave nothing
+pub Grows-none : (old new : List ℕ) (before after : Option (List ℕ)) → Keeps before after → new ≡ old → Grows old new before after
+Grows-none old new before after kept is = record {
+  got = [];
+  consumed = known.Consumes-kept before before after [] (Consumes-none before) kept;
+  new_is = is ∙ sym (append-nil old);
+}
+  where
+    Consumes-none : (before : Option (List ℕ)) → Consumes before before []
+    Consumes-none None = tt
+    Consumes-none (Some xs) = refl
 
 -- what is left, if the source shows it
 pub record Told (left : List ℕ) (after : Option (List ℕ)) (got : List ℕ) : Type 0 where
