@@ -1,4 +1,5 @@
 pub mod DayLemmas
 pub mod Doubling
+pub mod Keeping
 pub mod MomentLemmas
 pub mod Printing

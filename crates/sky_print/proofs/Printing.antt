@@ -1,14 +1,18 @@
 -- Answers, and the lines of one, are printed one after another.
-use Rattle.std.proofs.Common.{◌≡◌, ℕ, ◌+◌, ◌<◌, List, [], ◌∷◌, ◌++◌, length, take, get_or, map, flat_map, sym, subst, ap, ap₂, ◌∙◌, append_assoc, append-nil, codes}
-use Rattle.std.proofs.lemmas.List.{take_more, get_or_read}
+use Rattle.std.proofs.Common.{◌≡◌, ℕ, ◌+◌, ◌<◌, ◌≤◌, List, [], ◌∷◌, ◌++◌, length, take, get_or, map, flat_map, sym, subst, ap, ap₂, ◌∙◌, append_assoc, append-nil, codes}
+use Rattle.std.proofs.lemmas.List.{take_more, take_all, get_or_read}
 use Rattle.std.proofs.lemmas.List.Elements.{All-get_or}
 use Rattle.std.proofs.lemmas.List.Folds.{flat_map-map}
 use Rattle.std.proofs.lemmas.Option.{unwrap_or-slice_get}
 use Rattle.std.proofs.lemmas.Grind.{flat_map-append}
+use Rattle.std.specs.Prelude.{Result, OnOk}
 use Rattle.std.specs.Fmt.{decimal}
+use Rattle.sky_val.specs.declared.event.Event.{Event}
+use Rattle.sky_model.specs.Moment.{HasMoment}
 use Rattle.sky_model.specs.declared.reply.BatchInfo.{BatchInfo}
 use Rattle.sky_model.specs.declared.reply.Reply.{Reply}
-use Rattle.sky_model.specs.Printed.{batch_text, count_text, line_text, reply_text, name_at, printed, HaveNames}
+use Rattle.sky_print.proofs.Keeping.{ok-last}
+use Rattle.sky_model.specs.Printed.{batch_text, count_text, line_text, reply_text, name_at, printed, spaced, HaveNames, EventsHaveMoments, ReplyHasMoments, HaveMoments}
 
 -- after a text, a field's name and the field
 field-behind : (old text mid name field new : List ℕ) → mid ≡ old ++ text → new ≡ mid ++ (name ++ field) → new ≡ old ++ (text ++ name ++ field)
@@ -37,6 +41,50 @@ lines-listed name text items =
     ∙ ap (λ lines. lines ++ (line_text name count ++ [])) (flat_map-map (line_text name) text items)
     ∙ ap (λ line. flat_map (λ x. line_text name (text x)) items ++ line) (append-nil (line_text name count))
 
+-- the last line, after those of all items
+pub lines-last : {A T E : Type 0} (r : Result T E) (name : List ℕ) (text : A → List ℕ) (items : List A) (i : ℕ) (old mid new : List ℕ)
+    → length items ≤ i → mid ≡ old ++ flat_map (λ x. line_text name (text x)) (take i items) → OnOk r (new ≡ mid ++ line_text name (count_text (length items)))
+    → OnOk r (new ≡ old ++ flat_map (line_text name) (map text items ++ count_text (length items) ∷ []))
+lines-last {A = A} r name text items i old mid new done before =
+    let line = λ (x : A). line_text name (text x) in
+    ok-last r old (flat_map line items) mid new (line_text name (count_text (length items))) _
+    (before ∙ ap (λ xs. old ++ flat_map line xs) (take_all i items done)) (sym (lines-listed name text items))
+
+-- one item more, printed after those before it
+pub items-more : {A : Type 0} (text : A → List ℕ) (items : List A) (i : ℕ) (item : A) (old mid new : List ℕ)
+    → i < length items → item ≡ get_or items i item → mid ≡ old ++ flat_map text (take i items) → new ≡ mid ++ text item → new ≡ old ++ flat_map text (take (i + 1) items)
+items-more text items i item old mid new within is before behind =
+    let front = flat_map text (take i items) in
+    let all : flat_map text (take (i + 1) items) ≡ front ++ text item =
+    ap (flat_map text) (take_more items i item within)
+    ∙ flat_map-append text (take i items) (get_or items i item ∷ [])
+    ∙ ap (λ last. front ++ last) (append-nil (text (get_or items i item)) ∙ ap text (sym is)) in
+    behind ∙ ap (λ start. start ++ text item) before ∙ append_assoc old front (text item) ∙ ap (λ more. old ++ more) (sym all)
+
+-- one word more, after a text that begins with this
+pub words-more : {A : Type 0} (first : List ℕ) (text : A → List ℕ) (items : List A) (i : ℕ) (item : A) (old mid new : List ℕ)
+    → i < length items → item ≡ get_or items i item → mid ≡ old ++ first ++ spaced (map text (take i items)) → new ≡ mid ++ 32 ∷ text item → new ≡ old ++ first ++ spaced (map text (take (i + 1) items))
+words-more {A = A} first text items i item old mid new within is before behind =
+    let word = λ (x : A). 32 ∷ text x in
+    let whole = λ (n : ℕ). ap (λ words. old ++ first ++ words) (flat_map-map (λ w. 32 ∷ w) text (take n items)) in
+    items-more word items i item (old ++ first) mid new within is (before ∙ whole i) behind ∙ sym (whole (i + 1))
+
+-- one answer of those that have names and moments
+pub named-at : (names : List (List ℕ)) (replies : List (ℕ × Reply)) (i : ℕ) (answer : ℕ × Reply) → HaveNames names replies → i < length replies → answer ≡ get_or replies i answer → answer.0 < length names
+named-at names replies i answer have within is =
+    let Named : ℕ × Reply → Type 0 = λ a. a.0 < length names in
+    subst Named (sym is) (All-get_or Named replies i answer within have)
+
+pub moments-at : (replies : List (ℕ × Reply)) (i : ℕ) (answer : ℕ × Reply) → HaveMoments replies → i < length replies → answer ≡ get_or replies i answer → ReplyHasMoments answer.1
+moments-at replies i answer have within is =
+    let Timed : ℕ × Reply → Type 0 = λ a. ReplyHasMoments a.1 in
+    subst Timed (sym is) (All-get_or Timed replies i answer within have)
+
+pub moment-at : (events : List Event) (i : ℕ) (event : Event) → EventsHaveMoments events → i < length events → event ≡ get_or events i event → HasMoment event.ev_time
+moment-at events i event have within is =
+    let Timed : Event → Type 0 = λ e. HasMoment e.ev_time in
+    subst Timed (sym is) (All-get_or Timed events i event within have)
+
 -- one answer more
 pub printed-take : (names : List (List ℕ)) (replies : List (ℕ × Reply)) (i : ℕ) (d : ℕ × Reply) → i < length replies
     → printed names (take (i + 1) replies) ≡ printed names (take i replies) ++ reply_text names (name_at names (get_or replies i d).0) (get_or replies i d).1
@@ -51,8 +99,7 @@ pub printed-more : (names : List (List ℕ)) (replies : List (ℕ × Reply)) (i 
     → HaveNames names replies → i < length replies → answer ≡ get_or replies i answer → name ≡ get_or names answer.0 name → bytes ≡ name
     → mid ≡ old ++ printed names (take i replies) → new ≡ mid ++ reply_text names bytes answer.1 → new ≡ old ++ printed names (take (i + 1) replies)
 printed-more names replies i answer name bytes old mid new have within is name_is bytes_are before behind =
-    let Named : ℕ × Reply → Type 0 = λ a. a.0 < length names in
-    let named = subst Named (sym is) (All-get_or Named replies i answer within have) in
+    let named = named-at names replies i answer have within is in
     let by_name = bytes_are ∙ get_or_read names answer.0 name named name_is [] ∙ sym (unwrap_or-slice_get names answer.0 []) in
     let text : ℕ × Reply → List ℕ = λ a. reply_text names (name_at names a.0) a.1 in
     let all : printed names (take i replies) ++ text answer ≡ printed names (take (i + 1) replies) =

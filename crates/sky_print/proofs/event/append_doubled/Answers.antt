@@ -1,8 +1,9 @@
 -- A quote is written twice, and any other byte once.
-use Rattle.std.proofs.Common.{arith}
+use Rattle.std.proofs.Common.{◌≡◌, [], ◌∷◌, ◌++◌, arith, ◌∙◌}
 use Rattle.std.proofs.lemmas.Bool.Decides.{nat_tests}
 use Rattle.std.proofs.lemmas.Grind.{common_steps}
 use Rattle.sky_print.proofs.Doubling.{doubled-take}
+use Rattle.sky_print.proofs.Keeping.{Keeps-grown, ok-failed, kept-failed, kept-stopped}
 use Rattle.sky_print.proofs.event.append_doubled.Goals as goal
 use Rattle.sky_print.proofs.event.append_doubled.Goals.{then-byte-eq39+in_ok-push, else-byte-eq39}
 
@@ -12,4 +13,25 @@ loop-byte-preserved c =
     elim c.if-byte-eq39.branch [
       | then-byte-eq39+in_ok-push w ↦ grind (arith, common_steps, nat_tests, more)
       | else-byte-eq39 w ↦ grind (arith, common_steps, nat_tests, more)
+    ]
+
+pub returns-in_err-push-clause-ok : goal.returns-in_err-push-clause-ok
+returns-in_err-push-clause-ok c = ok-failed c.from_residual.result _ c.from_residual.ensures.0
+
+pub returns-in_err-push-clause-kept : goal.returns-in_err-push-clause-kept
+returns-in_err-push-clause-kept c = kept-stopped c.from_residual.result _ _ _ (c.in_err-push.ensures.items ∙ c.loop-byte.invariant)
+
+pub returns-in_err-push-2-clause-ok : goal.returns-in_err-push-2-clause-ok
+returns-in_err-push-2-clause-ok c = ok-failed c.from_residual-in_err-push-2.result _ c.from_residual-in_err-push-2.ensures.0
+
+pub returns-in_err-push-2-clause-kept : goal.returns-in_err-push-2-clause-kept
+returns-in_err-push-2-clause-kept c =
+    let stopped = c.from_residual-in_err-push-2.result in
+    elim c.if-byte-eq39.branch [
+      | then-byte-eq39+in_ok-push w ↦
+          let quote : c.if-byte-eq39.into.items ≡ c.loop-byte.into.items ++ 39 ∷ [] = cc (w.into-is, w.in_ok-push.ensures.items) in
+          kept-failed stopped _ _ _ _ c.loop-byte.invariant (Keeps-grown _ _ _ (c.in_err-push-2.ensures.items ∙ quote))
+      | else-byte-eq39 w ↦
+          let same : c.if-byte-eq39.into.items ≡ c.loop-byte.into.items = cc w.into-is in
+          kept-stopped stopped _ _ _ (c.in_err-push-2.ensures.items ∙ same ∙ c.loop-byte.invariant)
     ]
