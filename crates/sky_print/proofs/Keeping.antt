@@ -1,5 +1,5 @@
 -- What a text that grew begins with, and what a step that failed leaves.
-use Rattle.std.proofs.Common.{◌≡◌, ℕ, List, ◌++◌, length, drop, refl, sym, ap, ◌∙◌, append_assoc}
+use Rattle.std.proofs.Common.{◌≡◌, ℕ, List, [], ◌++◌, length, drop, refl, sym, ap, ◌∙◌, append_assoc, append-nil}
 use Rattle.std.specs.Prelude.{Result, Ok, Err, IsErr, OnOk, OnErr}
 use Rattle.std.proofs.lemmas.List.{drop_at}
 use Rattle.std.proofs.lemmas.Result.{IfOk-from_err, on_ok_weaker, on_err_weaker}
@@ -22,6 +22,10 @@ pub kept-failed : {T E : Type 0} (r : Result T E) (old text mid new : List ℕ) 
 kept-failed (Ok v) old text mid new before kept = tt
 kept-failed (Err e) old text mid new before kept = Keeps-behind old text mid new before kept
 
+pub kept-first : {T E : Type 0} (r : Result T E) (old new : List ℕ) → Keeps old new → OnErr r (Keeps old new)
+kept-first (Ok v) old new kept = tt
+kept-first (Err e) old new kept = kept
+
 -- the same after two texts, and where nothing more was appended
 pub kept-words : {T E : Type 0} (r : Result T E) (old first text mid new : List ℕ) → mid ≡ old ++ first ++ text → Keeps mid new → OnErr r (Keeps old new)
 kept-words r old first text mid new before = kept-failed r old (first ++ text) mid new (before ∙ append_assoc old first text)
@@ -37,3 +41,6 @@ ok-last r old text mid new more whole before is =
 
 pub kept-last : {T E : Type 0} (r : Result T E) (old text mid new : List ℕ) → mid ≡ old ++ text → OnErr r (Keeps mid new) → OnErr r (Keeps old new)
 kept-last r old text mid new before = on_err_weaker r (Keeps-behind old text mid new before)
+
+pub ok-end : {T E : Type 0} (r : Result T E) (old text new : List ℕ) → OnOk r (new ≡ old ++ text) → OnOk r (new ≡ old ++ (text ++ []))
+ok-end r old text new = on_ok_weaker r (λ is. is ∙ ap (λ more. old ++ more) (sym (append-nil text)))

@@ -1,18 +1,20 @@
 -- Answers, and the lines of one, are printed one after another.
-use Rattle.std.proofs.Common.{◌≡◌, ℕ, ◌+◌, ◌<◌, ◌≤◌, List, [], ◌∷◌, ◌++◌, length, take, get_or, map, flat_map, sym, subst, ap, ap₂, ◌∙◌, append_assoc, append-nil, codes}
+use Rattle.std.proofs.Common.{◌≡◌, ℕ, ◌+◌, ◌<◌, ◌≤◌, List, [], ◌∷◌, ◌++◌, length, take, get_or, map, flat_map, refl, sym, subst, ap, ap₂, ◌∙◌, append_assoc, append-nil, codes}
 use Rattle.std.proofs.lemmas.List.{take_more, take_all, get_or_read}
 use Rattle.std.proofs.lemmas.List.Elements.{All-get_or}
 use Rattle.std.proofs.lemmas.List.Folds.{flat_map-map}
 use Rattle.std.proofs.lemmas.Option.{unwrap_or-slice_get}
+use Rattle.std.proofs.lemmas.Result.{on_ok_weaker}
 use Rattle.std.proofs.lemmas.Grind.{flat_map-append}
 use Rattle.std.specs.Prelude.{Result, OnOk}
 use Rattle.std.specs.Fmt.{decimal}
 use Rattle.sky_val.specs.declared.event.Event.{Event}
 use Rattle.sky_model.specs.Moment.{HasMoment}
+use Rattle.sky_model.specs.declared.reply.QueueInfo.{QueueInfo}
 use Rattle.sky_model.specs.declared.reply.BatchInfo.{BatchInfo}
 use Rattle.sky_model.specs.declared.reply.Reply.{Reply}
-use Rattle.sky_print.proofs.Keeping.{ok-last}
-use Rattle.sky_model.specs.Printed.{batch_text, count_text, line_text, reply_text, name_at, printed, spaced, HaveNames, EventsHaveMoments, ReplyHasMoments, HaveMoments}
+use Rattle.sky_print.proofs.Keeping.{ok-last, ok-end}
+use Rattle.sky_model.specs.Printed.{text_or_null, queue_text, batch_text, count_text, line_text, reply_text, name_at, printed, spaced, HaveNames, EventsHaveMoments, ReplyHasMoments, HaveMoments}
 
 -- after a text, a field's name and the field
 field-behind : (old text mid name field new : List ℕ) → mid ≡ old ++ text → new ≡ mid ++ (name ++ field) → new ≡ old ++ (text ++ name ++ field)
@@ -31,6 +33,38 @@ batch-printed b name who old queue consumer prev_tick tick prev_seq seq name_is 
     let to_tick = field-behind old _ prev_tick (codes " tick ") (decimal b.tick) tick to_prev_tick is_tick in
     let to_prev_seq = field-behind old _ tick (codes " prev_seq ") (decimal b.prev_seq) prev_seq to_tick is_prev_seq in
     field-behind old _ prev_seq (codes " seq ") (decimal b.seq) seq to_prev_seq is_seq
+
+-- the fields of a queue
+pub queue-printed : {T E : Type 0} (r : Result T E) (q : QueueInfo) (counts old table current last_tick seq new : List ℕ) → counts ≡ q.stored
+    → table ≡ old ++ (codes "ntables" ++ 32 ∷ decimal (length counts)) → current ≡ table ++ (codes " cur_table" ++ 32 ∷ decimal q.current)
+    → last_tick ≡ current ++ (codes " last_tick" ++ 32 ∷ decimal q.last_tick) → seq ≡ last_tick ++ (codes " seq" ++ 32 ∷ decimal q.seq)
+    → OnOk r (new ≡ seq ++ (codes " stored" ++ spaced (map decimal counts))) → OnOk r (new ≡ old ++ queue_text q)
+queue-printed r q counts old table current last_tick seq new counts_are is_table is_current is_last_tick is_seq =
+    let to_table = is_table ∙ ap (λ xs. old ++ (codes "ntables " ++ decimal (length xs))) counts_are in
+    let to_current = field-behind old _ table (codes " cur_table ") (decimal q.current) current to_table is_current in
+    let to_last_tick = field-behind old _ current (codes " last_tick ") (decimal q.last_tick) last_tick to_current is_last_tick in
+    let to_seq = field-behind old _ last_tick (codes " seq ") (decimal q.seq) seq to_last_tick is_seq in
+    on_ok_weaker r (λ is. field-behind old _ seq (codes " stored") (spaced (map decimal q.stored)) new to_seq
+    (is ∙ ap (λ xs. seq ++ (codes " stored" ++ spaced (map decimal xs))) counts_are))
+
+-- the texts of an event, one after another
+pub texts-printed : {T E : Type 0} (r : Result T E) (e : Event) (old one two three four five new : List ℕ)
+    → one ≡ old ++ 32 ∷ text_or_null e.ev_type → two ≡ one ++ 32 ∷ text_or_null e.ev_data → three ≡ two ++ 32 ∷ text_or_null e.ev_extra1
+    → four ≡ three ++ 32 ∷ text_or_null e.ev_extra2 → five ≡ four ++ 32 ∷ text_or_null e.ev_extra3
+    → OnOk r (new ≡ five ++ 32 ∷ text_or_null e.ev_extra4)
+    → OnOk r (new ≡ old ++ spaced (text_or_null e.ev_type ∷ text_or_null e.ev_data ∷ text_or_null e.ev_extra1 ∷ text_or_null e.ev_extra2 ∷ text_or_null e.ev_extra3 ∷ text_or_null e.ev_extra4 ∷ []))
+texts-printed r e old one two three four five new is_one is_two is_three is_four is_five last =
+    let after_five = 32 ∷ text_or_null e.ev_extra4 ++ [] in
+    let after_four = 32 ∷ text_or_null e.ev_extra3 ++ after_five in
+    let after_three = 32 ∷ text_or_null e.ev_extra2 ++ after_four in
+    let after_two = 32 ∷ text_or_null e.ev_extra1 ++ after_three in
+    let after_one = 32 ∷ text_or_null e.ev_data ++ after_two in
+    ok-last r old (32 ∷ text_or_null e.ev_type) one new after_one _ is_one refl
+    (ok-last r one (32 ∷ text_or_null e.ev_data) two new after_two after_one is_two refl
+    (ok-last r two (32 ∷ text_or_null e.ev_extra1) three new after_three after_two is_three refl
+    (ok-last r three (32 ∷ text_or_null e.ev_extra2) four new after_four after_three is_four refl
+    (ok-last r four (32 ∷ text_or_null e.ev_extra3) five new after_five after_four is_five refl
+    (ok-end r five (32 ∷ text_or_null e.ev_extra4) new last)))))
 
 -- the lines of a batch or a table: one for each item, and one for how many they are
 pub lines-listed : {A : Type 0} (name : List ℕ) (text : A → List ℕ) (items : List A)

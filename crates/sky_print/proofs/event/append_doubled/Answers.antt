@@ -1,18 +1,21 @@
 -- A quote is written twice, and any other byte once.
-use Rattle.std.proofs.Common.{◌≡◌, [], ◌∷◌, ◌++◌, arith, ◌∙◌}
-use Rattle.std.proofs.lemmas.Bool.Decides.{nat_tests}
-use Rattle.std.proofs.lemmas.Grind.{common_steps}
-use Rattle.sky_print.proofs.Doubling.{doubled-take}
+use Rattle.std.proofs.Common.{◌≡◌, ◌<◌, [], ◌∷◌, ◌++◌, length, arith, ◌∙◌}
+use Rattle.sky_print.proofs.Doubling.{doubled-quote, doubled-plain}
 use Rattle.sky_print.proofs.Keeping.{Keeps-grown, ok-failed, kept-failed, kept-stopped}
 use Rattle.sky_print.proofs.event.append_doubled.Goals as goal
 use Rattle.sky_print.proofs.event.append_doubled.Goals.{then-byte-eq39+in_ok-push, else-byte-eq39}
 
 pub loop-byte-preserved : goal.loop-byte-preserved
 loop-byte-preserved c =
-    let more = doubled-take c.args.text.now c.loop-byte.byte-index (omega arith) in
+    let i = c.loop-byte.byte-index in
+    let within : i < length c.args.text.now = omega arith in
     elim c.if-byte-eq39.branch [
-      | then-byte-eq39+in_ok-push w ↦ grind (arith, common_steps, nat_tests, more)
-      | else-byte-eq39 w ↦ grind (arith, common_steps, nat_tests, more)
+      | then-byte-eq39+in_ok-push w ↦
+          let first : c.if-byte-eq39.into.items ≡ c.loop-byte.into.items ++ 39 ∷ [] = cc (w.into-is, w.in_ok-push.ensures.items) in
+          doubled-quote c.args.text.now i _ _ _ _ within c.loop-byte.invariant w.if-byte-eq39.true first c.in_ok-push-2.ensures.items
+      | else-byte-eq39 w ↦
+          let same : c.if-byte-eq39.into.items ≡ c.loop-byte.into.items = cc w.into-is in
+          doubled-plain c.args.text.now i _ _ _ _ within c.loop-byte.invariant w.if-byte-eq39.false same c.in_ok-push-2.ensures.items
     ]
 
 pub returns-in_err-push-clause-ok : goal.returns-in_err-push-clause-ok

@@ -1,4 +1,5 @@
 -- Each field is printed after those before it.
+use Rattle.sky_print.proofs.Keeping.{Keeps-behind, ok-failed, kept-first, kept-failed}
 use Rattle.sky_print.proofs.Printing.{batch-printed}
 use Rattle.sky_print.proofs.queue.append_batch_info.Goals as goal
 
@@ -7,3 +8,39 @@ returns-clause-ok c =
     batch-printed c.args.batch.now c.bytes.result.now c.bytes-2.result.now c.args.into.now.items _ _ _ _ _ _ c.bytes.ensures.value c.bytes-2.ensures.value
     c.in_ok-append_named.ensures.ok c.in_ok-append_named-2.ensures.ok c.in_ok-append_field.ensures.ok c.in_ok-append_field-2.ensures.ok
     c.in_ok-append_field-3.ensures.ok c.in_ok-append_field-4.ensures.ok
+
+pub returns-in_err-append_named-clause-ok : goal.returns-in_err-append_named-clause-ok
+returns-in_err-append_named-clause-ok c = ok-failed c.from_residual.result _ c.from_residual.ensures.0
+
+pub returns-in_err-append_named-clause-kept : goal.returns-in_err-append_named-clause-kept
+returns-in_err-append_named-clause-kept c = kept-first c.from_residual.result _ _ c.in_err-append_named.ensures.kept
+
+pub returns-in_err-append_named-2-clause-ok : goal.returns-in_err-append_named-2-clause-ok
+returns-in_err-append_named-2-clause-ok c = ok-failed c.from_residual-in_err-append_named-2.result _ c.from_residual-in_err-append_named-2.ensures.0
+
+pub returns-in_err-append_named-2-clause-kept : goal.returns-in_err-append_named-2-clause-kept
+returns-in_err-append_named-2-clause-kept c = kept-failed c.from_residual-in_err-append_named-2.result _ _ _ _ c.in_ok-append_named.ensures.ok c.in_err-append_named-2.ensures.kept
+
+pub returns-in_err-append_field-clause-ok : goal.returns-in_err-append_field-clause-ok
+returns-in_err-append_field-clause-ok c = ok-failed c.from_residual-in_err-append_field.result _ c.from_residual-in_err-append_field.ensures.0
+
+pub returns-in_err-append_field-clause-kept : goal.returns-in_err-append_field-clause-kept
+returns-in_err-append_field-clause-kept c = kept-failed c.from_residual-in_err-append_field.result _ _ _ _ c.in_ok-append_named.ensures.ok (Keeps-behind _ _ _ _ c.in_ok-append_named-2.ensures.ok c.in_err-append_field.ensures.kept)
+
+pub returns-in_err-append_field-2-clause-ok : goal.returns-in_err-append_field-2-clause-ok
+returns-in_err-append_field-2-clause-ok c = ok-failed c.from_residual-in_err-append_field-2.result _ c.from_residual-in_err-append_field-2.ensures.0
+
+pub returns-in_err-append_field-2-clause-kept : goal.returns-in_err-append_field-2-clause-kept
+returns-in_err-append_field-2-clause-kept c = kept-failed c.from_residual-in_err-append_field-2.result _ _ _ _ c.in_ok-append_named.ensures.ok (Keeps-behind _ _ _ _ c.in_ok-append_named-2.ensures.ok (Keeps-behind _ _ _ _ c.in_ok-append_field.ensures.ok c.in_err-append_field-2.ensures.kept))
+
+pub returns-in_err-append_field-3-clause-ok : goal.returns-in_err-append_field-3-clause-ok
+returns-in_err-append_field-3-clause-ok c = ok-failed c.from_residual-in_err-append_field-3.result _ c.from_residual-in_err-append_field-3.ensures.0
+
+pub returns-in_err-append_field-3-clause-kept : goal.returns-in_err-append_field-3-clause-kept
+returns-in_err-append_field-3-clause-kept c = kept-failed c.from_residual-in_err-append_field-3.result _ _ _ _ c.in_ok-append_named.ensures.ok (Keeps-behind _ _ _ _ c.in_ok-append_named-2.ensures.ok (Keeps-behind _ _ _ _ c.in_ok-append_field.ensures.ok (Keeps-behind _ _ _ _ c.in_ok-append_field-2.ensures.ok c.in_err-append_field-3.ensures.kept)))
+
+pub returns-in_err-append_field-4-clause-ok : goal.returns-in_err-append_field-4-clause-ok
+returns-in_err-append_field-4-clause-ok c = ok-failed c.from_residual-in_err-append_field-4.result _ c.from_residual-in_err-append_field-4.ensures.0
+
+pub returns-in_err-append_field-4-clause-kept : goal.returns-in_err-append_field-4-clause-kept
+returns-in_err-append_field-4-clause-kept c = kept-failed c.from_residual-in_err-append_field-4.result _ _ _ _ c.in_ok-append_named.ensures.ok (Keeps-behind _ _ _ _ c.in_ok-append_named-2.ensures.ok (Keeps-behind _ _ _ _ c.in_ok-append_field.ensures.ok (Keeps-behind _ _ _ _ c.in_ok-append_field-2.ensures.ok (Keeps-behind _ _ _ _ c.in_ok-append_field-3.ensures.ok c.in_err-append_field-4.ensures.kept))))
