@@ -1,5 +1,5 @@
 -- How the state of a leaf's table is written.
-use Rattle.std.specs.Prelude.{◌≡◌, if◌then◌else◌, bytes_eq, List, Option, Some, None, ℕ, ◌<◌, ◌^◌, ◌++◌, codes}
+use Rattle.std.specs.Prelude.{◌≡◌, Bool, true, false, List, ℕ, ◌<◌, ◌^◌, ◌++◌, codes}
 use Rattle.std.specs.Fmt.{decimal}
 use Rattle.londiste_state.specs.declared.state.TableState.{TableState}
 use Rattle.londiste_state.specs.declared.state.TableState.TheVariants.{Absent, InCopy, CatchingUp, WannaSync, DoSync, Synced}
@@ -22,6 +22,8 @@ IsState state = Unit {0}
 abbrev pub IsStateText : List ℕ → Type 0
 IsStateText text = (state : TableState) × IsState state × (state_text state ≡ text)
 
--- the state without a tick that is written so
-abbrev pub plain_state : List ℕ → Option TableState
-plain_state text = if bytes_eq text (codes "none") then Some Absent else if bytes_eq text (codes "in-copy") then Some InCopy else if bytes_eq text (codes "catching-up") then Some CatchingUp else if bytes_eq text (codes "ok") then Some Synced else None
+-- whether a tick is written with the state
+abbrev pub has_tick : TableState → Bool
+has_tick (WannaSync tick) = true
+has_tick (DoSync tick) = true
+has_tick state = false

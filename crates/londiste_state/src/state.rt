@@ -1,6 +1,7 @@
-ghost use Rattle.std.specs.Prelude.{◌≡◌, ◌↔◌, ◌<◌, ◌^◌, ◌++◌, ℕ, Ok, Err, IfOk, OnOk, OnErr, MatchOption};
+ghost use Rattle.std.specs.Prelude.{◌≡◌, ◌↔◌, ◌<◌, ◌^◌, ◌++◌, ℕ, false, Ok, Err, IfOk, OnOk, OnErr, MatchOption};
 ghost use Rattle.std.specs.Fmt.{decimal};
-ghost use Rattle.londiste_state.specs.StateText.{plain_state};
+ghost use Rattle.londiste_state.specs.StateText.{state_text, has_tick};
+ghost use Rattle.londiste_state.specs.declared.state.TableState.{TableState};
 
 use itoa::Buffer;
 use sky_val::{NoMemory, number_of};
@@ -37,7 +38,7 @@ pub enum TableState {
 }
 
 impl TableState {
-    ghost use Rattle.londiste_state.specs.StateText.{state_text, IsState, IsStateText};
+    ghost use Rattle.londiste_state.specs.StateText.{IsState, IsStateText};
     ghost use Rattle.londiste_state.specs.Moves.{is_allowed};
 
     /// Appends the state as it is written.
@@ -104,7 +105,7 @@ fn append_with_tick(word: &[u8], tick: u64, into: &mut Vec<u8>) -> Result<(), No
 
 /// The state without a tick that is written so.
 fn plain_state(text: &[u8]) -> Option<TableState>
-    ensures { result ≡ plain_state text.now }
+    ensures { MatchOption result ((state : TableState) → has_tick state ≡ false → ¬ (state_text state ≡ text.now)) (λ state. (has_tick state ≡ false) × (state_text state ≡ text.now)) }
 {
     if text == b"none".as_slice() {
         return Some(TableState::Absent);

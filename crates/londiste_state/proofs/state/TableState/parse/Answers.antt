@@ -1,4 +1,4 @@
-use Rattle.std.proofs.Common.{sym, arith}
+use Rattle.std.proofs.Common.{arith}
 use Rattle.londiste_state.specs.declared.state.TableState.TheVariants.{WannaSync, DoSync}
 use Rattle.londiste_state.proofs.StateTexts.{only_state, is_written, plain_refused}
 use Rattle.londiste_state.proofs.state.TableState.parse.Goals as goal
@@ -16,4 +16,4 @@ pub returns-in-Some-tick_after-clause-bad : goal.returns-in-Some-tick_after-clau
 returns-in-Some-tick_after-clause-bad c = is_written (DoSync c.in-Some-tick_after.tick) c.args.bytes.now (omega arith) c.in-Some-tick_after.ensures
 
 pub returns-clause-bad : goal.returns-clause-bad
-returns-clause-bad c = rw c.ok_or.ensures.value (plain_refused c.args.bytes.now c.plain_state.result (sym c.plain_state.ensures) c.in_default.ensures c.in_default-tick_after.ensures)
+returns-clause-bad c = rw c.ok_or.ensures.value (plain_refused c.args.bytes.now c.plain_state.result c.plain_state.ensures c.in_default.ensures c.in_default-tick_after.ensures)
