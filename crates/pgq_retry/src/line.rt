@@ -66,6 +66,7 @@ impl Line {
         ensures in_order { InOrder self.new }
     {
         let due = (waiting.due, place);
+        // Given to drop: freed in place, each text of it would be a case of the proof.
         drop(self.entries.insert(place, waiting)?);
         let Ok(_) = self.dues.insert(due) else {
             drop(self.entries.remove(&place));

@@ -60,6 +60,7 @@ impl Places {
             None => {
                 let mut places = BTreeMap::new(alloc);
                 places.insert(ev_id, place)?;
+                // Given to drop: freed in place, what the map gives back would be cases of the proof.
                 drop(self.by_sub.insert(sub, places)?);
             }
         }
