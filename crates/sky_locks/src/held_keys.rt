@@ -50,7 +50,7 @@ impl HeldKeys {
         Ok(())
     }
 
-    /// Makes room for this key of the session. The answer is a copy of it.
+    /// Makes room for this key of the session, and copies it, so that a caller has no copy to free if there is no room.
     pub(crate) fn reserve(
         &mut self,
         alloc: Global,
