@@ -267,14 +267,14 @@ impl Table {
         if at.has_row != needs_row {
             return Ok(false);
         }
-        self.write_logged(place, txid, key, row, at.has_own)?;
+        self.write_known(place, txid, key, row, at.has_own)?;
         Ok(true)
     }
 
-    /// The same as `write_at`, for a transaction of which it is known whether it has a version at the key. If its keys are
+    /// The same as `write_at`, for a caller that knows whether the transaction has a version at the key. If its keys are
     /// logged, the key isn't looked for among them.
     #[inline(always)]
-    fn write_logged(
+    fn write_known(
         &mut self,
         place: Option<usize>,
         txid: u64,

@@ -3,7 +3,7 @@ use Rattle.sky_rows.specs.Rows.{rows_in}
 use Rattle.sky_rows.specs.Kept.{all_versions}
 use Rattle.sky_rows.specs.Written.{wrote, logged}
 use Rattle.sky_rows.proofs.TableLemmas.{all_kept_more, kept_both, kept_either}
-use Rattle.sky_rows.proofs.table.Table.write_logged.Goals as goal
+use Rattle.sky_rows.proofs.table.Table.write_known.Goals as goal
 
 pub invariant_of-self : goal.invariant_of-self
 invariant_of-self c = (
