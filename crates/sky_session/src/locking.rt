@@ -54,6 +54,8 @@ fn wait(
 }
 
 /// The place of a key that has no row. If it has one, its insert is refused.
+// Always inlined: a refusal is large, and this is on the path of each write.
+#[inline(always)]
 fn find_room(state: &RowState, who: SessionId, key: &LockKey) -> Result<Option<usize>, Stop>
     requires within { key.now.table < length (seen state.now).tables }
     ensures place { IfOk result (λ place. place ≡ found_in state.now key.now.table key.now.key) }
@@ -103,6 +105,8 @@ pub(crate) enum Found<'a> {
 }
 
 /// Makes the tests that an update and a delete have in common, in their order.
+// Always inlined: a refusal is large, and this is on the path of each write.
+#[inline(always)]
 fn find_row<'a>(state: &'a RowState, who: SessionId, key: &LockKey) -> Result<Found<'a>, Stop>
     requires within { key.now.table < length (seen state.now).tables }
     ensures ok { IfOk result (Finds state.now who key.now.table key.now.key) }
