@@ -16,7 +16,7 @@ pub struct LeafTable {
     tick: u64,
 }
 
-// By hand, so that dropping a table is one step for the functions that own one.
+// By hand, so that it is not written out at each exit of a function that owns one.
 impl Drop for LeafTable {
     fn drop(self) {
         let LeafTable {
@@ -110,7 +110,7 @@ pub struct Root {
     consumers: Vec<Text>,
 }
 
-// By hand, so that dropping a root is one step for the functions that own one.
+// By hand, so that it is not written out at each exit of a function that owns one.
 impl Drop for Root {
     fn drop(self) {
         let Root {
@@ -220,7 +220,7 @@ pub struct Leaf {
     tables: Vec<LeafTable>,
 }
 
-// By hand, so that dropping a leaf is one step for the functions that own one.
+// By hand, so that it is not written out at each exit of a function that owns one.
 impl Drop for Leaf {
     fn drop(self) {
         let Leaf {

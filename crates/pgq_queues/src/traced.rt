@@ -16,7 +16,7 @@ pub struct TableTrigger {
     pub trigger: Trigger,
 }
 
-// By hand, so that dropping a trigger is one step for the functions that own one.
+// By hand, so that it is not written out at each exit of a function that owns one.
 impl Drop for TableTrigger {
     fn drop(self) {
         let TableTrigger {
@@ -62,7 +62,7 @@ pub struct TracedTable {
     places: Vec<usize>,
 }
 
-// By hand, so that dropping one is one step for the functions that own one.
+// By hand, so that it is not written out at each exit of a function that owns one.
 impl Drop for TracedTable {
     fn drop(self) {
         let TracedTable {

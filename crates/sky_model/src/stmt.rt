@@ -133,7 +133,7 @@ pub struct Sets {
     sets: SetValues,
 }
 
-// By hand, so that dropping changes is one step for the functions that own one.
+// By hand, so that it is not written out at each exit of a function that owns one.
 impl Drop for Sets {
     fn drop(self) {
         let Sets { sets: _ } = self;
@@ -238,7 +238,7 @@ pub enum RowStmt {
     Scan { table: Text },
 }
 
-// By hand, so that dropping a statement is one step for the functions that own one.
+// By hand, so that it is not written out at each exit of a function that owns one.
 impl Drop for RowStmt {
     fn drop(self) {
         match self {

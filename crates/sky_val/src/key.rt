@@ -53,7 +53,7 @@ pub struct Key {
     values: KeyValues,
 }
 
-// By hand, so that dropping a key is one step for the functions that own one.
+// By hand, so that it is not written out at each exit of a function that owns one.
 impl Drop for Key {
     fn drop(self) {
         let Key { values: _ } = self;

@@ -41,7 +41,7 @@ pub struct Row {
     values: RowValues,
 }
 
-// By hand, so that dropping a row is one step for the functions that own one.
+// By hand, so that it is not written out at each exit of a function that owns one.
 impl Drop for Row {
     fn drop(self) {
         let Row { values: _ } = self;

@@ -65,7 +65,7 @@ pub struct Text {
     kept: Kept,
 }
 
-// By hand, so that dropping a text is one step for the functions that own one.
+// By hand, so that it is not written out at each exit of a function that owns one.
 impl Drop for Text {
     fn drop(self) {
         let Text { kept: _ } = self;
