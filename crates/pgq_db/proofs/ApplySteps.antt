@@ -1,5 +1,5 @@
 -- What a worker makes of the events of a batch, and what the call gives by which a leaf applies it.
-use Rattle.std.proofs.Common.{◌≡◌, ℕ, suc, ◌+◌, ◌<◌, ◌≤◌, Bool, true, false, not, cond, List, [], ◌∷◌, ◌++◌, All, length, drop, get_or, filter, map, Option, Some, None, IfSome, Result, ◌↔◌, Ok, Err, IfOk, OnOk, option_and_then, refl, sym, ◌∙◌, ap, subst, arith, add-one, if◌then◌else◌}
+use Rattle.std.proofs.Common.{◌≡◌, ℕ, suc, ◌+◌, ◌<◌, ◌≤◌, Bool, true, false, not, cond, List, [], ◌∷◌, ◌++◌, All, length, drop, get_or, filter, map, Option, Some, None, IfSome, Result, ◌↔◌, Ok, Err, IfOk, option_and_then, refl, sym, ◌∙◌, ap, subst, arith, add-one, if◌then◌else◌}
 use Rattle.std.specs.Prelude.{option_map, unwrap_or}
 use Rattle.std.specs.List.{list_any}
 use Rattle.std.specs.Result.{result_ok}

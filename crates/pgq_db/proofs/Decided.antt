@@ -16,11 +16,10 @@ use Rattle.sky_model.specs.Printed.{ReplyHasMoments}
 use Rattle.sky_model.specs.ShownRows.{least_writer}
 use Rattle.sky_model.specs.State.{RowPart, Database, after_mark}
 use Rattle.sky_model.specs.StepQueue.{queue_called}
-use Rattle.sky_model.specs.StepRows.{table_called}
 use Rattle.sky_model.specs.StepTrigger.{has_trigger, may_ignore, add_trigger}
 use Rattle.sky_model.specs.Stops.{Stops, StopsAs, Keeps}
 use Rattle.sky_model.specs.Triggers.{TableTrigger, triggers_of}
-use Rattle.pgq_db.specs.Triggering.{free_queue, trigger_fits}
+use Rattle.pgq_db.specs.Triggering.{queue_of_no_set, trigger_fits}
 use Rattle.pgq_db.proofs.Databases.{Runs}
 
 -- it stops, and has changed nothing
@@ -46,14 +45,14 @@ bad-column part triggers n name ignored new few (stops.Refused refusal) bad =
     free = grind (arith, nat_tests)
 
 -- the queue of a name, which may be no set's
-pub not-there : (queue : List ℕ) (d : Database) (stop : Stop) → StopsAs stop (queue_called queue d) → StopsAs stop (free_queue queue d)
+pub not-there : (queue : List ℕ) (d : Database) (stop : Stop) → StopsAs stop (queue_called queue d) → StopsAs stop (queue_of_no_set queue d)
 not-there queue d stops.NoMemory is = tt
 not-there queue d (stops.Refused refusal) is = ap (λ c. c >>= (λ q. refused_if (is_set_queue queue d.node) SetQueue >> Ok q)) is
 
-pub is-sets : (queue : List ℕ) (d : Database) (n : ℕ) → queue_called queue d ≡ Ok n → is_set_queue queue d.node ≡ true → free_queue queue d ≡ Err SetQueue
+pub is-sets : (queue : List ℕ) (d : Database) (n : ℕ) → queue_called queue d ≡ Ok n → is_set_queue queue d.node ≡ true → queue_of_no_set queue d ≡ Err SetQueue
 is-sets queue d n is set = λ i. is i >>= (λ q. refused_if (set i) SetQueue >> Ok q)
 
-pub is-free : (queue : List ℕ) (d : Database) (n : ℕ) → queue_called queue d ≡ Ok n → is_set_queue queue d.node ≡ false → free_queue queue d ≡ Ok n
+pub is-free : (queue : List ℕ) (d : Database) (n : ℕ) → queue_called queue d ≡ Ok n → is_set_queue queue d.node ≡ false → queue_of_no_set queue d ≡ Ok n
 is-free queue d n is unset = λ i. is i >>= (λ q. refused_if (unset i) SetQueue >> Ok q)
 
 module _ (d : Database) (name table queue : List ℕ) (backup : Bool) (ignored : List (List ℕ)) where
@@ -108,24 +107,20 @@ module _ (d : Database) (name table queue : List ℕ) (backup : Bool) (ignored :
   past (Ok q) (Err r) next n is = absurd (cc)
   past (Ok q) (Ok u) next n is = let same : q ≡ n = cc in ap next same
 
-  pub no-table : (stop : Stop) → StopsAs stop (table_called table d.part) → StopsAs stop (add_trigger d name table queue backup ignored)
-  no-table stops.NoMemory is = tt
-  no-table (stops.Refused refusal) is = ap (λ c. c >>= of_table) is
-
   there : (t : ℕ) → place_of table d.part.tables ≡ Some t → add_trigger d name table queue backup ignored ≡ of_table t
   there t is = ap (λ o. found_or o (NoTable table) >>= of_table) is
 
-  pub no-queue : (t : ℕ) → place_of table d.part.tables ≡ Some t → (stop : Stop) → StopsAs stop (free_queue queue d) → StopsAs stop (add_trigger d name table queue backup ignored)
+  pub no-queue : (t : ℕ) → place_of table d.part.tables ≡ Some t → (stop : Stop) → StopsAs stop (queue_of_no_set queue d) → StopsAs stop (add_trigger d name table queue backup ignored)
   no-queue t is stop bad = subst (StopsAs stop) (sym (there t is)) (guarded (queue_called queue d) (refused_if (is_set_queue queue d.node) SetQueue) (of_queue t) stop bad)
 
-  known : (t q : ℕ) → place_of table d.part.tables ≡ Some t → free_queue queue d ≡ Ok q → add_trigger d name table queue backup ignored ≡ of_queue t q
+  known : (t q : ℕ) → place_of table d.part.tables ≡ Some t → queue_of_no_set queue d ≡ Ok q → add_trigger d name table queue backup ignored ≡ of_queue t q
   known t q is at = there t is ∙ past (queue_called queue d) (refused_if (is_set_queue queue d.node) SetQueue) (of_queue t) q at
 
-  pub no-fit : (t q : ℕ) → place_of table d.part.tables ≡ Some t → free_queue queue d ≡ Ok q → (stop : Stop) → StopsAs stop (trigger_fits d.part d.triggers t name ignored)
+  pub no-fit : (t q : ℕ) → place_of table d.part.tables ≡ Some t → queue_of_no_set queue d ≡ Ok q → (stop : Stop) → StopsAs stop (trigger_fits d.part d.triggers t name ignored)
       → StopsAs stop (add_trigger d name table queue backup ignored)
   no-fit t q is at stop bad = subst (StopsAs stop) (sym (known t q is at)) (failed (is_new t) (has_room t) (ignores t) (is_idle t) (marks_made t q) stop bad)
 
-  pub adds : (t q : ℕ) → place_of table d.part.tables ≡ Some t → free_queue queue d ≡ Ok q → trigger_fits d.part d.triggers t name ignored ≡ Ok tt
+  pub adds : (t q : ℕ) → place_of table d.part.tables ≡ Some t → queue_of_no_set queue d ≡ Ok q → trigger_fits d.part d.triggers t name ignored ≡ Ok tt
       → (trigger : TableTrigger) → trigger ≡ record { table = t; name = Some name; trigger = record { queue = q; backup = backup; ignored = ignored } }
       → add_trigger d name table queue backup ignored ≡ does_marks Done (queued (traced trigger.table trigger.name trigger.trigger) ∷ [])
   adds t q is at fits trigger made = known t q is at ∙ tested (is_new t) (has_room t) (ignores t) (is_idle t) (marks_made t q) fits ∙ ap (λ (x : TableTrigger). does_marks Done (queued (traced x.table x.name x.trigger) ∷ [])) (sym made)

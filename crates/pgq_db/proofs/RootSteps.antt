@@ -13,20 +13,12 @@ use Rattle.sky_model.specs.OwnTransaction.{txid_for, in_own}
 use Rattle.sky_model.specs.Queues.{queue_number}
 use Rattle.sky_model.specs.State.{Database, after_mark, after_marks}
 use Rattle.sky_model.specs.StepNode.{create_root}
-use Rattle.sky_model.specs.Stops.{Stops, StopsAs, Keeps}
-use Rattle.sky_model.specs.declared.stop.Stop.{Stop}
-use Rattle.sky_model.specs.declared.stop.Stop.TheVariants as stops
 use Rattle.sky_histories.proofs.DatabaseStanding.{after_marks-append}
 use Rattle.sky_state.specs.Seen.{seen}
 use Rattle.pgq_queues.specs.Seen.{seen_with}
 use Rattle.pgq_db.specs.Views.{DbView}
 use Rattle.pgq_db.specs.Seen.{with_node, seen_database}
 use Rattle.pgq_db.proofs.Databases.{Runs}
-
--- a test that changes nothing stops a statement as it says
-pub stops-by : {A B : Type 0} (stop : Stop) (d : Database) (checked : Checked A) (replies : B) → StopsAs stop checked → Stops stop d d checked × Keeps stop replies replies
-stops-by (stops.Refused refusal) d checked replies is = (record { refused = is; same = refl }, refl)
-stops-by stops.NoMemory d checked replies is = (tt, tt)
 
 -- the node is the root from then on
 pub rooted-as : (v now : DbView) (own : Option Node) (name queue : List ℕ) → v ≡ now → own ≡ after_node (root_made name queue) v.node.own

@@ -12,13 +12,14 @@ use Rattle.sky_model.specs.StepTrigger.{has_trigger, may_ignore}
 use Rattle.sky_model.specs.Triggers.{TableTrigger, triggers_of}
 
 -- the queue of a name, which is no set's
-abbrev pub free_queue : List ℕ → Database → Checked ℕ
-free_queue name d = do
+abbrev pub queue_of_no_set : List ℕ → Database → Checked ℕ
+queue_of_no_set name d = do
   queue ← queue_called name d
   refused_if (is_set_queue name d.node) SetQueue
   Ok queue
 
--- a table may have one more trigger, beside these, of a name that no other has, and that ignores columns
+-- a table may have one more trigger beside these: none has its name, they are few enough, it may ignore these columns,
+-- and no running transaction has written the table
 abbrev pub trigger_fits : RowPart → List TableTrigger → ℕ → List ℕ → List (List ℕ) → Checked (Unit {0})
 trigger_fits part triggers table name ignored = do
   refused_if (has_trigger name (triggers_of table triggers)) (TriggerExists name)

@@ -213,7 +213,7 @@ impl Db {
     ) -> Result<(), Stop>
         ensures { Ran self.old self.new replies.old replies.new who result (finish_batch (seen_database self.old) id) }
     {
-        let is_active = self.may_finish(id)?;
+        let is_active = self.check_finish(id)?;
         if is_active {
             self.queues.close_batch(id);
         }
@@ -222,7 +222,9 @@ impl Db {
     }
 
     /// Whether there is an active batch of this id, or a refusal if it is a node's.
-    fn may_finish(&self, id: u64) -> Result<bool, Stop>
+    // Always inlined: a refusal is large, and this is on the path of each finish_batch.
+    #[inline(always)]
+    fn check_finish(&self, id: u64) -> Result<bool, Stop>
         ensures active { IfOk result (λ active. active ≡ is_some ((seen_database self.now).batch id)) }
         ensures foreign { OnOk result (IfSome ((seen_database self.now).batch id) (λ batch. is_nodes_batch (seen_database self.now) batch ≡ false)) }
         ensures err { IfErr result (λ stop. StopsAs stop (finish_batch (seen_database self.now) id)) }

@@ -349,14 +349,14 @@ impl Db {
     fn drop_queue(&mut self, who: SessionId, name: &Text, replies: &mut Replies) -> Result<(), Stop>
         ensures { Ran self.old self.new replies.old replies.new who result (drop_queue (seen_database self.old) name.now) }
     {
-        let queue = self.unused(name)?;
+        let queue = self.queue_to_drop(name)?;
         self.queues.drop_queue(name, queue);
         replies.push(who, Reply::Number(1))?;
         Ok(())
     }
 
     /// The number of the queue of this name, if it may be dropped.
-    fn unused(&self, name: &Text) -> Result<usize, Stop>
+    fn queue_to_drop(&self, name: &Text) -> Result<usize, Stop>
         ensures found { IfOk result (λ queue. queue_number name.now (seen_database self.now).queues ≡ Some queue) }
         ensures consumers { IfOk result (λ queue. ((seen_database self.now).queue queue).members ≡ []) }
         ensures triggers { IfOk result (λ queue. All (λ t. (t.trigger.queue == queue) ≡ false) (seen_database self.now).triggers) }
@@ -529,6 +529,7 @@ impl Db {
 
 /// What `force_tick` does to a queue.
 struct Forced {
+    /// Its number.
     queue: usize,
     /// The value that the sequence gets.
     seq: u64,
@@ -536,7 +537,7 @@ struct Forced {
     newest: u64,
 }
 
-/// The number of the queue of this name, of the queues alone, since `add_trigger` borrows a table meanwhile.
+/// The number of the queue of this name, of the queues alone, for those that have no whole database at hand.
 pub(crate) fn queue_called(alloc: Global, queues: &Queues, queue: &Text) -> Result<usize, Stop>
     ensures ok { (beside : Beside) → IfOk result (λ number. queue_called queue.now (seen_with beside queues.now) ≡ Ok number) }
     ensures stands { IfOk result (λ number. Stands queues.now.queues number) }
@@ -601,6 +602,7 @@ fn with_extra(alloc: Global, event: PlainEvent, extra: &BoxedExtra) -> Result<Ev
     })
 }
 
+/// Equal texts.
 fn copy_extra(alloc: Global, extra: &Extra) -> Result<Extra, NoMemory>
     ensures { IfOk result (λ copy. copy ≡ extra.now) }
 {

@@ -14,7 +14,7 @@ ghost use Rattle.pgq_queues.specs.Seen.{Beside, seen_with, Stands};
 ghost use Rattle.pgq_queues.specs.Traced.{IsTable};
 ghost use Rattle.pgq_db.specs.Seen.{seen_database};
 ghost use Rattle.pgq_db.specs.Gives.{Ran};
-ghost use Rattle.pgq_db.specs.Triggering.{free_queue, trigger_fits};
+ghost use Rattle.pgq_db.specs.Triggering.{queue_of_no_set, trigger_fits};
 
 use crate::db::Db;
 use crate::node::is_set_queue;
@@ -47,16 +47,28 @@ impl Db {
             &self.rows,
             &self.queues,
             &self.node,
-            name,
-            table,
-            queue,
-            backup,
-            ignored.as_slice(),
+            &Asked {
+                name,
+                table,
+                queue,
+                backup,
+                ignored: ignored.as_slice(),
+            },
         )?;
         self.queues.trace(table, schema, trigger)?;
         replies.push(who, Reply::Done)?;
         Ok(())
     }
+}
+
+/// What a statement asks for: a trigger of a table, whose events go into a queue.
+#[derive(Clone, Copy)]
+struct Asked<'a> {
+    name: &'a Text,
+    table: &'a Text,
+    queue: &'a Text,
+    backup: bool,
+    ignored: &'a [Text],
 }
 
 /// The trigger that `add_trigger` makes, and the columns of its table, or why it is refused.
@@ -65,24 +77,20 @@ fn new_trigger<'a>(
     rows: &'a RowDb,
     queues: &Queues,
     node: &NodePart,
-    name: &Text,
-    table: &Text,
-    queue: &Text,
-    backup: bool,
-    ignored: &[Text],
+    asked: &Asked,
 ) -> Result<(TableTrigger, &'a Schema), Stop>
     ensures adds { let d = seen_database (record { rows = rows.now; queues = queues.now; node = node.now }) in
-        IfOk result (λ made. add_trigger d name.now table.now queue.now backup ignored.now
+        IfOk result (λ made. add_trigger d asked.now.name.now asked.now.table.now asked.now.queue.now asked.now.backup asked.now.ignored.now
         ≡ does_marks Done (queued (traced made.0.table made.0.name made.0.trigger) ∷ [])) }
-    ensures table { IfOk result (λ made. IsTable (seen rows.now) made.0.table table.now made.1.now) }
+    ensures table { IfOk result (λ made. IsTable (seen rows.now) made.0.table asked.now.table.now made.1.now) }
     ensures stands { IfOk result (λ made. Stands queues.now.queues made.0.trigger.queue) }
     ensures err { let d = seen_database (record { rows = rows.now; queues = queues.now; node = node.now }) in
-        IfErr result (λ stop. StopsAs stop (add_trigger d name.now table.now queue.now backup ignored.now)) }
+        IfErr result (λ stop. StopsAs stop (add_trigger d asked.now.name.now asked.now.table.now asked.now.queue.now asked.now.backup asked.now.ignored.now)) }
 {
-    let (number, schema) = table_called(alloc, rows, table)?;
-    let into = free_queue(alloc, queues, &node.own, queue)?;
-    check_trigger(alloc, rows, queues, number, schema, name, ignored)?;
-    let trigger = trigger_into(alloc, number, name, into, backup, ignored)?;
+    let (number, schema) = table_called(alloc, rows, asked.table)?;
+    let into = queue_of_no_set(alloc, queues, &node.own, asked.queue)?;
+    check_trigger(alloc, rows, queues, number, schema, asked)?;
+    let trigger = trigger_into(alloc, number, into, asked)?;
     Ok((trigger, schema))
 }
 
@@ -99,15 +107,15 @@ fn table_called<'a>(alloc: Global, rows: &'a RowDb, table: &Text) -> Result<(u32
 }
 
 /// The number of the queue of this name, unless it is a set's.
-fn free_queue(
+fn queue_of_no_set(
     alloc: Global,
     queues: &Queues,
     node: &Option<Node>,
     queue: &Text,
 ) -> Result<usize, Stop>
-    ensures ok { (beside : Beside) → beside.node ≡ node.now → IfOk result (λ number. free_queue queue.now (seen_with beside queues.now) ≡ Ok number) }
+    ensures ok { (beside : Beside) → beside.node ≡ node.now → IfOk result (λ number. queue_of_no_set queue.now (seen_with beside queues.now) ≡ Ok number) }
     ensures stands { IfOk result (λ number. Stands queues.now.queues number) }
-    ensures err { (beside : Beside) → beside.node ≡ node.now → IfErr result (λ stop. StopsAs stop (free_queue queue.now (seen_with beside queues.now))) }
+    ensures err { (beside : Beside) → beside.node ≡ node.now → IfErr result (λ stop. StopsAs stop (queue_of_no_set queue.now (seen_with beside queues.now))) }
 {
     let number = queue_called(alloc, queues, queue)?;
     if is_set_queue(node, queue) {
@@ -116,27 +124,26 @@ fn free_queue(
     Ok(number)
 }
 
-/// Refuses a trigger of this name that ignores these columns, if the table may not have it.
+/// Refuses the trigger if the table may not have it.
 fn check_trigger(
     alloc: Global,
     rows: &RowDb,
     queues: &Queues,
     table: u32,
     schema: &Schema,
-    name: &Text,
-    ignored: &[Text],
+    asked: &Asked,
 ) -> Result<(), Stop>
     requires { schema.now ≡ (seen rows.now).columns table }
-    ensures ok { OnOk result (trigger_fits (seen rows.now) queues.now.triggers table name.now ignored.now ≡ Ok tt) }
-    ensures err { IfErr result (λ stop. StopsAs stop (trigger_fits (seen rows.now) queues.now.triggers table name.now ignored.now)) }
+    ensures ok { OnOk result (trigger_fits (seen rows.now) queues.now.triggers table asked.now.name.now asked.now.ignored.now ≡ Ok tt) }
+    ensures err { IfErr result (λ stop. StopsAs stop (trigger_fits (seen rows.now) queues.now.triggers table asked.now.name.now asked.now.ignored.now)) }
 {
-    if queues.has_trigger(table, name) {
-        return Err(Stop::Refused(Refusal::TriggerExists(name.copy(alloc)?)));
+    if queues.has_trigger(table, asked.name) {
+        return Err(Stop::Refused(Refusal::TriggerExists(asked.name.copy(alloc)?)));
     }
     if queues.trigger_count(table) >= Limit::Triggers.most() {
         return Err(Stop::Refused(Refusal::TooMany(Limit::Triggers)));
     }
-    check_ignored(alloc, schema, ignored)?;
+    check_ignored(alloc, schema, asked.ignored)?;
     match rows.least_writer(table) {
         Some(txid) => Err(Stop::Refused(Refusal::TableBusy(txid))),
         None => Ok(()),
@@ -171,24 +178,22 @@ fn may_ignore(schema: &Schema, name: &Text) -> bool
         .any(|column| column.name == *name && !column.key)
 }
 
-/// A trigger of this name of a table, whose events go to the queue of this number.
+/// The trigger, of the table and the queue of these numbers.
 fn trigger_into(
     alloc: Global,
     table: u32,
-    name: &Text,
     queue: usize,
-    backup: bool,
-    ignored: &[Text],
+    asked: &Asked,
 ) -> Result<TableTrigger, NoMemory>
-    ensures { IfOk result (λ trigger. trigger ≡ record { table = table; name = Some name.now; trigger = record { queue = queue; backup = backup; ignored = ignored.now } }) }
+    ensures { IfOk result (λ trigger. trigger ≡ record { table = table; name = Some asked.now.name.now; trigger = record { queue = queue; backup = asked.now.backup; ignored = asked.now.ignored.now } }) }
 {
-    let mut names = Vec::with_capacity(alloc, ignored.len())?;
-    for column in ignored {
+    let mut names = Vec::with_capacity(alloc, asked.ignored.len())?;
+    for column in asked.ignored {
         names.push(column.copy(alloc)?)?;
     }
     Ok(TableTrigger {
         table,
-        name: Some(name.copy(alloc)?),
-        trigger: Trigger::new(queue, backup, names),
+        name: Some(asked.name.copy(alloc)?),
+        trigger: Trigger::new(queue, asked.backup, names),
     })
 }

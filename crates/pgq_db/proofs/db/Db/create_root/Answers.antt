@@ -5,14 +5,15 @@ use Rattle.sky_model.specs.StepNode.{create_root}
 use Rattle.pgq_queues.specs.Seen.{queues_of}
 use Rattle.pgq_db.specs.Views.{DbView}
 use Rattle.pgq_db.specs.Seen.{seen_database}
-use Rattle.pgq_db.proofs.RootSteps.{stops-by, rooted-as, gives-root}
+use Rattle.pgq_db.proofs.Decided.{stops-there}
+use Rattle.pgq_db.proofs.RootSteps.{rooted-as, gives-root}
 use Rattle.pgq_db.proofs.db.Db.create_root.Goals as goal
 
 pub returns-in_err-check_root : goal.returns-in_err-check_root
 returns-in_err-check_root c =
     let d = seen_database c.args.self.now in
     let stops =
-    stops-by c.in_err-check_root.field-0.0 d (create_root d c.args.now c.args.who c.args.name.now c.args.queue.now) c.args.replies.now
+    stops-there c.in_err-check_root.field-0.0 d c.args.replies.now (create_root d c.args.now c.args.who c.args.name.now c.args.queue.now)
     (c.in_err-check_root.ensures.err d c.args.now c.args.who (ap (λ (v : DbView). v.node.own) (sym c.self.view_is)) (ap (λ (v : DbView). queues_of v.queues) (sym c.self.view_is))) in
     search (rules, stops)
 

@@ -7,14 +7,14 @@ use Rattle.sky_state.specs.Seen.{seen}
 use Rattle.pgq_db.specs.Views.{DbView}
 use Rattle.pgq_db.specs.Seen.{with_node, seen_database}
 use Rattle.pgq_db.proofs.BatchSteps.{gives-shown}
-use Rattle.pgq_db.proofs.RootSteps.{stops-by}
+use Rattle.pgq_db.proofs.Decided.{stops-there}
 use Rattle.pgq_db.proofs.db.Db.get_batch_info.Goals as goal
 
 pub returns-in_err-info : goal.returns-in_err-info
 returns-in_err-info c =
     let d = seen_database c.args.self.now in
     let stops =
-    stops-by c.in_err-info.field-0.0 d (get_batch_info d c.args.id) c.args.replies.now
+    stops-there c.in_err-info.field-0.0 d c.args.replies.now (get_batch_info d c.args.id)
     (subst (λ (v : DbView). StopsAs c.in_err-info.field-0.0 (get_batch_info (seen_database v) c.args.id)) c.self.view_is (c.in_err-info.ensures.err (with_node c.self.inside.node (seen c.self.inside.rows)))) in
     search (rules, stops)
 

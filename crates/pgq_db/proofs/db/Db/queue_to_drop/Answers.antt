@@ -13,7 +13,7 @@ use Rattle.pgq_queues.specs.Seen.{queue_at}
 use Rattle.pgq_db.specs.Views.{DbView}
 use Rattle.pgq_db.specs.Seen.{seen_database}
 use Rattle.pgq_db.proofs.Databases.{drop-triggers}
-use Rattle.pgq_db.proofs.db.Db.unused.Goals as goal
+use Rattle.pgq_db.proofs.db.Db.queue_to_drop.Goals as goal
 
 -- a queue that nobody needs
 drops : (d : Database) (name : List ℕ) (q : ℕ) → queue_called name d ≡ Ok q → is_set_queue name d.node ≡ false → length (d.queue q).members ≡ 0 → first_trigger_into q d.triggers ≡ None

@@ -2,7 +2,7 @@ use Rattle.std.proofs.Common.{rules, sym, ap, ◌∙◌}
 use Rattle.sky_model.specs.Nodes.{is_set_queue}
 use Rattle.pgq_queues.specs.Seen.{seen_with}
 use Rattle.pgq_db.proofs.Decided.{not-there, is-sets, is-free}
-use Rattle.pgq_db.proofs.triggers.free_queue.Goals as goal
+use Rattle.pgq_db.proofs.triggers.queue_of_no_set.Goals as goal
 
 pub returns-in_err-number-clause-err : goal.returns-in_err-number-clause-err
 returns-in_err-number-clause-err c = λ beside same.
