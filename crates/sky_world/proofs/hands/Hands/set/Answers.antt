@@ -5,16 +5,14 @@ use Rattle.londiste_copy.specs.declared.hand.Hand.{Hand}
 use Rattle.sky_world.specs.Hands.{hand_at}
 use Rattle.sky_world.proofs.HandsAt.{hand-stored, hand-added, hand-none, put-back}
 use Rattle.sky_world.proofs.hands.Hands.set.Goals as goal
-use Rattle.sky_world.proofs.hands.Hands.set.Goals.{in-Some+in-Copy+in-Some-index_mut-hand-3+in-One+in-Text-1, in-Some+in-Copy+in-Some-index_mut-hand-3+in-One+in-Null-1, in-Some+in-Copy+in-Some-index_mut-hand-3+in-Listed-1, in-Some+in-Copy+in-None-1, in-Some+in-Batch-1, in-None-1}
+use Rattle.sky_world.proofs.hands.Hands.set.Goals.{in-Some+in-Copy+in-Some-index_mut-hand-3, in-Some+in-Copy+in-None-1, in-Some+in-Batch-1, in-None-1}
 
 -- however what was there before is dropped
 pub returns-in-Some-clause-ok : goal.returns-in-Some-clause-ok
 returns-in-Some-clause-ok c =
     let stored = hand-stored c.args.database c.args.table.now (option_map hand_of c.args.hand) (option_map hand_of c.args.hand) _ c.args.self.now c.in-Some.at _ _ c.self.view_is (sym c.in-Some.ensures) c.index_mut.ensures.value
     c.behind-self.view_is refl in elim c.match-index_mut-hand.branch [
-      | in-Some+in-Copy+in-Some-index_mut-hand-3+in-One+in-Text-1 w ↦ ap hand_at w.self-is ∙ stored
-      | in-Some+in-Copy+in-Some-index_mut-hand-3+in-One+in-Null-1 w ↦ ap hand_at w.self-is ∙ stored
-      | in-Some+in-Copy+in-Some-index_mut-hand-3+in-Listed-1 w ↦ ap hand_at w.self-is ∙ stored
+      | in-Some+in-Copy+in-Some-index_mut-hand-3 w ↦ ap hand_at w.self-is ∙ stored
       | in-Some+in-Copy+in-None-1 w ↦ ap hand_at w.self-is ∙ stored
       | in-Some+in-Batch-1 w ↦ ap hand_at w.self-is ∙ stored
       | in-None-1 w ↦ ap hand_at w.self-is ∙ stored
