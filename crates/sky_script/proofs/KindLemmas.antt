@@ -1,11 +1,12 @@
 -- Going over the bytes of a quoted text.
 use Rattle.std.proofs.Common.{◌≡◌, ◌≢◌, ◌==◌, ◌&&◌, ℕ, ◌+◌, ◌-◌, ◌<◌, ◌≤◌, Bool, true, false, not, cond, List, [], ◌∷◌, ◌++◌, length, take, drop, get_or, refl, sym, ap, ◌∙◌, append_assoc, arith, Option, Some, None, option_map}
-use Rattle.std.proofs.lemmas.List.{drop_more, take_more, get_or-drop, length-drop}
+use Rattle.std.proofs.lemmas.List.{drop_more, take_more, get_or-drop, length-drop, append-nil}
+use Rattle.std.proofs.Math.ListN.{drop_of_length-le}
 use Rattle.std.proofs.lemmas.Bool.{and_parts, ne_eqb}
 use Rattle.std.proofs.Math.Seq.{take-append_seam}
 use Rattle.std.specs.List.{list_all, slice_range}
-use Rattle.std.specs.Str.{IsUtf8}
-use Rattle.std.proofs.lemmas.Str.{is_utf8-from_IsUtf8}
+use Rattle.std.specs.Str.{IsUtf8, IsCharBoundary}
+use Rattle.std.proofs.lemmas.Str.{is_utf8-from_IsUtf8, IsCharBoundary-before_ascii}
 use Rattle.sky_model.specs.Kinds.{is_text_byte, text_from, in_characters, quoted_text}
 
 -- bytes that are characters are a text
@@ -99,6 +100,47 @@ unquotes_plain inside text false from i is order within no_quote no_feed no_zero
     let longer : text ++ slice_range inside from (i + 1) ≡ (text ++ front) ++ get_or inside i 0 ∷ [] =
     ap (λ piece. text ++ piece) (slice_more inside from i order within) ∙ sym (append_assoc text front (get_or inside i 0 ∷ [])) in
     rw longer (unquotes_byte inside (text ++ front) false i within refl no_quote no_feed no_zero so)
+
+-- at the end, after the closing quote, the text is complete
+pub unquotes_closed : (inside text : List ℕ) (quote : Bool) (from i : ℕ) → quote ≡ true → length inside ≤ i
+    → Unquotes inside (text_so_far inside text quote from i) quote i → Some text ≡ text_from false inside
+unquotes_closed inside text true from i is done so =
+    sym (so.so_far ∙ ap (λ bs. before text (text_from true bs)) (drop_of_length-le inside done) ∙ ap (λ t. Some t) (append-nil text))
+unquotes_closed inside text false from i is done so = absurd (cc)
+
+-- and with no closing quote before the end there is no text
+pub unquotes_open : (inside text : List ℕ) (quote : Bool) (from i : ℕ) → quote ≡ false → length inside ≤ i
+    → Unquotes inside (text_so_far inside text quote from i) quote i → None ≡ text_from false inside
+unquotes_open inside text true from i is done so = absurd (cc)
+unquotes_open inside text false from i is done so =
+    sym (so.so_far ∙ ap (λ bs. before (text ++ slice_range inside from i) (text_from false bs)) (drop_of_length-le inside done))
+
+-- nor is there one if a byte follows the closing quote
+pub unquotes_behind : (inside text : List ℕ) (quote : Bool) (from i : ℕ) → quote ≡ true → i < length inside → get_or inside i 0 ≢ 39
+    → Unquotes inside (text_so_far inside text quote from i) quote i → None ≡ text_from false inside
+unquotes_behind inside text true from i is within no_quote so =
+    let b : ℕ = get_or inside i 0 in
+    let rest : List ℕ = drop (i + 1) inside in
+    let bad : text_from true (b ∷ rest) ≡ None = rw (ne_eqb b 39 no_quote) refl in
+    sym (so.so_far ∙ ap (λ bs. before text (text_from true bs)) (drop_more inside i 0 within) ∙ ap (before text) bad)
+unquotes_behind inside text false from i is within no_quote so = absurd (cc)
+
+-- or if a byte is not of a text
+pub unquotes_refused : (inside text : List ℕ) (quote : Bool) (from i b : ℕ) → quote ≡ false → i < length inside → get_or inside i 0 ≡ b → (b == 39) ≡ false → is_text_byte b ≡ false
+    → Unquotes inside (text_so_far inside text quote from i) quote i → None ≡ text_from false inside
+unquotes_refused inside text true from i b is within here no_quote bad so = absurd (cc)
+unquotes_refused inside text false from i b is within here no_quote bad so =
+    let front : List ℕ = text ++ slice_range inside from i in
+    let rest : List ℕ = drop (i + 1) inside in
+    let none : text_from false (b ∷ rest) ≡ None = rw (no_quote, bad) refl in
+    sym (so.so_far ∙ ap (λ bs. before front (text_from false bs)) (drop_more inside i 0 within ∙ ap (λ a. a ∷ rest) here) ∙ ap (before front) none)
+
+-- a word may be cut before a quote
+pub cut_quote : (inside : List ℕ) (i : ℕ) → i < length inside → get_or inside i 0 ≡ 39 → IsCharBoundary inside i
+cut_quote inside i within here = IsCharBoundary-before_ascii inside i within (omega (arith, here))
+
+pub below_next : (from i : ℕ) → from ≤ i → from ≤ i + 1
+below_next from i order = omega arith
 
 -- bytes that stand for themselves, up to the closing quote, are the text
 pub as_written : (text : List ℕ) → list_all (λ b. not (b == 39) && is_text_byte b) text ≡ true → text_from false (text ++ 39 ∷ []) ≡ Some text

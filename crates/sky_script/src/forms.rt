@@ -24,7 +24,6 @@ use std::alloc::Global;
 
 /// The statement with this first word, of the words after it. It is compared only with those of its group, by length: six
 /// bytes, eleven, twelve, fewer than six, between six and eleven, between twelve and eighteen, and more.
-#[tactic(auto, using(crate::proofs::FormLemmas::among_six, crate::proofs::FormLemmas::among_eleven, crate::proofs::FormLemmas::among_twelve, crate::proofs::FormLemmas::among_short, crate::proofs::FormLemmas::among_middle, crate::proofs::FormLemmas::among_long, crate::proofs::FormLemmas::among_longest))]
 pub(crate) fn read_form(alloc: Global, first: &[u8], words: &mut Words) -> Result<Stmt, LineCause>
     ensures { AnswersAmong result first.now all_forms words.old }
 {

@@ -72,7 +72,6 @@ pub(crate) fn name_end(bytes: &[u8]) -> usize
 }
 
 /// Whether bytes are a name that may each be in one.
-#[tactic(auto, using(crate::proofs::SessionLemmas::name_by_first))]
 pub(crate) fn is_whole_name(bytes: &[u8]) -> bool
     requires { list_all kind.continues_name bytes.now ≡ true }
     ensures { result ≡ kind.is_name bytes.now }
@@ -150,7 +149,6 @@ fn all_stand_for_themselves(bytes: &[u8]) -> bool
 }
 
 /// What is before the closing quote, if no byte of it stands for another. Most texts are so, and are taken as they are.
-#[tactic(auto, using(crate::proofs::KindLemmas::text_from_as_written))]
 fn as_written(inside: &str) -> Option<&str>
     ensures { IfSome result (λ text. kind.text_from false inside.now ≡ Some text.now) }
 {
@@ -187,7 +185,6 @@ fn unquoted(alloc: Global, inside: &str) -> Result<Option<String>, NoMemory>
 }
 
 /// The text of a quoted word, if it is one.
-#[tactic(auto, using(crate::proofs::KindLemmas::in_characters_utf8))]
 pub(crate) fn quoted_text(alloc: Global, word: &str) -> Result<Option<Text>, NoMemory>
     ensures { IfOk result (λ text. text ≡ kind.quoted_text word.now) }
 {

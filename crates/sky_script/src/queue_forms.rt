@@ -71,7 +71,6 @@ pub(crate) fn insert_event(alloc: Global, words: &mut Words) -> Result<Stmt, Lin
 }
 
 /// The four further texts of an event, to the line's end.
-#[tactic(auto, using(crate::proofs::ReadingLemmas::answers_memory))]
 fn extra(alloc: Global, words: &mut Words) -> Result<BoxedExtra, LineCause>
     ensures { ReadsExtra result words.old }
 {

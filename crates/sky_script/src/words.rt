@@ -271,9 +271,10 @@ impl<'a> Words<'a> {
             _ => false,
         }
     }
+}
 
+impl<'a> Words<'a> {
     /// The session's name: the first word without the colon at its end.
-    #[tactic(auto, using(crate::proofs::SessionLemmas::session_named))]
     pub fn session(&mut self) -> Result<&'a str, LineCause>
         requires { self.old.number ≡ 1 }
         ensures ok { IfOk result (λ session. line_of_words self.old.left ≡ run_of session.now (statement_of self.new.left)) }
@@ -335,6 +336,21 @@ impl<'a> Words<'a> {
         read_form(alloc, form.as_bytes(), self)
     }
 
+    /// Takes a word in quotes, if one comes next whose bytes each stand for themselves, and gives what is between them.
+    fn plain_text(&mut self) -> Option<&'a str>
+        ensures text { IfSome result (λ text. kind.quoted_text (in_quotes text.now) ≡ Some text.now) }
+        ensures word { IfSome result (λ text. (self.old.left ≡ in_quotes text.now ∷ self.new.left) × (self.new.number ≡ self.old.number + 1)) }
+        ensures none { IfNone result (self.new ≡ self.old) }
+    {
+        let (text, rest) = split_text(self.rest?)?;
+        self.rest = rest;
+        self.taken += 1;
+        Some(text)
+    }
+}
+
+#[tactic(auto, using(crate::proofs::ReadingLemmas::one_word), unfolding(crate::specs::Reading::Answers))]
+impl<'a> Words<'a> {
     pub(crate) fn name(&mut self, alloc: Global) -> Result<Text, LineCause>
         ensures { Reads Name result self.old self.new }
     {
@@ -360,18 +376,6 @@ impl<'a> Words<'a> {
     {
         let word = self.word()?;
         number_of(word.as_bytes(), most).ok_or(self.refused())
-    }
-
-    /// Takes a word in quotes, if one comes next whose bytes each stand for themselves, and gives what is between them.
-    fn plain_text(&mut self) -> Option<&'a str>
-        ensures text { IfSome result (λ text. kind.quoted_text (in_quotes text.now) ≡ Some text.now) }
-        ensures word { IfSome result (λ text. (self.old.left ≡ in_quotes text.now ∷ self.new.left) × (self.new.number ≡ self.old.number + 1)) }
-        ensures none { IfNone result (self.new ≡ self.old) }
-    {
-        let (text, rest) = split_text(self.rest?)?;
-        self.rest = rest;
-        self.taken += 1;
-        Some(text)
     }
 
     pub(crate) fn opt_text(&mut self, alloc: Global) -> Result<Option<Text>, LineCause>

@@ -1,6 +1,6 @@
 use Rattle.std.proofs.Common.{◌∙◌, sym, ap, arith, Some, option_map, string_bytes}
 use Rattle.std.proofs.lemmas.Str.{IsUtf8-string_bytes}
-use Rattle.sky_script.proofs.KindLemmas.{quoted_text_of}
+use Rattle.sky_script.proofs.KindLemmas.{quoted_text_of, in_characters_utf8}
 use Rattle.sky_script.proofs.TextLemmas.{cut_first}
 use Rattle.sky_script.proofs.kinds.quoted_text.Goals as goal
 
@@ -19,3 +19,6 @@ returns-in-Some-2 c =
     let inside = c.range_from-inside in
     let found = quoted_text_of c.args.word.now first.field-0-1.now inside.result.now _ first.field-0-0.now begins first.field-0-0-test inside.ensures.value is utf8 in
     ap (λ text. Some text) c.from_string.ensures ∙ sym found
+
+pub returns-in-Some : goal.returns-in-Some
+returns-in-Some c = grind (arith, in_characters_utf8)
