@@ -1,12 +1,12 @@
 -- Going over the bytes of a line up to the space that ends its first word.
-use Rattle.std.proofs.Common.{◌≡◌, ◌==◌, ◌&&◌, not, ℕ, ◌+◌, ◌<◌, ◌≤◌, Bool, true, false, cond, List, [], ◌∷◌, ◌++◌, length, take, drop, get_or, refl, sym, ap, ◌∙◌, append_assoc, arith}
-use Rattle.std.proofs.lemmas.Bool.{and_parts, not-true}
+use Rattle.std.proofs.Common.{◌≡◌, ◌≢◌, ◌==◌, ◌&&◌, not, ℕ, ◌+◌, ◌<◌, ◌≤◌, Bool, true, false, cond, List, [], ◌∷◌, ◌++◌, length, take, drop, get_or, refl, subst, sym, ap, ◌∙◌, append_assoc, arith}
+use Rattle.std.proofs.lemmas.Bool.{and_parts, not-true, ne_eqb}
 use Rattle.std.proofs.lemmas.List.{drop_more, take_more, take_all, append-nil, take-append-drop}
 use Rattle.std.proofs.Math.ListN.{drop_of_length-le}
 use Rattle.std.specs.List.{list_all, slice_range}
 use Rattle.sky_model.specs.Kinds.{is_text_byte}
 use Rattle.sky_model.specs.Words.{is_parting, quoted_after, with_first, pieces, words}
-use Rattle.sky_script.specs.Unread.{in_quotes}
+use Rattle.sky_script.specs.Unread.{in_quotes, EndsWord}
 
 -- pieces with these bytes in front of the first
 abbrev pub behind : List ℕ → List (List ℕ) → List (List ℕ)
@@ -53,6 +53,40 @@ reaches_end bytes quoted i inside ends so =
 pub reaches_all : (bytes : List ℕ) (quoted : Bool) (i : ℕ) → length bytes ≤ i → Reaches bytes quoted i → words bytes ≡ bytes ∷ []
 reaches_all bytes quoted i done so =
     so.so_far ∙ ap (λ front. behind front (pieces quoted (drop i bytes))) (take_all i bytes done) ∙ ap (λ bs. behind bytes (pieces quoted bs)) (drop_of_length-le bytes done) ∙ ap (λ front. front ∷ []) (append-nil bytes)
+
+and_false : (a : Bool) → (a && false) ≡ false
+and_false true = refl
+and_false false = refl
+
+-- a byte that is neither a space nor a quote ends no word and opens no quote
+pub reaches_plain : (bytes : List ℕ) (quoted : Bool) (i : ℕ) → i < length bytes → get_or bytes i 0 ≢ 32 → get_or bytes i 0 ≢ 39 → Reaches bytes quoted i → Reaches bytes quoted (i + 1)
+reaches_plain bytes quoted i inside no_space no_quote so =
+    let b : ℕ = get_or bytes i 0 in
+    let goes : is_parting quoted b ≡ false = ap (λ v. not quoted && v) (ne_eqb b 32 no_space) ∙ and_false (not quoted) in
+    let same : quoted_after quoted b ≡ quoted = ap (λ v. cond v (not quoted) quoted) (ne_eqb b 39 no_quote) in
+    subst (λ q. Reaches bytes q (i + 1)) same (reaches_more bytes quoted i inside goes so)
+
+-- and so is each byte above a quote
+pub reaches_above : (bytes : List ℕ) (quoted : Bool) (i : ℕ) → i < length bytes → 39 < get_or bytes i 0 → Reaches bytes quoted i → Reaches bytes quoted (i + 1)
+reaches_above bytes quoted i inside above so = reaches_plain bytes quoted i inside (λ is. omega (arith, is, above)) (λ is. omega (arith, is, above)) so
+
+-- a space outside quotes ends the word
+pub ends_at : (bytes : List ℕ) (i : ℕ) → i < length bytes → get_or bytes i 0 ≡ 32 → Reaches bytes false i → EndsWord i bytes
+ends_at bytes i inside space so = record {
+  within = omega arith;
+  space = λ _. space;
+  parted = λ _. reaches_end bytes false i inside (rw space refl) so;
+  whole = λ is. absurd (omega (arith, is, inside));
+}
+
+-- and so does the end
+pub ends_at_end : (bytes : List ℕ) (quoted : Bool) (i : ℕ) → length bytes ≤ i → Reaches bytes quoted i → EndsWord (length bytes) bytes
+ends_at_end bytes quoted i done so = record {
+  within = omega arith;
+  space = λ less. absurd (omega (arith, less));
+  parted = λ less. absurd (omega (arith, less));
+  whole = λ _. reaches_all bytes quoted i done so;
+}
 
 -- a text without a quote, from after its opening quote on: its closing quote is in the same word
 pieces_in_quotes : (text tail : List ℕ) (rest : List (List ℕ)) → list_all (λ b. not (b == 39) && is_text_byte b) text ≡ true → pieces false tail ≡ [] ∷ rest

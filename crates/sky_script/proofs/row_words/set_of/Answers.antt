@@ -1,9 +1,14 @@
-use Rattle.std.proofs.Common.{arith}
+use Rattle.std.proofs.Common.{sym, ap, ◌∙◌, arith}
+use Rattle.sky_model.specs.Kinds as kind
 use Rattle.sky_script.proofs.TextLemmas.{cut_at, cut_behind}
 use Rattle.sky_script.proofs.row_words.set_of.Goals as goal
 
 pub range-requires-clause-end_boundary : goal.range-requires-clause-end_boundary
-range-requires-clause-end_boundary c = cut_at 61 c.args.word.now c.in-Some.at (omega arith) (cc)
+range-requires-clause-end_boundary c =
+    let found = ap (kind.first_place 61) (sym c.as_bytes.ensures.value) ∙ sym c.first_place.ensures ∙ c.in-Some.is in
+    cut_at 61 c.args.word.now c.in-Some.at (omega arith) found
 
 pub range_from-requires : goal.range_from-requires
-range_from-requires c = λ _. cut_behind 61 c.args.word.now c.in-Some.at (omega arith) c.utf8.word (cc)
+range_from-requires c = λ _.
+    let found = ap (kind.first_place 61) (sym c.as_bytes.ensures.value) ∙ sym c.first_place.ensures ∙ c.in-Some.is in
+    cut_behind 61 c.args.word.now c.in-Some.at (omega arith) c.utf8.word found
