@@ -1,6 +1,7 @@
 use Rattle.std.proofs.Common.{sym, ap, ◌∙◌, arith}
 use Rattle.sky_model.specs.Kinds as kind
 use Rattle.sky_script.proofs.TextLemmas.{cut_at, cut_behind}
+use Rattle.sky_script.proofs.WordLemmas.{slice_front}
 use Rattle.sky_script.proofs.row_words.set_of.Goals as goal
 
 pub range-requires-clause-end_boundary : goal.range-requires-clause-end_boundary
@@ -12,3 +13,8 @@ pub range_from-requires : goal.range_from-requires
 range_from-requires c = λ _.
     let found = ap (kind.first_place 61) (sym c.as_bytes.ensures.value) ∙ sym c.first_place.ensures ∙ c.in-Some.is in
     cut_behind 61 c.args.word.now c.in-Some.at (omega arith) c.utf8.word found
+
+pub returns-in-Some : goal.returns-in-Some
+returns-in-Some c =
+    let found = ap (kind.first_place 61) (sym c.as_bytes.ensures.value) ∙ sym c.first_place.ensures ∙ c.in-Some.is in
+    rw found (rw (c.range.ensures.value ∙ slice_front c.args.word.now c.in-Some.at, c.range_from.ensures.value) at c.set_by.ensures)
