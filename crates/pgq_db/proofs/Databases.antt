@@ -13,7 +13,7 @@ use Rattle.sky_model.specs.declared.reply.Reply.TheVariants.{Done, Number, Refus
 use Rattle.sky_model.specs.declared.reply.Limit.TheVariants.{Queues, Triggers}
 use Rattle.sky_model.specs.declared.reply.Refusal.{Refusal}
 use Rattle.sky_model.specs.declared.reply.Refusal.TheVariants.{BadColumn, HasConsumers, HasTriggers, NoTable, QueueBusy, ReservedType, SetQueue, TableBusy, TooMany, TriggerExists, EventIdsSpent, IdsSpent}
-use Rattle.sky_model.specs.declared.stmt.Stmt.{Stmt}
+use Rattle.sky_model.specs.declared.stmt.DbStmt.{DbStmt}
 use Rattle.sky_model.specs.declared.stmt.Where.{Where}
 use Rattle.sky_model.specs.History.{Mark, sight_taken, block_failed, queued, QueueMark, made, raised, put, dropped, traced}
 use Rattle.sky_model.specs.Sessions.{Block, outside, inside}
@@ -231,7 +231,7 @@ abort-nothing who txid inside refusal is = ap (λ b. if b then end_of false who 
 abort-nothing who txid _ refusal is = refl
 
 -- what a statement answers that came in
-pub answers-entered : (d s1 s2 : Database) (time now : ℤ) (who : ℕ) (stmt : Stmt) (place : Where) (before after : List (ℕ × Reply)) → time ≡ now → place ≡ where_of stmt
+pub answers-entered : (d s1 s2 : Database) (time now : ℤ) (who : ℕ) (stmt : DbStmt) (place : Where) (before after : List (ℕ × Reply)) → time ≡ now → place ≡ where_of stmt
     → Enters d.part s1.part who place None → s1 ≡ record d { part = s1.part }
     → Answers s1 s2 before after who (or_refused who (s1.part.session who) (form s1 (shown_by s1) time who stmt))
     → Answers d s2 before after who (statement database_by_itself d now who stmt)
@@ -261,7 +261,7 @@ answers-entered d s1 s2 time now who stmt place before after at is enters but gi
     of false e = there d e
 
 -- and one that was refused at the door
-pub answers-turned_away : (d s1 s2 : Database) (now : ℤ) (who : ℕ) (stmt : Stmt) (place : Where) (before after : List (ℕ × Reply)) (refusal : Refusal) → place ≡ where_of stmt
+pub answers-turned_away : (d s1 s2 : Database) (now : ℤ) (who : ℕ) (stmt : DbStmt) (place : Where) (before after : List (ℕ × Reply)) (refusal : Refusal) → place ≡ where_of stmt
     → Enters d.part s1.part who place (Some refusal) → s1 ≡ record d { part = s1.part }
     → Answers s1 s2 before after who (or_refused who (s1.part.session who) (Err refusal)) → Answers d s2 before after who (statement database_by_itself d now who stmt)
 answers-turned_away d s1 s2 now who stmt place before after refusal is enters but answers =
@@ -272,7 +272,7 @@ answers-turned_away d s1 s2 now who stmt place before after refusal is enters bu
     turned = subst (λ p. Enters d.part s1.part who p (Some refusal)) is enters
 
 -- the reply alone
-pub reply-entered : (d s1 : Database) (now : ℤ) (who : ℕ) (stmt : Stmt) (place : Where) → place ≡ where_of stmt → Enters d.part s1.part who place None → s1 ≡ record d { part = s1.part }
+pub reply-entered : (d s1 : Database) (now : ℤ) (who : ℕ) (stmt : DbStmt) (place : Where) → place ≡ where_of stmt → Enters d.part s1.part who place None → s1 ≡ record d { part = s1.part }
     → (statement database_by_itself d now who stmt).reply ≡ (or_refused who (s1.part.session who) (form s1 (shown_by s1) now who stmt)).reply
 reply-entered d s1 now who stmt place is enters but =
     ap (λ o. (runs_if m (where_of stmt) who d o).reply) entered.0
@@ -289,7 +289,7 @@ reply-entered d s1 now who stmt place is enters but =
     of true e = ap (λ (x : Database). (or_refused who (x.part.session who) (form x (shown_by x) now who stmt)).reply) (sym e)
     of false e = ap (λ (x : Database). (or_refused who (x.part.session who) (form x (shown_by x) now who stmt)).reply) (sym e)
 
-pub reply-turned_away : (d s1 : Database) (now : ℤ) (who : ℕ) (stmt : Stmt) (place : Where) (refusal : Refusal) → place ≡ where_of stmt → Enters d.part s1.part who place (Some refusal)
+pub reply-turned_away : (d s1 : Database) (now : ℤ) (who : ℕ) (stmt : DbStmt) (place : Where) (refusal : Refusal) → place ≡ where_of stmt → Enters d.part s1.part who place (Some refusal)
     → (statement database_by_itself d now who stmt).reply ≡ Refused refusal
 reply-turned_away d s1 now who stmt place refusal is enters =
     ap (λ o. (runs_if (making database_by_itself now who stmt) (where_of stmt) who d o).reply) (subst (λ p. Enters d.part s1.part who p (Some refusal)) is enters).0

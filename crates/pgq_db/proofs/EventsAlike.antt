@@ -22,14 +22,15 @@ use Rattle.sky_model.specs.Gates.{RowWrite, takes, passed, passed_all, by_gate}
 use Rattle.sky_model.specs.Settling.{Turn, settling}
 use Rattle.sky_model.specs.Calls.{row_turn, database_turn}
 use Rattle.sky_model.specs.declared.stmt.RowStmt.{RowStmt}
-use Rattle.sky_model.specs.declared.stmt.Stmt.TheVariants.{Row}
+use Rattle.sky_model.specs.declared.stmt.DbStmt.TheVariants.{Row}
 use Rattle.sky_histories.proofs.RowOutcomes.{RowMarks, TurnOfRows, failure-rows, itself-rows, by_gate-rows, settling-rows-by, row_turn-rows-by}
 use Rattle.sky_histories.proofs.Telling.{IsOther, TellsAlike, SameTold, settling-told, row_turn-told}
 use Rattle.sky_histories.proofs.DatabaseStanding.{after_marks-append}
 use Rattle.sky_histories.proofs.Inserted.{Inserted}
 use Rattle.sky_histories.proofs.Inserted as inserted
 use Rattle.sky_histories.proofs.GatedLemmas.{is_no_write, WritesNone, plain-if}
-use Rattle.sky_histories.proofs.StatementMarks.{AnyReply, no_more, each-failure}
+use Rattle.sky_histories.proofs.StatementMarks.{AnyReply, each-failure}
+use Rattle.sky_model.specs.Permits.{of_any}
 use Rattle.sky_model.specs.SessionMarks.{failure}
 use Rattle.sky_model.specs.Sessions.{Block}
 use Rattle.pgq_queues.specs.Views.{QueueView, TracedTableView, QueuesView}
@@ -389,4 +390,4 @@ unwritten node p q (mark ∷ marks) rows plain = unwritten node (after_part p ma
 pub failure-unwritten : (node : NodePart) (p : RowPart) (q : QueuesView) (who : ℕ) (o : Option ℕ) (b : Block)
     → seen_with (with_node node (after_part_marks p (failure who o b))) (passed_all event_rule q (failure who o b)) ≡ after_marks (seen_with (with_node node p) q) (failure who o b)
 failure-unwritten node p q who o b =
-    unwritten node p q (failure who o b) (failure-rows who o b) (each-failure AnyReply is_no_write (λ _. tt) (plain-if no_more refl) who o b)
+    unwritten node p q (failure who o b) (failure-rows who o b) (each-failure AnyReply is_no_write (λ _. tt) (plain-if of_any refl) who o b)

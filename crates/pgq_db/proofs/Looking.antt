@@ -12,8 +12,9 @@ use Rattle.sky_model.specs.declared.reply.Reply.TheVariants as answer
 use Rattle.sky_model.specs.Outcome.{Checked, Outcome, ◌>>=◌, found_or, answers, reply_of, or_refused}
 use Rattle.sky_model.specs.Sessions.{Session}
 use Rattle.sky_model.specs.StepConsumer.{get_batch_events}
-use Rattle.sky_model.specs.declared.stmt.Stmt.{Stmt}
-use Rattle.sky_model.specs.declared.stmt.Stmt.TheVariants.{GetBatchEvents, EventRetry}
+use Rattle.sky_model.specs.declared.stmt.DbStmt.{DbStmt}
+use Rattle.sky_model.specs.declared.stmt.DbStmt.TheVariants.{Queue}
+use Rattle.sky_model.specs.declared.stmt.QueueStmt.TheVariants.{GetBatchEvents, EventRetry}
 use Rattle.sky_model.specs.declared.stop.Stop.TheVariants.{Refused}
 use Rattle.pgq_queues.specs.declared.batch.Batch as read
 use Rattle.pgq_queues.specs.declared.batch.Span.{Span}
@@ -90,24 +91,24 @@ no-other-same q (Some b) = λ n apart. refl
 
 -- ---- a statement, part by part
 
-pub looks-none : (old new : QueuesView) (stmt : Stmt) → ReadsNone old new → LooksWithin old new stmt
-looks-none old new (GetBatchEvents id) none = λ n. let same = none n in omega (arith, same)
-looks-none old new (EventRetry id event seconds) none = λ n. let same = none n in omega (arith, same)
+pub looks-none : (old new : QueuesView) (stmt : DbStmt) → ReadsNone old new → LooksWithin old new stmt
+looks-none old new (Queue (GetBatchEvents id)) none = λ n. let same = none n in omega (arith, same)
+looks-none old new (Queue (EventRetry id event seconds)) none = λ n. let same = none n in omega (arith, same)
 looks-none old new _ none = tt
 
-pub looks-done : (old new : QueuesView) (stmt : Stmt) (done : Unit {0}) → RanWithin old new stmt (Ok done) → LooksWithin old new stmt
-looks-done old new (GetBatchEvents id) done looks = looks
-looks-done old new (EventRetry id event seconds) done looks = looks
+pub looks-done : (old new : QueuesView) (stmt : DbStmt) (done : Unit {0}) → RanWithin old new stmt (Ok done) → LooksWithin old new stmt
+looks-done old new (Queue (GetBatchEvents id)) done looks = looks
+looks-done old new (Queue (EventRetry id event seconds)) done looks = looks
 looks-done old new _ done looks = tt
 
-pub looks-then : (old mid new : QueuesView) (stmt : Stmt) → LooksWithin old mid stmt → ReadsNone mid new → LooksWithin old new stmt
-looks-then old mid new (GetBatchEvents id) looks none = λ n. let most = looks n in let same = none n in omega (arith, most, same)
-looks-then old mid new (EventRetry id event seconds) looks none = λ n. let most = looks n in let same = none n in omega (arith, most, same)
+pub looks-then : (old mid new : QueuesView) (stmt : DbStmt) → LooksWithin old mid stmt → ReadsNone mid new → LooksWithin old new stmt
+looks-then old mid new (Queue (GetBatchEvents id)) looks none = λ n. let most = looks n in let same = none n in omega (arith, most, same)
+looks-then old mid new (Queue (EventRetry id event seconds)) looks none = λ n. let most = looks n in let same = none n in omega (arith, most, same)
 looks-then old mid new _ looks none = tt
 
-pub looks-refused : (old mid new : QueuesView) (stmt : Stmt) (refusal : Refusal) → RanWithin old mid stmt (Err (Refused refusal)) → ReadsNone mid new → LooksWithin old new stmt
-looks-refused old mid new (GetBatchEvents id) refusal looks none = λ n. let most = looks n in let same = none n in omega (arith, most, same)
-looks-refused old mid new (EventRetry id event seconds) refusal looks none = λ n. let most = looks n in let same = none n in omega (arith, most, same)
+pub looks-refused : (old mid new : QueuesView) (stmt : DbStmt) (refusal : Refusal) → RanWithin old mid stmt (Err (Refused refusal)) → ReadsNone mid new → LooksWithin old new stmt
+looks-refused old mid new (Queue (GetBatchEvents id)) refusal looks none = λ n. let most = looks n in let same = none n in omega (arith, most, same)
+looks-refused old mid new (Queue (EventRetry id event seconds)) refusal looks none = λ n. let most = looks n in let same = none n in omega (arith, most, same)
 looks-refused old mid new _ refusal looks none = tt
 
 -- ---- the events that are listed
@@ -116,19 +117,19 @@ pub lists-reply : (old new : QueuesView) (id : ℕ) (events_of : ℕ → Option 
     → ListsFrom old new id (reply_of (get_batch_events events_of id))
 lists-reply old new id events_of events are lists = subst (λ found. ListsFrom old new id (reply_of (found_or found NoBatch >>= (λ es. answers (answer.Events es))))) are lists
 
-pub lists-done : (old new : QueuesView) (stmt : Stmt) (who : ℕ) (s : Session) (checked : Checked Outcome) → ListsLooked old new stmt (reply_of checked) → ListsLooked old new stmt (or_refused who s checked).reply
+pub lists-done : (old new : QueuesView) (stmt : DbStmt) (who : ℕ) (s : Session) (checked : Checked Outcome) → ListsLooked old new stmt (reply_of checked) → ListsLooked old new stmt (or_refused who s checked).reply
 lists-done old new stmt who s (Ok outcome) lists = lists
 lists-done old new stmt who s (Err refusal) lists = lists
 
-pub lists-refused : (old new : QueuesView) (stmt : Stmt) (reply : Reply) (refusal : Refusal) → reply ≡ answer.Refused refusal → ListsLooked old new stmt reply
+pub lists-refused : (old new : QueuesView) (stmt : DbStmt) (reply : Reply) (refusal : Refusal) → reply ≡ answer.Refused refusal → ListsLooked old new stmt reply
 lists-refused old new stmt reply refusal is = subst (ListsLooked old new stmt) (sym is) (of stmt)
   where
-    of : (stmt : Stmt) → ListsLooked old new stmt (answer.Refused refusal)
-    of (GetBatchEvents id) = tt
+    of : (stmt : DbStmt) → ListsLooked old new stmt (answer.Refused refusal)
+    of (Queue (GetBatchEvents id)) = tt
     of _ = tt
 
-pub lists-then : (old mid new : QueuesView) (stmt : Stmt) (reply : Reply) → ListsLooked old mid stmt reply → ReadsNone mid new → ListsLooked old new stmt reply
-lists-then old mid new (GetBatchEvents id) (answer.Events events) lists none = of (batch_at old id) lists
+pub lists-then : (old mid new : QueuesView) (stmt : DbStmt) (reply : Reply) → ListsLooked old mid stmt reply → ReadsNone mid new → ListsLooked old new stmt reply
+lists-then old mid new (Queue (GetBatchEvents id)) (answer.Events events) lists none = of (batch_at old id) lists
   where
     of : (o : Option Batch) → LooksFrom old mid events o → LooksFrom old new events o
     of None lists = tt
@@ -136,5 +137,5 @@ lists-then old mid new (GetBatchEvents id) (answer.Events events) lists none = o
         let same = none b.queue in
         let least = lists (omega (arith, same, few)) in
         omega (arith, same, least)
-lists-then old mid new (GetBatchEvents id) _ lists none = tt
+lists-then old mid new (Queue (GetBatchEvents id)) _ lists none = tt
 lists-then old mid new _ reply lists none = tt

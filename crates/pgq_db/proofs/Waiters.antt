@@ -5,16 +5,17 @@ use Rattle.std.proofs.lemmas.Bool.{and_parts}
 use Rattle.std.proofs.lemmas.Bool.Decides.{nat_tests}
 use Rattle.std.proofs.lemmas.List.Elements.{All-cons, All-append, All-filter}
 use Rattle.sky_keys.specs.Waits.{Waiting, is_waiting}
-use Rattle.sky_model.specs.declared.stmt.Stmt.{Stmt}
+use Rattle.sky_model.specs.declared.stmt.DbStmt.{DbStmt}
 use Rattle.sky_model.specs.declared.reply.Reply.{Reply}
 use Rattle.sky_model.specs.History.{Mark, ended, sight_taken, tabled, waits, waited, queued, made, noded, NodeMark, hold_begun, hold_ended}
-use Rattle.sky_model.specs.Sessions.{Block}
+use Rattle.sky_model.specs.Sessions.{Block, Session}
 use Rattle.sky_model.specs.State.{Database, after_mark, after_marks, RowPart}
+use Rattle.sky_model.specs.Permits.{Leaves, of_any, may_leave, permit_of}
 use Rattle.sky_model.specs.Allowed.{where_of, allowed}
 use Rattle.sky_model.specs.Reader.{PartReader, database_by_itself, within_part, shown_by}
 use Rattle.sky_model.specs.Settling.{Turn, turn_of, behind_marks, ready, resumed, goes_on, settles, settling, with_settling}
 use Rattle.sky_model.specs.Calls.{form, making, statement, database_turn}
-use Rattle.sky_histories.proofs.StatementMarks.{EachMark, when-true, each-rest, Gives as Leaves, AnyReply, gives-map, Kinds, no_more, may_leave, kinds, gives-form, each-failure, given-runs}
+use Rattle.sky_histories.proofs.StatementMarks.{EachMark, when-true, each-rest, Gives as Given, AnyReply, gives-map, gives-form, each-failure, given-runs}
 use Rattle.sky_histories.proofs.Resting.{is-ready, KeepsPart, waiting-resumed, behind-append}
 use Rattle.sky_histories.proofs.DatabaseResting.{database-keeps}
 use Rattle.sky_histories.proofs.DatabaseStanding.{after_marks-append, behind-all}
@@ -29,22 +30,22 @@ is_own who _ = true
 abbrev OwnWaits : ℕ → List Mark → Type 0
 OwnWaits who marks = EachMark (is_own who) marks
 
-own-plain : (who v : ℕ) (mark : Mark) → may_leave no_more v mark ≡ true → is_own who mark ≡ true
-own-plain who v (tabled (waits w table key attempt)) e = absurd (cc)
-own-plain who v _ e = refl
+own-plain : (who : ℕ) (s : Session) (v : ℕ) (mark : Mark) → may_leave of_any s v mark ≡ true → is_own who mark ≡ true
+own-plain who s v (tabled (waits w table key attempt)) e = absurd (cc)
+own-plain who s v _ e = refl
 
-own-form : (d : Database) (now : ℤ) (who : ℕ) (stmt : Stmt) → Leaves AnyReply (is_own who) (form d (shown_by d) now who stmt)
+own-if : (k : Leaves) (s : Session) (who : ℕ) (mark : Mark) → may_leave k s who mark ≡ true → is_own who mark ≡ true
+own-if k s who (tabled (waits w table key attempt)) e = (and_parts k.waits_for (w == who) e).1
+own-if k s who _ e = refl
+
+own-form : (d : Database) (now : ℤ) (who : ℕ) (stmt : DbStmt) → Given AnyReply (is_own who) (form d (shown_by d) now who stmt)
 own-form d now who stmt =
-    gives-map AnyReply AnyReply (may_leave k who) (is_own who) (λ reply any. any) own _ (gives-form who d (shown_by d) now stmt)
+    gives-map AnyReply AnyReply (may_leave (permit_of stmt).leaves s who) (is_own who) (λ reply any. any) (own-if (permit_of stmt).leaves s who) _ (gives-form who d (shown_by d) now stmt)
   where
-    k : Kinds
-    k = kinds (d.part.session who).is_open stmt
+    s : Session
+    s = d.part.session who
 
-    own : (mark : Mark) → may_leave k who mark ≡ true → is_own who mark ≡ true
-    own (tabled (waits w table key attempt)) e = (and_parts k.blocks (w == who) e).1
-    own _ e = refl
-
-own-statement : (d : Database) (now : ℤ) (who : ℕ) (stmt : Stmt) → OwnWaits who (statement database_by_itself d now who stmt).marks
+own-statement : (d : Database) (now : ℤ) (who : ℕ) (stmt : DbStmt) → OwnWaits who (statement database_by_itself d now who stmt).marks
 own-statement d now who stmt =
     (given-runs AnyReply (is_own who) (λ _. tt) (own-plain who) (making database_by_itself now who stmt) (where_of stmt) who d
     (allowed (is_waiting who d.part.waiting) (d.part.session who).is_open (d.part.session who).block (where_of stmt))
@@ -152,7 +153,7 @@ stays-within now d s who turn known own is = record {
 }
 
 -- a statement
-pub statement-within : (d s : Database) (now : ℤ) (who : ℕ) (stmt : Stmt) → s ≡ after_marks d (database_turn database_by_itself d now who stmt).marks
+pub statement-within : (d s : Database) (now : ℤ) (who : ℕ) (stmt : DbStmt) → s ≡ after_marks d (database_turn database_by_itself d now who stmt).marks
     → StaysWithin d s who (database_turn database_by_itself d now who stmt).answers
 statement-within d s now who stmt =
     stays-within now d s who (turn_of who (statement database_by_itself d now who stmt))

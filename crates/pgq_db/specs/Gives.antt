@@ -1,7 +1,5 @@
 -- What a method of the code gives, by what the database showed.
-use Rattle.std.specs.Prelude.{◌≡◌, ℕ, Bool, true, false, List, [], ◌∷◌, ◌++◌, Result, Ok, Err, is_ok}
-use Rattle.sky_model.specs.declared.stmt.Stmt.{Stmt}
-use Rattle.sky_model.specs.declared.stmt.Stmt.TheVariants.{Row, Node, Clock, PgqdOn, PgqdOff}
+use Rattle.std.specs.Prelude.{◌≡◌, ℕ, true, List, [], ◌∷◌, ◌++◌, Result, Ok, Err, is_ok}
 use Rattle.sky_model.specs.declared.reply.Reply.{Reply}
 use Rattle.sky_model.specs.declared.stop.Stop.{Stop}
 use Rattle.sky_model.specs.Outcome.{Outcome, Checked, reply_of, marks_of}
@@ -11,23 +9,6 @@ use Rattle.sky_model.specs.State.{Database, after_marks}
 use Rattle.sky_model.specs.Settling.{Turn, turn_of}
 use Rattle.pgq_db.specs.Views.{DbView}
 use Rattle.pgq_db.specs.Seen.{seen_database}
-
--- whether the world decides a statement: no database has the clock, the names of nodes, or whether a daemon is on
-abbrev pub is_worlds : Stmt → Bool
-is_worlds (Node stmt) = true
-is_worlds (Clock time) = true
-is_worlds PgqdOn = true
-is_worlds PgqdOff = true
-is_worlds _ = false
-
--- whether a statement is neither one on rows nor one that the world decides
-abbrev pub is_on_queues : Stmt → Bool
-is_on_queues (Row stmt) = false
-is_on_queues (Node stmt) = false
-is_on_queues (Clock time) = false
-is_on_queues PgqdOn = false
-is_on_queues PgqdOff = false
-is_on_queues _ = true
 
 -- the answers are the turn's, and the database is then as after its marks
 pub record Gives (old new : Database) (replies : List (ℕ × Reply)) (turn : Turn) : Type 0 where

@@ -4,8 +4,9 @@ use Rattle.sky_val.specs.declared.event.Event.{Event}
 use Rattle.sky_model.specs.History.{Batch}
 use Rattle.sky_model.specs.declared.reply.Reply.{Reply}
 use Rattle.sky_model.specs.declared.reply.Reply.TheVariants.{Events}
-use Rattle.sky_model.specs.declared.stmt.Stmt.{Stmt}
-use Rattle.sky_model.specs.declared.stmt.Stmt.TheVariants.{GetBatchEvents, EventRetry}
+use Rattle.sky_model.specs.declared.stmt.DbStmt.{DbStmt}
+use Rattle.sky_model.specs.declared.stmt.DbStmt.TheVariants.{Queue}
+use Rattle.sky_model.specs.declared.stmt.QueueStmt.TheVariants.{GetBatchEvents, EventRetry}
 use Rattle.sky_model.specs.declared.stop.Stop.{Stop}
 use Rattle.sky_model.specs.declared.stop.Stop.TheVariants.{Refused, NoMemory}
 use Rattle.pgq_queues.specs.Looked.{most_in}
@@ -22,9 +23,9 @@ abbrev pub LooksFor : QueuesView → QueuesView → ℕ → Type 0
 LooksFor old new id = (n : ℕ) → reads_at new.queues n ≤ reads_at old.queues n + most_for old n (batch_at old id)
 
 -- this holds of `get_batch_events N` and `event_retry N N N`; of other statements nothing is said
-abbrev pub LooksWithin : QueuesView → QueuesView → Stmt → Type 0
-LooksWithin old new (GetBatchEvents id) = LooksFor old new id
-LooksWithin old new (EventRetry id event seconds) = LooksFor old new id
+abbrev pub LooksWithin : QueuesView → QueuesView → DbStmt → Type 0
+LooksWithin old new (Queue (GetBatchEvents id)) = LooksFor old new id
+LooksWithin old new (Queue (EventRetry id event seconds)) = LooksFor old new id
 LooksWithin old new _ = Unit {0}
 
 -- whether it is refused or not; out of memory, nothing is said of it
@@ -33,9 +34,9 @@ LooksUnlessCut old new id (Ok _) = LooksFor old new id
 LooksUnlessCut old new id (Err (Refused refusal)) = LooksFor old new id
 LooksUnlessCut old new id (Err NoMemory) = Unit {0}
 
-abbrev pub RanWithin : QueuesView → QueuesView → Stmt → Result (Unit {0}) Stop → Type 0
-RanWithin old new (GetBatchEvents id) result = LooksUnlessCut old new id result
-RanWithin old new (EventRetry id event seconds) result = LooksUnlessCut old new id result
+abbrev pub RanWithin : QueuesView → QueuesView → DbStmt → Result (Unit {0}) Stop → Type 0
+RanWithin old new (Queue (GetBatchEvents id)) result = LooksUnlessCut old new id result
+RanWithin old new (Queue (EventRetry id event seconds)) result = LooksUnlessCut old new id result
 RanWithin old new _ result = Unit {0}
 
 -- nothing is looked at
@@ -58,6 +59,6 @@ ListsFrom old new id (Events events) = LooksFrom old new events (batch_at old id
 ListsFrom old new id _ = Unit {0}
 
 -- this holds of the answer of `get_batch_events N`; of other statements nothing is said
-abbrev pub ListsLooked : QueuesView → QueuesView → Stmt → Reply → Type 0
-ListsLooked old new (GetBatchEvents id) reply = ListsFrom old new id reply
+abbrev pub ListsLooked : QueuesView → QueuesView → DbStmt → Reply → Type 0
+ListsLooked old new (Queue (GetBatchEvents id)) reply = ListsFrom old new id reply
 ListsLooked old new _ reply = Unit {0}

@@ -1,17 +1,21 @@
 -- What a database does for a node, its own or another's.
-use Rattle.std.specs.Prelude.{◌≡◌, ℕ, false, true, List, [], Option, Some, None, is_ok}
+use Rattle.std.specs.Prelude.{◌≡◌, ℕ, ℤ, false, true, List, [], Option, Some, None, is_ok}
 use Rattle.londiste_state.specs.Nodes.{Node, of_root, is_among}
-use Rattle.sky_model.specs.declared.reply.Limit.TheVariants.{Consumers, Triggers}
+use Rattle.sky_model.specs.declared.reply.Limit.TheVariants.{Consumers, Queues, Triggers}
 use Rattle.sky_model.specs.declared.reply.Refusal.TheVariants as refusal
 use Rattle.sky_model.specs.declared.reply.Reply.TheVariants.{Number, Null}
 use Rattle.sky_model.specs.Consumers.{Subscription}
 use Rattle.sky_model.specs.State.{Database, after_marks}
 use Rattle.sky_model.specs.Outcome.{reply_of, marks_of}
-use Rattle.sky_model.specs.StepNode.{set_queue, NodeCall, joining, fetching, listing, beginning_copy, node_does}
+use Rattle.sky_model.specs.StepNode.{set_queue, NodeCall, joining, fetching, making_root, listing, beginning_copy, node_does}
 use Rattle.sky_model.specs.Stops.{Refuses}
+use Rattle.sky_trans.specs.declared.trans.TransFault.{TransFault}
+use Rattle.sky_trans.specs.declared.trans.TransFault.TheVariants as trans
 use Rattle.pgq_db.specs.declared.provider.NodeBatch.{NodeBatch}
 use Rattle.pgq_db.specs.declared.faults.JoinFault.{JoinFault}
 use Rattle.pgq_db.specs.declared.faults.JoinFault.TheVariants as join
+use Rattle.pgq_db.specs.declared.faults.MakeRootFault.{MakeRootFault}
+use Rattle.pgq_db.specs.declared.faults.MakeRootFault.TheVariants as make
 use Rattle.pgq_db.specs.declared.faults.RootFault.{RootFault}
 use Rattle.pgq_db.specs.declared.faults.RootFault.TheVariants as root
 use Rattle.pgq_db.specs.declared.faults.FetchFault.{FetchFault}
@@ -36,6 +40,18 @@ JoinRefused join.ConsumerExists old new consumer = Refuses old new (refusal.Cons
 JoinRefused join.TooManyConsumers old new consumer = Refuses old new (refusal.TooMany Consumers) (node_does old (joining consumer))
 JoinRefused join.IdsSpent old new consumer = Refuses old new refusal.IdsSpent (node_does old (joining consumer))
 JoinRefused join.NoMemory old new consumer = is_among consumer (set_consumers old.node) ≡ false → new ≡ old
+
+-- a root needs the id of a transaction
+abbrev pub make_root_fault_of : TransFault → MakeRootFault
+make_root_fault_of trans.TxidsSpent = make.TxidsSpent
+make_root_fault_of trans.NoMemory = make.NoMemory
+
+-- a root isn't made, as its call's definition says, and nothing has changed; or memory ran out
+abbrev pub MakeRootRefused : MakeRootFault → (old new : Database) → (name queue : List ℕ) → (now : ℤ) → Type 0
+MakeRootRefused make.QueueExists old new name queue now = Refuses old new (refusal.QueueExists queue) (node_does old (making_root name queue now))
+MakeRootRefused make.TooManyQueues old new name queue now = Refuses old new (refusal.TooMany Queues) (node_does old (making_root name queue now))
+MakeRootRefused make.TxidsSpent old new name queue now = Refuses old new refusal.TxidsSpent (node_does old (making_root name queue now))
+MakeRootRefused make.NoMemory old new name queue now = Unit {0}
 
 -- a table didn't join a set, as its call's definition says, or memory ran out; either way nothing has changed
 abbrev pub RootRefused : RootFault → (old new : Database) → (table : List ℕ) → Type 0

@@ -12,7 +12,7 @@ ghost use Rattle.sky_model.specs.State.{database_of, after_mark, after_marks};
 ghost use Rattle.sky_model.specs.Printed.{HaveMoments};
 ghost use Rattle.sky_model.specs.OwnTransaction.{txid_for, begin_of, commit_of};
 ghost use Rattle.sky_model.specs.Reader.{database_by_itself, within_part};
-ghost use Rattle.sky_model.specs.declared.stmt.Stmt.TheVariants.{Row};
+ghost use Rattle.sky_model.specs.declared.stmt.DbStmt.TheVariants.{Row};
 ghost use Rattle.sky_model.specs.Sessions.{outside};
 ghost use Rattle.sky_model.specs.Settling.{ready, settling, with_settling};
 ghost use Rattle.sky_model.specs.Calls.{database_turn};
@@ -40,8 +40,8 @@ use std::marker::Model;
 use std::mem;
 
 /// One database: its transactions, sessions, tables and rows; its queues; and its node, if it has one, with the copies
-/// that run here and the snapshots that are held. Once memory has run out in `step`, `fail`, `daemon`, `apply`,
-/// `copy_begin`, `copy_rows` or `copy_end` nothing is said of it.
+/// that run here and the snapshots that are held. Once memory has run out in `step`, `fail`, `daemon`, `make_root`,
+/// `apply`, `copy_begin`, `copy_rows` or `copy_end` nothing is said of it.
 #[derive(Drop)]
 pub struct Db {
     pub(crate) alloc: Global,

@@ -28,6 +28,44 @@ impl From<AllocError> for JoinFault {
     }
 }
 
+/// Why the root of a set isn't made.
+#[derive(Clone, Copy, Debug, PartialEq, Eq, Error)]
+pub enum MakeRootFault {
+    #[error("the queue exists")]
+    QueueExists,
+    #[error("the database has as many queues as it may")]
+    TooManyQueues,
+    #[error("the last transaction id was given")]
+    TxidsSpent,
+    #[error("out of memory")]
+    NoMemory,
+}
+
+impl From<AllocError> for MakeRootFault {
+    ghost use Rattle.std.specs.Prelude.{◌≡◌};
+    ghost use Rattle.pgq_db.specs.declared.faults.MakeRootFault.TheVariants.{NoMemory};
+
+    ghost from_gives = { λ _ fault. fault ≡ NoMemory };
+
+    fn from(_: AllocError) -> MakeRootFault {
+        MakeRootFault::NoMemory
+    }
+}
+
+impl From<TransFault> for MakeRootFault {
+    ghost use Rattle.std.specs.Prelude.{◌≡◌};
+    ghost use Rattle.pgq_db.specs.Served.{make_root_fault_of};
+
+    ghost from_gives = { λ from fault. fault ≡ make_root_fault_of from };
+
+    fn from(fault: TransFault) -> MakeRootFault {
+        match fault {
+            TransFault::TxidsSpent => MakeRootFault::TxidsSpent,
+            TransFault::NoMemory => MakeRootFault::NoMemory,
+        }
+    }
+}
+
 /// Why a table doesn't join a set.
 #[derive(Clone, Copy, Debug, PartialEq, Eq, Error)]
 pub enum RootFault {

@@ -31,6 +31,8 @@ mod statements;
 mod triggers;
 
 pub use db::Db;
-pub use faults::{ApplyFault, CopyFault, FetchFault, JoinFault, RootFault, WorkerFault};
+pub use faults::{
+    ApplyFault, CopyFault, FetchFault, JoinFault, MakeRootFault, RootFault, WorkerFault,
+};
 pub use pick::Pick;
 pub use provider::NodeBatch;

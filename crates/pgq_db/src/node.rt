@@ -1,7 +1,7 @@
 //! The root or leaf that a database is in a set of replicated tables, and what a database does for nodes: its own and
 //! those of other databases. A caller decides which of these calls a statement makes, and in which databases.
 
-ghost use Rattle.std.specs.Prelude.{◌≡◌, ◌<◌, ◌++◌, [], ◌∷◌, ℕ, ℤ, true, None, Some, Ok, IfOk, IfErr, IfSome, OnOk, OnErr, is_some, length, option_copied, option_map};
+ghost use Rattle.std.specs.Prelude.{◌≡◌, ◌<◌, ◌++◌, [], ◌∷◌, List, ℕ, ℤ, true, None, Some, Ok, IfOk, IfErr, IfSome, OnOk, OnErr, is_some, length, option_copied, option_map};
 ghost use Rattle.londiste_state.specs.declared.node.Node.TheVariants as node;
 ghost use Rattle.sky_model.specs.History.{noded, NodeMark, root_made, set_added, set_removed, joined, parted, leaf_made, leaf_added, leaf_removed, state_set};
 ghost use Rattle.sky_model.specs.Moment.{IsTime};
@@ -13,21 +13,19 @@ ghost use Rattle.sky_model.specs.DatabaseCalls.{served};
 ghost use Rattle.sky_model.specs.DatabaseSteps.{DatabaseSteps, IsMade};
 ghost use Rattle.sky_model.specs.StepConsumer.{has_dot, is_nodes};
 ghost use Rattle.sky_model.specs.StepQueue.{newest_id};
-ghost use Rattle.sky_model.specs.StepNode.{set_queue, set_trigger, create_root, joining, making_leaf, adding, removing, moving, listing, unlisting, table_number, may_serve, node_does};
+ghost use Rattle.sky_model.specs.StepNode.{set_queue, set_trigger, joining, making_root, making_leaf, adding, removing, moving, listing, unlisting, table_number, may_serve, node_does};
 ghost use Rattle.sky_model.specs.State.{Database};
-ghost use Rattle.sky_model.specs.Stops.{StopsAs};
 ghost use Rattle.pgq_queues.specs.Seen.{Stands, queues_of};
-ghost use Rattle.pgq_db.specs.Gives.{Ran};
 ghost use Rattle.pgq_db.specs.Seen.{seen_database};
-ghost use Rattle.pgq_db.specs.Served.{Serves, JoinRefused, RootRefused, ServesUnlessBusy};
+ghost use Rattle.pgq_db.specs.Served.{Serves, JoinRefused, MakeRootRefused, RootRefused, ServesUnlessBusy};
 
 use crate::db::Db;
-use crate::faults::{JoinFault, RootFault};
+use crate::faults::{JoinFault, MakeRootFault, RootFault};
 use londiste_state::{Leaf, Node, Root, TableState};
 use pgq_queues::{Queues, TableTrigger};
-use sky_model::{Limit, Refusal, Replies, Reply, Stop};
+use sky_model::Limit;
 use sky_urlenc::Trigger;
-use sky_val::{NoMemory, Schema, SessionId, Text};
+use sky_val::{NoMemory, Schema, Text};
 use std::alloc::Global;
 
 impl Db {
@@ -83,6 +81,24 @@ impl Db {
             return Err(JoinFault::from(no_memory));
         }
         Ok(newest)
+    }
+
+    /// Makes the database's node, the root of a set, and the set's queue with its first tick, in a transaction of a worker,
+    /// which ends at once. If the queue can't be made, or no id is left, nothing changes.
+    pub fn make_root(&mut self, name: &Text, queue: &Text, now: i64) -> Result<(), MakeRootFault>
+        requires bare { (seen_database self.old).node ≡ None }
+        requires time { IsTime now }
+        ensures serves { OnOk result (Serves (seen_database self.old) (seen_database self.new) (making_root name.now queue.now now)) }
+        ensures fault { IfErr result (λ fault. MakeRootRefused fault (seen_database self.old) (seen_database self.new) name.now queue.now now) }
+        ensures steps { OnOk result (DatabaseSteps (seen_database self.old) (seen_database self.new) (served (making_root name.now queue.now now)) (quietly (node_does (seen_database self.old) (making_root name.now queue.now now)))) }
+    {
+        check_set_queue(&self.queues, queue)?;
+        let set = queue.copy(self.alloc)?;
+        let txid = self.rows.begin_worker()?;
+        self.rows.end_worker(txid, true);
+        self.make_queue(now, txid, set)?;
+        make_root(self.alloc, &mut self.node.own, name, queue)?;
+        Ok(())
     }
 
     /// Makes the database's node, a leaf of the root of this name, at a tick of the root's queue. On an error nothing
@@ -192,26 +208,6 @@ impl Db {
         self.queues.untrace(number);
     }
 
-    /// `create_root NAME NAME`: makes the root of a set, and the set's queue as `create_queue` does.
-    pub(crate) fn create_root(
-        &mut self,
-        now: i64,
-        who: SessionId,
-        name: &Text,
-        queue: &Text,
-        replies: &mut Replies,
-    ) -> Result<(), Stop>
-        requires { IsTime now }
-        ensures { Ran self.old self.new replies.old replies.new who result (create_root (seen_database self.old) now who name.now queue.now) }
-    {
-        check_root(self.alloc, &self.node.own, &self.queues, name, queue)?;
-        let txid = self.next_txid(who)?;
-        self.new_queue(now, who, txid, queue)?;
-        make_root(self.alloc, &mut self.node.own, name, queue)?;
-        replies.push(who, Reply::Done)?;
-        Ok(())
-    }
-
     /// The queue of the set of which the node is the root.
     pub(crate) fn set_queue(&self) -> Option<usize>
         ensures queue { result ≡ set_queue (seen_database self.now) }
@@ -276,28 +272,18 @@ fn has_dot(name: &Text) -> bool
     name.bytes().contains(&b'.')
 }
 
-/// Refuses a root: the database has a node already, or the set's queue can't be made.
-fn check_root(
-    alloc: Global,
-    node: &Option<Node>,
-    queues: &Queues,
-    name: &Text,
-    queue: &Text,
-) -> Result<(), Stop>
-    ensures bare { OnOk result (node.now ≡ None) }
+/// Refuses a set's queue that can't be made: there is one of its name, or there are as many as there may be.
+fn check_set_queue(queues: &Queues, queue: &Text) -> Result<(), MakeRootFault>
     ensures new { OnOk result (queue_number queue.now (queues_of queues.now) ≡ None) }
     ensures room { OnOk result (length (queues_of queues.now) < 64) }
-    ensures err { IfErr result (λ stop. (d : Database) (now : ℤ) (who : ℕ) → d.node ≡ node.now → d.queues ≡ queues_of queues.now
-        → StopsAs stop (create_root d now who name.now queue.now)) }
+    ensures err { IfErr result (λ fault. (d : Database) (name : List ℕ) (now : ℤ) → d.node ≡ None → d.queues ≡ queues_of queues.now
+        → MakeRootRefused fault d d name queue.now now) }
 {
-    if node.is_some() {
-        return Err(Stop::Refused(Refusal::NodeExists(name.copy(alloc)?)));
-    }
     if queues.number(queue).is_some() {
-        return Err(Stop::Refused(Refusal::QueueExists(queue.copy(alloc)?)));
+        return Err(MakeRootFault::QueueExists);
     }
     if queues.count() >= Limit::Queues.most() {
-        return Err(Stop::Refused(Refusal::TooMany(Limit::Queues)));
+        return Err(MakeRootFault::TooManyQueues);
     }
     Ok(())
 }

@@ -3,6 +3,7 @@
 
 ghost use Rattle.std.specs.Prelude.{◌≡◌, ◌&&◌, ◌+◌, ◌<◌, ◌==◌, ℤ, [], ◌∷◌, ◌++◌, true, false, if◌then◌else◌, None, Some, Ok, Err, IfOk, IfErr, IfSome, IfNone, OnOk, is_some, length};
 ghost use Rattle.std.specs.List.{All};
+ghost use Rattle.sky_model.specs.declared.stmt.DbStmt.TheVariants.{Queue};
 ghost use Rattle.sky_model.specs.declared.stmt.Where.TheVariants.{WhenReading, WhenOutside};
 ghost use Rattle.sky_model.specs.Nodes.{is_set_queue};
 ghost use Rattle.sky_model.specs.Queues.{queue_number};
@@ -13,7 +14,7 @@ ghost use Rattle.sky_model.specs.Outcome.{reply_of, or_refused, does_marks};
 ghost use Rattle.sky_model.specs.Printed.{HaveMoments};
 ghost use Rattle.sky_model.specs.OwnTransaction.{txid_for, in_own};
 ghost use Rattle.sky_model.specs.StepQueue.{queue_called, create_queue, drop_queue, shown_name, set_queue_config, queue_info, insert_event, ticker, force_tick, tells_of_rows, made_event};
-ghost use Rattle.sky_model.specs.InForm.{IsInForm};
+ghost use Rattle.sky_model.specs.InForm.{IsDbInForm, IsQueueInForm};
 ghost use Rattle.sky_model.specs.Allowed.{where_of};
 ghost use Rattle.sky_model.specs.Reader.{shown_by, database_by_itself};
 ghost use Rattle.sky_model.specs.Settling.{ready};
@@ -25,25 +26,24 @@ ghost use Rattle.pgq_queues.specs.Seen.{Beside, seen_with, Stands};
 ghost use Rattle.pgq_db.specs.Seen.{seen_database};
 ghost use Rattle.pgq_db.specs.Waiters.{StaysWithin};
 ghost use Rattle.pgq_db.specs.Looks.{LooksWithin, RanWithin, ListsLooked, ReadsNone};
-ghost use Rattle.pgq_db.specs.Gives.{is_worlds, is_on_queues, Gives, Adds, Answers, Ran};
+ghost use Rattle.pgq_db.specs.Gives.{Gives, Adds, Answers, Ran};
 ghost use Rattle.sky_model.specs.Stops.{StopsAs};
 
 use crate::change::tells_of_rows;
 use crate::db::Db;
 use pgq_queues::{EVENT_ID_END, Queues, TableTrigger};
 use pgq_tables::PlainEvent;
-use sky_model::{BoxedExtra, Extra, Limit, Refusal, Replies, Reply, Stmt, Stop};
+use sky_model::{BoxedExtra, DbStmt, Extra, Limit, QueueStmt, Refusal, Replies, Reply, Stop};
 use sky_val::{Event, NoMemory, SessionId, Text, copy_option};
 use std::alloc::{AllocError, Global};
 
 impl Db {
-    /// Runs a statement of a session, other than one that the world decides, and those that it unblocks. For `get_batch_events` and `event_retry` no more
-    /// stored events are looked at than the batch's ticks allow, and for `get_batch_events` no fewer than are listed.
-    /// Once memory has run out nothing is said of the database.
-    pub fn step(&mut self, who: SessionId, stmt: &Stmt, now: i64) -> Result<Replies, NoMemory>
+    /// Runs a statement of a session, and those that it unblocks. For `get_batch_events` and `event_retry` no more stored
+    /// events are looked at than the batch's ticks allow, and for `get_batch_events` no fewer than are listed. Once memory
+    /// has run out nothing is said of the database.
+    pub fn step(&mut self, who: SessionId, stmt: &DbStmt, now: i64) -> Result<Replies, NoMemory>
         requires time { IsTime now }
-        requires form { IsInForm stmt.now }
-        requires kind { is_worlds stmt.now ≡ false }
+        requires form { IsDbInForm stmt.now }
         ensures exact { IfOk result (λ replies. Gives (seen_database self.old) (seen_database self.new) replies
             (database_turn database_by_itself (seen_database self.old) now who stmt.now)) }
         ensures rests { OnOk result (ready (seen_database self.new).part ≡ None) }
@@ -63,13 +63,12 @@ impl Db {
     pub fn step_into(
         &mut self,
         who: SessionId,
-        stmt: &Stmt,
+        stmt: &DbStmt,
         now: i64,
         replies: &mut Replies,
     ) -> Result<(), NoMemory>
         requires time { IsTime now }
-        requires form { IsInForm stmt.now }
-        requires kind { is_worlds stmt.now ≡ false }
+        requires form { IsDbInForm stmt.now }
         ensures exact { OnOk result (Adds (seen_database self.old) (seen_database self.new) replies.old replies.new (database_turn database_by_itself (seen_database self.old) now who stmt.now)) }
         ensures rests { OnOk result (ready (seen_database self.new).part ≡ None) }
         ensures moments { OnOk result (HaveMoments (database_turn database_by_itself (seen_database self.old) now who stmt.now).answers) }
@@ -87,12 +86,11 @@ impl Db {
         &mut self,
         now: i64,
         who: SessionId,
-        stmt: &Stmt,
+        stmt: &DbStmt,
         replies: &mut Replies,
     ) -> Result<(), NoMemory>
         requires time { IsTime now }
-        requires form { IsInForm stmt.now }
-        requires kind { is_worlds stmt.now ≡ false }
+        requires form { IsDbInForm stmt.now }
         ensures adds { OnOk result (Adds (seen_database self.old) (seen_database self.new) replies.old replies.new (database_turn database_by_itself (seen_database self.old) now who stmt.now)) }
         ensures rests { OnOk result (ready (seen_database self.new).part ≡ None) }
         ensures moments { OnOk result (HaveMoments (database_turn database_by_itself (seen_database self.old) now who stmt.now).answers) }
@@ -100,15 +98,8 @@ impl Db {
         ensures lists { OnOk result (ListsLooked self.old.queues self.new.queues stmt.now (statement database_by_itself (seen_database self.old) now who stmt.now).reply) }
     {
         match stmt {
-            Stmt::Row(stmt) => {
-                self.step_rows(now, who, stmt, replies)?;
-                Ok(())
-            }
-            Stmt::Node(_) | Stmt::Clock { .. } | Stmt::PgqdOn | Stmt::PgqdOff => unreachable!(),
-            _ => {
-                self.run_on_queues(now, who, stmt, replies)?;
-                Ok(())
-            }
+            DbStmt::Row(stmt) => self.step_rows(now, who, stmt, replies),
+            DbStmt::Queue(stmt) => self.run_on_queues(now, who, stmt, replies),
         }
     }
 
@@ -117,17 +108,16 @@ impl Db {
         &mut self,
         now: i64,
         who: SessionId,
-        stmt: &Stmt,
+        stmt: &QueueStmt,
         replies: &mut Replies,
     ) -> Result<(), NoMemory>
         requires time { IsTime now }
-        requires form { IsInForm stmt.now }
-        requires kind { is_on_queues stmt.now ≡ true }
-        ensures adds { OnOk result (Adds (seen_database self.old) (seen_database self.new) replies.old replies.new (database_turn database_by_itself (seen_database self.old) now who stmt.now)) }
+        requires form { IsQueueInForm stmt.now }
+        ensures adds { OnOk result (Adds (seen_database self.old) (seen_database self.new) replies.old replies.new (database_turn database_by_itself (seen_database self.old) now who (Queue stmt.now))) }
         ensures rests { OnOk result (ready (seen_database self.new).part ≡ None) }
-        ensures moments { OnOk result (HaveMoments (database_turn database_by_itself (seen_database self.old) now who stmt.now).answers) }
-        ensures looks { OnOk result (LooksWithin self.old.queues self.new.queues stmt.now) }
-        ensures lists { OnOk result (ListsLooked self.old.queues self.new.queues stmt.now (statement database_by_itself (seen_database self.old) now who stmt.now).reply) }
+        ensures moments { OnOk result (HaveMoments (database_turn database_by_itself (seen_database self.old) now who (Queue stmt.now)).answers) }
+        ensures looks { OnOk result (LooksWithin self.old.queues self.new.queues (Queue stmt.now)) }
+        ensures lists { OnOk result (ListsLooked self.old.queues self.new.queues (Queue stmt.now) (statement database_by_itself (seen_database self.old) now who (Queue stmt.now)).reply) }
     {
         self.run_or_refuse(now, who, stmt, replies)?;
         self.settle(now, replies)?;
@@ -139,15 +129,14 @@ impl Db {
         &mut self,
         now: i64,
         who: SessionId,
-        stmt: &Stmt,
+        stmt: &QueueStmt,
         replies: &mut Replies,
     ) -> Result<(), NoMemory>
         requires time { IsTime now }
-        requires form { IsInForm stmt.now }
-        requires kind { is_on_queues stmt.now ≡ true }
-        ensures answers { OnOk result (Answers (seen_database self.old) (seen_database self.new) replies.old replies.new who (statement database_by_itself (seen_database self.old) now who stmt.now)) }
-        ensures looks { OnOk result (LooksWithin self.old.queues self.new.queues stmt.now) }
-        ensures lists { OnOk result (ListsLooked self.old.queues self.new.queues stmt.now (statement database_by_itself (seen_database self.old) now who stmt.now).reply) }
+        requires form { IsQueueInForm stmt.now }
+        ensures answers { OnOk result (Answers (seen_database self.old) (seen_database self.new) replies.old replies.new who (statement database_by_itself (seen_database self.old) now who (Queue stmt.now))) }
+        ensures looks { OnOk result (LooksWithin self.old.queues self.new.queues (Queue stmt.now)) }
+        ensures lists { OnOk result (ListsLooked self.old.queues self.new.queues (Queue stmt.now) (statement database_by_itself (seen_database self.old) now who (Queue stmt.now)).reply) }
     {
         match self.enter(who, is_outside(stmt))? {
             None => {
@@ -166,17 +155,16 @@ impl Db {
         &mut self,
         now: i64,
         who: SessionId,
-        stmt: &Stmt,
+        stmt: &QueueStmt,
         replies: &mut Replies,
     ) -> Result<(), NoMemory>
         requires time { IsTime now }
-        requires form { IsInForm stmt.now }
-        requires kind { is_on_queues stmt.now ≡ true }
+        requires form { IsQueueInForm stmt.now }
         ensures answers { OnOk result (Answers (seen_database self.old) (seen_database self.new) replies.old replies.new who
-            (or_refused who ((seen_database self.old).part.session who) (form (seen_database self.old) (shown_by (seen_database self.old)) now who stmt.now))) }
-        ensures looks { OnOk result (LooksWithin self.old.queues self.new.queues stmt.now) }
-        ensures lists { OnOk result (ListsLooked self.old.queues self.new.queues stmt.now
-            (or_refused who ((seen_database self.old).part.session who) (form (seen_database self.old) (shown_by (seen_database self.old)) now who stmt.now)).reply) }
+            (or_refused who ((seen_database self.old).part.session who) (form (seen_database self.old) (shown_by (seen_database self.old)) now who (Queue stmt.now)))) }
+        ensures looks { OnOk result (LooksWithin self.old.queues self.new.queues (Queue stmt.now)) }
+        ensures lists { OnOk result (ListsLooked self.old.queues self.new.queues (Queue stmt.now)
+            (or_refused who ((seen_database self.old).part.session who) (form (seen_database self.old) (shown_by (seen_database self.old)) now who (Queue stmt.now))).reply) }
     {
         match self.run_form(now, who, stmt, replies) {
             Ok(()) => Ok(()),
@@ -210,69 +198,69 @@ impl Db {
         &mut self,
         now: i64,
         who: SessionId,
-        stmt: &Stmt,
+        stmt: &QueueStmt,
         replies: &mut Replies,
     ) -> Result<(), Stop>
         requires time { IsTime now }
-        requires form { IsInForm stmt.now }
-        requires kind { is_on_queues stmt.now ≡ true }
-        ensures ran { Ran self.old self.new replies.old replies.new who result (form (seen_database self.old) (shown_by (seen_database self.old)) now who stmt.now) }
-        ensures looks { RanWithin self.old.queues self.new.queues stmt.now result }
-        ensures lists { OnOk result (ListsLooked self.old.queues self.new.queues stmt.now (reply_of (form (seen_database self.old) (shown_by (seen_database self.old)) now who stmt.now))) }
+        requires form { IsQueueInForm stmt.now }
+        ensures ran { Ran self.old self.new replies.old replies.new who result (form (seen_database self.old) (shown_by (seen_database self.old)) now who (Queue stmt.now)) }
+        ensures looks { RanWithin self.old.queues self.new.queues (Queue stmt.now) result }
+        ensures lists { OnOk result (ListsLooked self.old.queues self.new.queues (Queue stmt.now) (reply_of (form (seen_database self.old) (shown_by (seen_database self.old)) now who (Queue stmt.now)))) }
     {
         match stmt {
-            Stmt::Row(_) | Stmt::Node(_) | Stmt::Clock { .. } | Stmt::PgqdOn | Stmt::PgqdOff =>
-                unreachable!(),
-            Stmt::CreateQueue { queue } => self.create_queue(now, who, queue, replies),
-            Stmt::DropQueue { queue } => self.drop_queue(who, queue, replies),
-            Stmt::SetQueueConfig {
+            QueueStmt::CreateQueue { queue } => self.create_queue(now, who, queue, replies),
+            QueueStmt::DropQueue { queue } => self.drop_queue(who, queue, replies),
+            QueueStmt::SetQueueConfig {
                 queue,
                 param,
                 value,
             } => self.set_queue_config(who, queue, param, value, replies),
-            Stmt::QueueInfo { queue } => self.queue_info(who, queue, replies),
-            Stmt::InsertEvent {
+            QueueStmt::QueueInfo { queue } => self.queue_info(who, queue, replies),
+            QueueStmt::InsertEvent {
                 queue,
                 ev_type,
                 ev_data,
                 extra,
             } => self.insert_event(now, who, queue, ev_type, ev_data, extra, replies),
-            Stmt::Ticker { queue } => self.ticker(now, who, queue, replies),
-            Stmt::ForceTick { queue } => self.force_tick(who, queue, replies),
-            Stmt::RegisterConsumer { queue, consumer } => {
-                self.register_consumer(who, queue, consumer, replies)
-            }
-            Stmt::RegisterConsumerAt {
-                queue,
-                consumer,
-                tick,
-            } => self.register_consumer_at(who, queue, consumer, *tick, replies),
-            Stmt::UnregisterConsumer { queue, consumer } => {
-                self.unregister_consumer(who, queue, consumer, replies)
-            }
-            Stmt::NextBatch { queue, consumer } => self.next_batch(who, queue, consumer, replies),
-            Stmt::GetBatchEvents { batch } => self.get_batch_events(who, *batch, replies),
-            Stmt::GetBatchInfo { batch } => self.get_batch_info(who, *batch, replies),
-            Stmt::EventRetry {
-                batch,
-                event,
-                seconds,
-            } => self.event_retry(now, who, *batch, *event, *seconds, replies),
-            Stmt::MaintRetryEvents => self.maint_retry_events(now, who, replies),
-            Stmt::MaintRotateStep1 { queue } => self.maint_rotate_step1(now, who, queue, replies),
-            Stmt::MaintRotateStep2 => self.maint_rotate_step2(who, replies),
-            Stmt::FinishBatch { batch } => self.finish_batch(who, *batch, replies),
-            Stmt::ConsumerInfo { queue, consumer } => {
-                self.consumer_info(who, queue, consumer, replies)
-            }
-            Stmt::AddTrigger {
+            QueueStmt::AddTrigger {
                 name,
                 table,
                 queue,
                 backup,
                 ignored,
             } => self.add_trigger(who, name, table, queue, *backup, ignored, replies),
-            Stmt::CreateRoot { name, queue } => self.create_root(now, who, name, queue, replies),
+            QueueStmt::Ticker { queue } => self.ticker(now, who, queue, replies),
+            QueueStmt::ForceTick { queue } => self.force_tick(who, queue, replies),
+            QueueStmt::RegisterConsumer { queue, consumer } => {
+                self.register_consumer(who, queue, consumer, replies)
+            }
+            QueueStmt::RegisterConsumerAt {
+                queue,
+                consumer,
+                tick,
+            } => self.register_consumer_at(who, queue, consumer, *tick, replies),
+            QueueStmt::UnregisterConsumer { queue, consumer } => {
+                self.unregister_consumer(who, queue, consumer, replies)
+            }
+            QueueStmt::NextBatch { queue, consumer } => {
+                self.next_batch(who, queue, consumer, replies)
+            }
+            QueueStmt::GetBatchEvents { batch } => self.get_batch_events(who, *batch, replies),
+            QueueStmt::GetBatchInfo { batch } => self.get_batch_info(who, *batch, replies),
+            QueueStmt::EventRetry {
+                batch,
+                event,
+                seconds,
+            } => self.event_retry(now, who, *batch, *event, *seconds, replies),
+            QueueStmt::FinishBatch { batch } => self.finish_batch(who, *batch, replies),
+            QueueStmt::MaintRetryEvents => self.maint_retry_events(now, who, replies),
+            QueueStmt::MaintRotateStep1 { queue } => {
+                self.maint_rotate_step1(now, who, queue, replies)
+            }
+            QueueStmt::MaintRotateStep2 => self.maint_rotate_step2(who, replies),
+            QueueStmt::ConsumerInfo { queue, consumer } => {
+                self.consumer_info(who, queue, consumer, replies)
+            }
         }
     }
 
@@ -323,7 +311,8 @@ impl Db {
         Ok(Some(txid))
     }
 
-    pub(crate) fn new_queue(
+    /// Makes a queue in a session's transaction, which has this id or gets it.
+    fn new_queue(
         &mut self,
         now: i64,
         who: SessionId,
@@ -339,9 +328,18 @@ impl Db {
     {
         let name = name.copy(self.alloc)?;
         self.take_txid(who, txid)?;
+        self.make_queue(now, txid, name)
+    }
+
+    /// Makes a queue, by a transaction that has ended, with its first tick.
+    pub(crate) fn make_queue(&mut self, now: i64, txid: u64, name: Text) -> Result<(), NoMemory>
+        requires time { IsTime now }
+        requires new { queue_number name (seen_database self.old).queues ≡ None }
+        requires room { length (seen_database self.old).queues < 64 }
+        ensures { OnOk result (seen_database self.new ≡ after_mark (seen_database self.old) (queued (made name txid now))) }
+    {
         let snapshot = self.rows.snapshot_now()?;
-        self.queues.make(name, txid, now, snapshot)?;
-        Ok(())
+        self.queues.make(name, txid, now, snapshot)
     }
 
     /// `drop_queue NAME`: a queue without consumers, which no trigger writes into, and in which no running transaction
@@ -615,12 +613,11 @@ fn copy_extra(alloc: Global, extra: &Extra) -> Result<Extra, NoMemory>
 }
 
 /// Whether a statement on queues may be made only outside blocks.
-fn is_outside(stmt: &Stmt) -> bool
-    requires { is_on_queues stmt.now ≡ true }
-    ensures { (if result then WhenOutside else WhenReading) ≡ where_of stmt.now }
+fn is_outside(stmt: &QueueStmt) -> bool
+    ensures { (if result then WhenOutside else WhenReading) ≡ where_of (Queue stmt.now) }
 {
     !matches!(
         stmt,
-        Stmt::InsertEvent { .. } | Stmt::MaintRotateStep1 { .. }
+        QueueStmt::InsertEvent { .. } | QueueStmt::MaintRotateStep1 { .. }
     )
 }

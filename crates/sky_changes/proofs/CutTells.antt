@@ -37,7 +37,7 @@ use Rattle.sky_model.proofs.Cases.{by_test, by_same}
 use Rattle.sky_changes.specs.TableEvents.{is_name, changes_table, table_events}
 use Rattle.sky_changes.proofs.HeldValues.{AreHeld}
 use Rattle.sky_changes.proofs.HeldRows.{standing-held}
-use Rattle.sky_changes.proofs.RowMarks.{IsTableOf, Plain}
+use Rattle.sky_changes.proofs.PlainMarks.{IsTableOf, Plain}
 use Rattle.sky_changes.proofs.WriteLists.{Written}
 use Rattle.sky_changes.proofs.TableWrites.{is_listed, written, row-met}
 use Rattle.sky_changes.proofs.Cuts.{write_of, Cut, nothing, plain, writes, leaf_writes, inserts, returns, lists, unlists, roots, Events, node-events, told-only, cut-held}

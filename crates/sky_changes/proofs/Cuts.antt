@@ -21,7 +21,7 @@ use Rattle.sky_histories.proofs.Telling.{EventMarks, told_by-events}
 use Rattle.sky_histories.proofs.Inserted.{Inserted, none, with_raised, with_put}
 use Rattle.sky_changes.proofs.HeldValues.{AreHeld}
 use Rattle.sky_changes.proofs.HeldRows.{AllHeld}
-use Rattle.sky_changes.proofs.RowMarks.{Plain}
+use Rattle.sky_changes.proofs.PlainMarks.{Plain}
 
 -- a session's write, and a copy's
 abbrev pub write_of : (who t table : ℕ) → List Val → (old new : Option (List Val)) → Mark

@@ -3,8 +3,8 @@ pub mod Places
 pub mod TableWrites
 pub mod HeldValues
 pub mod HeldRows
+pub mod PlainMarks
 pub mod RowMarks
-pub mod PlainForms
 pub mod Cuts
 pub mod CutCalls
 pub mod SetTriggers

@@ -1,36 +1,35 @@
--- Which marks statements on rows leave if they are in form: what they write, attempt and make is.
-use Rattle.std.proofs.Common.{◌≡◌, ◌≢◌, ℕ, Bool, true, false, List, [], ◌∷◌, ◌++◌, Option, Some, None, Ok, Err, IfOk, IfSome, is_some, option_map, All, refl, sym, ◌∙◌, subst, if◌then◌else◌}
-use Rattle.std.specs.List.{AllPairs}
+-- Which marks statements that make tables, write or wait leave if they are in form: what they write, attempt and make is.
+use Rattle.std.proofs.Common.{◌≡◌, ◌≢◌, ℕ, Bool, true, false, List, [], ◌∷◌, ◌++◌, Option, Some, None, Ok, Err, IfOk, IfSome, is_some, option_map, All, refl, sym, ◌∙◌, subst}
 use Rattle.std.proofs.lemmas.List.Elements.{All-weaker}
 use Rattle.sky_val.specs.declared.val.Val.{Val}
 use Rattle.sky_val.specs.declared.column.Column.{Column}
 use Rattle.sky_val.specs.declared.schema.SchemaFault.{SchemaFault}
-use Rattle.sky_val.specs.Schemas.{AreNamed, IsSchema, schema_fault}
+use Rattle.sky_val.specs.Schemas.{IsSchema, schema_fault}
 use Rattle.sky_val.proofs.SchemaLaws.{is_schema}
-use Rattle.sky_keys.specs.Waits.{is_waiting, other_holder}
+use Rattle.sky_keys.specs.Waits.{other_holder}
 use Rattle.sky_urlenc.specs.Held.{IsWord}
 use Rattle.sky_model.specs.declared.stmt.Attempt.{Attempt}
 use Rattle.sky_model.specs.declared.stmt.Attempt.TheVariants.{Insertion, Changes, Deletion}
 use Rattle.sky_model.specs.declared.stmt.RowStmt.{RowStmt}
-use Rattle.sky_model.specs.declared.stmt.RowStmt.TheVariants.{OpenDb, Close, Cancel, Begin, BeginRepeatableRead, Commit, Rollback, TxidCurrent, TxidCurrentSnapshot, TxidVisibleInSnapshot, CreateTable, Insert, Update, Delete, Get, Scan}
-use Rattle.sky_model.specs.declared.reply.Refusal.{Refusal}
-use Rattle.sky_model.specs.declared.reply.Refusal.TheVariants.{Canceled, Deadlock}
+use Rattle.sky_model.specs.declared.stmt.RowStmt.TheVariants.{CreateTable, Insert, Update, Delete}
+use Rattle.sky_model.specs.declared.reply.Refusal.TheVariants.{Deadlock}
 use Rattle.sky_model.specs.declared.reply.Reply.TheVariants.{Done}
 use Rattle.sky_model.specs.Kinds as kind
 use Rattle.sky_model.specs.Kinds.{is_name}
 use Rattle.sky_model.specs.InForm.{IsOf, IsRowInForm}
-use Rattle.sky_model.specs.History.{Mark, of_session, block_failed, tabled, table_made, wrote, waits, queued, put, returned, traced, untraced, noded, root_made, set_added, set_removed}
-use Rattle.sky_model.specs.Sessions.{Block, outside, inside, failed, Session}
+use Rattle.sky_model.specs.History.{Mark, of_session, tabled, table_made, wrote, queued, noded}
+use Rattle.sky_model.specs.Sessions.{Session}
 use Rattle.sky_model.specs.State.{RowPart}
 use Rattle.sky_model.specs.ShownRows.{KeyShown, RowsShown}
-use Rattle.sky_model.specs.Outcome.{Outcome, Checked, ◌>>=◌, ◌>>◌, refused_by, does_marks, end_of, aborts, abort}
+use Rattle.sky_model.specs.Outcome.{Outcome, Checked, ◌>>=◌, ◌>>◌, refused_by, does_marks}
 use Rattle.sky_model.specs.OwnTransaction.{begin_of, commit_of, txid_for, in_own}
 use Rattle.sky_model.specs.StepLocks.{ring, once_free}
-use Rattle.sky_model.specs.StepSession.{open_db, begin, begin_repeatable_read, leaves, commit, rollback, close, cancel}
-use Rattle.sky_model.specs.StepRows.{is_seen, schema_refusal, writes_key, changes, attempts, some_row, with_sets, row_or_none}
+use Rattle.sky_model.specs.StepRows.{is_seen, schema_refusal, writes_key, changes, attempts, some_row, with_sets}
 use Rattle.sky_model.specs.Calls.{row_form}
-use Rattle.sky_model.proofs.Cases.{by_test, by_block}
+use Rattle.sky_model.proofs.Cases.{by_block}
+use Rattle.sky_model.specs.Permits.{permit_of_row}
 use Rattle.sky_changes.proofs.HeldValues.{name-word, AreHeld, values-held, are-changes, with_sets-held, HeldAttempt}
+use Rattle.sky_changes.proofs.PlainMarks.{Plain, are_plain}
 
 -- ---- what is so of each mark
 
@@ -41,10 +40,6 @@ Each P (mark ∷ marks) = P mark × Each P marks
 pub each-append : (P : Mark → Type 0) (xs ys : List Mark) → Each P xs → Each P ys → Each P (xs ++ ys)
 each-append P [] ys all also = also
 each-append P (x ∷ xs) ys all also = (all.0, each-append P xs ys all.1 also)
-
-pub each-weaker : (P Q : Mark → Type 0) → ((mark : Mark) → P mark → Q mark) → (marks : List Mark) → Each P marks → Each Q marks
-each-weaker P Q implies [] all = tt
-each-weaker P Q implies (mark ∷ marks) all = (implies mark all.0, each-weaker P Q implies marks all.1)
 
 -- of each that a statement leaves, if it isn't refused
 abbrev pub Leaves : (Mark → Type 0) → Checked Outcome → Type 0
@@ -58,31 +53,7 @@ pub checked : {A : Type 0} (P : Mark → Type 0) (x : Checked A) (c : A → Chec
 checked P (Ok a) c is = is a
 checked P (Err refusal) c is = tt
 
-pub either : (P : Mark → Type 0) (b : Bool) (c e : Checked Outcome) → Leaves P c → Leaves P e → Leaves P (if b then c else e)
-either P true c e is also = is
-either P false c e is also = also
-
--- ---- marks of which nothing is asked but form
-
--- the columns of a table can be read back
-pub record IsTableOf (columns : List Column) : Type 0 where
-  pub named : AreNamed columns
-  pub apart : AllPairs (λ one other. one.name ≢ other.name) columns
-  pub words : All (λ c. IsWord c.name) columns
-
--- a mark that neither writes a row, nor stores an event or says that a retry came back, nor is about a set's tables
-abbrev pub Plain : Mark → Type 0
-Plain (tabled (wrote whose t table key old new)) = ⊥
-Plain (tabled (table_made name columns)) = IsTableOf columns
-Plain (tabled (waits who table key attempt)) = HeldAttempt attempt
-Plain (queued (put queue event)) = ⊥
-Plain (queued (returned retry moment)) = ⊥
-Plain (queued (traced table None trigger)) = ⊥
-Plain (queued (untraced table)) = ⊥
-Plain (noded (root_made name queue)) = ⊥
-Plain (noded (set_added table)) = ⊥
-Plain (noded (set_removed table)) = ⊥
-Plain _ = Unit {0}
+-- ---- marks of statements
 
 -- a session's write: it leaves a row or had one; and the row that it leaves is held, if it is to be
 abbrev pub Writes : (strict : Bool) → (old new : Option (List Val)) → Type 0
@@ -109,20 +80,6 @@ module _ (strict : Bool) (who : ℕ) where
       of : (o : Option ℕ) → Each (RowMark strict) (marks ++ commit_of who t s.block) → Each (RowMark strict) (begin_of who t o ++ marks ++ commit_of who t s.block)
       of None all = (tt, all)
       of (Some own) all = all
-
-  each-leaves : (committed : Bool) (txid : Option ℕ) → Each (RowMark strict) (leaves committed who txid)
-  each-leaves committed None = (tt, tt)
-  each-leaves committed (Some t) = (tt, (tt, tt))
-
-  pub row-abort : (b : Block) (txid : Option ℕ) (refusal : Refusal) → Each (RowMark strict) (abort who b txid refusal)
-  row-abort outside txid refusal = tt
-  row-abort inside txid refusal = by (aborts refusal) txid
-    where
-      by : (kind : Bool) (o : Option ℕ) → Each (RowMark strict) (if kind then end_of false who o ++ block_failed who ∷ [] else [])
-      by true None = (tt, tt)
-      by true (Some t) = (tt, (tt, tt))
-      by false o = tt
-  row-abort failed txid refusal = tt
 
   row-writes : (d : RowPart) (table : ℕ) (key : List Val) (old new : Option (List Val)) → Writes strict old new → RowLeaves (writes_key d who table key old new)
   row-writes d table key old new is = checked (RowMark strict) (txid_for d who) _ (λ t. each-own t (d.session who) (tabled (wrote (of_session who) t table key old new) ∷ []) (is, tt))
@@ -167,15 +124,6 @@ module _ (strict : Bool) (who : ℕ) where
               any (Err refusal) = tt
   row-attempts d shown table key shows Deletion held = row-changes d shown table key Deletion tt (λ row. Ok None) (λ row same _. tt) shown.row refl
 
-  row-close : (txid : Option ℕ) (b : Block) → RowLeaves (close who txid b)
-  row-close txid outside = (tt, tt)
-  row-close None _ = (tt, (tt, tt))
-  row-close (Some t) _ = (tt, (tt, (tt, tt)))
-
-  row-shown : (o : Option (List Val)) → RowLeaves (row_or_none o)
-  row-shown None = tt
-  row-shown (Some row) = tt
-
   -- what keys show is held
   abbrev pub ShowsHeld : RowsShown → Type 0
   ShowsHeld shown = strict ≡ true → (w table : ℕ) (key : List Val) → IfSome (shown.key w table key).row AreHeld
@@ -193,35 +141,21 @@ module _ (strict : Bool) (who : ℕ) where
           named [] is e = cc
           named (b ∷ bs) is e = cc
 
-  pub row-leaves : (d : RowPart) (shown : RowsShown) → ShowsHeld shown → (stmt : RowStmt) → IsRowInForm stmt → RowLeaves (row_form d shown who stmt)
-  row-leaves d shown held (OpenDb name) is = by_test (λ b. RowLeaves (open_db who b)) (d.session who).is_open (λ _. tt) (λ _. (tt, tt))
-  row-leaves d shown held Close is = row-close (d.session who).txid (d.session who).block
-  row-leaves d shown held Cancel is =
-      by_test (λ b. RowLeaves (cancel who (d.session who).txid (d.session who).block b)) (is_waiting who d.waiting)
-      (λ _. (tt, row-abort (d.session who).block (d.session who).txid Canceled)) (λ _. tt)
-  row-leaves d shown held Begin is = by_block (λ b. RowLeaves (begin who b)) (tt, tt) tt tt (d.session who).block
-  row-leaves d shown held BeginRepeatableRead is = by_block (λ b. RowLeaves (begin_repeatable_read who b)) (tt, (tt, tt)) tt tt (d.session who).block
-  row-leaves d shown held Commit is =
-      by_block (λ b. RowLeaves (commit who (d.session who).txid b)) tt (each-leaves true (d.session who).txid) (each-leaves false (d.session who).txid) (d.session who).block
-  row-leaves d shown held Rollback is =
-      by_block (λ b. RowLeaves (rollback who (d.session who).txid b)) tt (each-leaves false (d.session who).txid) (each-leaves false (d.session who).txid) (d.session who).block
-  row-leaves d shown held TxidCurrent is = checked (RowMark strict) (txid_for d who) _ (λ t. each-own t (d.session who) [] tt)
-  row-leaves d shown held TxidCurrentSnapshot is = tt
-  row-leaves d shown held (TxidVisibleInSnapshot txid snapshot) is = search (checked)
-  row-leaves d shown held (CreateTable name columns) is =
+  -- a statement that makes a table, writes or waits
+  pub row-leaves : (d : RowPart) (shown : RowsShown) → ShowsHeld shown → (stmt : RowStmt) → are_plain (permit_of_row stmt).leaves ≡ false → IsRowInForm stmt → RowLeaves (row_form d shown who stmt)
+  row-leaves d shown held (CreateTable name columns) e is =
       let made : RowLeaves (refused_by (option_map (schema_refusal columns) (schema_fault columns)) >> does_marks Done (tabled (table_made name columns) ∷ [])) = row-table columns is.1.1 name in
       search (after, made)
-  row-leaves d shown held (Insert name row) is =
+  row-leaves d shown held (Insert name row) e is =
       let tried : (table : ℕ) (key : List Val) → RowLeaves (attempts d (shown.key who table key) who table key (Insertion row))
       = λ table key. row-attempts d (shown.key who table key) table key (λ s. held s who table key) (Insertion row) (values-held row is.1.1) in
       search (checked, after, tried) depth 8
-  row-leaves d shown held (Update name key sets) is =
+  row-leaves d shown held (Update name key sets) e is =
       let tried : (table : ℕ) → RowLeaves (attempts d (shown.key who table key) who table key (Changes sets))
       = λ table. row-attempts d (shown.key who table key) table key (λ s. held s who table key) (Changes sets) (are-changes sets is.2.1) in
       search (checked, after, tried) depth 8
-  row-leaves d shown held (Delete name key) is =
+  row-leaves d shown held (Delete name key) e is =
       let tried : (table : ℕ) → RowLeaves (attempts d (shown.key who table key) who table key Deletion)
       = λ table. row-attempts d (shown.key who table key) table key (λ s. held s who table key) Deletion tt in
       search (checked, after, tried) depth 8
-  row-leaves d shown held (Get name key) is = search (checked, after, row-shown)
-  row-leaves d shown held (Scan name) is = search (checked)
+  row-leaves d shown held _ e is = absurd (cc)

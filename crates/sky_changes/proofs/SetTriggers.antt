@@ -22,7 +22,7 @@ use Rattle.sky_histories.proofs.QueueNumbers.{queue-below}
 use Rattle.sky_histories.proofs.RowSights.{Since, here, later}
 use Rattle.sky_model.proofs.Cases.{by_test}
 use Rattle.sky_histories.proofs.Good.{same-session}
-use Rattle.sky_changes.proofs.RowMarks.{Plain}
+use Rattle.sky_changes.proofs.PlainMarks.{Plain}
 use Rattle.sky_changes.proofs.TableWrites.{is_listed}
 use Rattle.sky_changes.proofs.Cuts.{write_of, Tracing, Cut, nothing, plain, writes, leaf_writes, inserts, returns, lists, unlists, roots, Events, node-events, told-only}
 

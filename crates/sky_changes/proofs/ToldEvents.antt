@@ -31,7 +31,7 @@ use Rattle.sky_model.specs.LawsOfWrites.{IsRowOf}
 use Rattle.sky_model.proofs.Cases.{by_test}
 use Rattle.sky_changes.specs.TableEvents.{changes_table, table_events}
 use Rattle.sky_changes.proofs.HeldValues.{AreHeld, holds-all}
-use Rattle.sky_changes.proofs.RowMarks.{IsTableOf}
+use Rattle.sky_changes.proofs.PlainMarks.{IsTableOf}
 use Rattle.sky_changes.proofs.WriteLists.{Written}
 
 -- ---- which are a table's

@@ -13,7 +13,8 @@ use Rattle.sky_urlenc.specs.Changes.{put, applies}
 use Rattle.sky_model.specs.declared.stmt.Change.TheVariants.{To}
 use Rattle.sky_model.specs.declared.stmt.RowStmt.{RowStmt}
 use Rattle.sky_model.specs.declared.stmt.RowStmt.TheVariants.{OpenDb, Begin, Commit, CreateTable, Insert, Update, Delete}
-use Rattle.sky_model.specs.declared.stmt.Stmt.TheVariants.{Row, CreateRoot, ForceTick, Ticker}
+use Rattle.sky_model.specs.declared.stmt.DbStmt.TheVariants.{Row, Queue}
+use Rattle.sky_model.specs.declared.stmt.QueueStmt.TheVariants.{ForceTick, Ticker}
 use Rattle.sky_model.specs.History.{Batch, History}
 use Rattle.sky_model.specs.Transactions.{snapshot}
 use Rattle.sky_model.specs.Rows.{rows}
@@ -21,7 +22,7 @@ use Rattle.sky_model.specs.Queues.{at_tick}
 use Rattle.sky_model.specs.Batches.{batch_events}
 use Rattle.sky_model.specs.Promises.{after_all}
 use Rattle.sky_model.specs.DatabaseCalls.{DatabaseCall, stepped, served, database_part}
-use Rattle.sky_model.specs.StepNode.{listing}
+use Rattle.sky_model.specs.StepNode.{making_root, listing}
 use Rattle.sky_changes.specs.TableEvents.{table_events, unseen_events}
 use Rattle.form_urlencoded.specs.Form.{byte_serialize}
 use Rattle.percent_encoding.specs.Percent.{percent_decode}
@@ -46,13 +47,13 @@ columns = record { name = codes "id"; kind = kind.Int; key = true } ∷ record {
 
 -- a table of a set, with one row; while a transaction of session 1 runs that has inserted a row, session 0 makes a tick and inserts another row
 abbrev held : List DatabaseCall
-held = insert 0 3 30 ∷ stepped 0 (Ticker (codes "q")) (pos 0) ∷ stepped 0 (ForceTick (codes "q")) (pos 0) ∷ insert 1 2 20 ∷ does 1 Begin
-    ∷ insert 0 1 10 ∷ served (listing (codes "t")) ∷ stepped 0 (CreateRoot (codes "root") (codes "q")) (pos 0) ∷ does 0 (CreateTable (codes "t") columns)
+held = insert 0 3 30 ∷ stepped 0 (Queue (Ticker (codes "q"))) (pos 0) ∷ stepped 0 (Queue (ForceTick (codes "q"))) (pos 0) ∷ insert 1 2 20 ∷ does 1 Begin
+    ∷ insert 0 1 10 ∷ served (listing (codes "t")) ∷ served (making_root (codes "root") (codes "q") (pos 0)) ∷ does 0 (CreateTable (codes "t") columns)
     ∷ does 1 (OpenDb (codes "p")) ∷ does 0 (OpenDb (codes "p")) ∷ []
 
 -- then session 1 commits, session 0 deletes a row and changes that of session 1, and a tick is made
 abbrev all : List DatabaseCall
-all = stepped 0 (Ticker (codes "q")) (pos 0) ∷ stepped 0 (ForceTick (codes "q")) (pos 0) ∷ update 0 2 21 ∷ does 0 (Delete (codes "t") (key 1)) ∷ does 1 Commit ∷ held
+all = stepped 0 (Queue (Ticker (codes "q"))) (pos 0) ∷ stepped 0 (Queue (ForceTick (codes "q"))) (pos 0) ∷ update 0 2 21 ∷ does 0 (Delete (codes "t") (key 1)) ∷ does 1 Commit ∷ held
 
 abbrev h : History
 h = after_all database_part all

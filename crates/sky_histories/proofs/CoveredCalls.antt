@@ -2,13 +2,13 @@
 use Rattle.std.proofs.Common.{◌≡◌, ℕ, ℤ, ◌^◌, nat_le, Bool, true, false, List, [], ◌∷◌, ◌++◌, Option, Some, None, Ok, Err, refl, if◌then◌else◌, ◌==◌}
 use Rattle.sky_val.specs.declared.val.Val.{Val}
 use Rattle.sky_keys.specs.Waits.{is_waiting}
-use Rattle.sky_model.specs.declared.stmt.Stmt.{Stmt}
+use Rattle.sky_model.specs.declared.stmt.DbStmt.{DbStmt}
 use Rattle.sky_model.specs.declared.reply.Reply.TheVariants.{Done, Null}
 use Rattle.sky_model.specs.declared.reply.Refusal.TheVariants.{TxidsSpent}
 use Rattle.sky_model.specs.History.{Mark, of_copy, began, noded, sight_taken, History, hold_ended}
 use Rattle.sky_model.specs.Transactions.{next_txid}
 use Rattle.sky_model.specs.Copies.{copies, copy_txid, Hold}
-use Rattle.sky_model.specs.Sessions.{session, has_open, block, own_txid}
+use Rattle.sky_model.specs.Sessions.{Session, session, has_open, block, own_txid}
 use Rattle.sky_model.specs.Locks.{waiting}
 use Rattle.sky_model.specs.State.{RowPart, part_of, after_part, Database, database_of}
 use Rattle.sky_model.specs.Printed.{ReplyHasMoments}
@@ -18,9 +18,10 @@ use Rattle.sky_model.specs.Made.{takes_sight}
 use Rattle.sky_model.specs.Reader.{Shown, shown_in, database_by_history, within_part}
 use Rattle.sky_model.specs.Settling.{Turn, turn_of, behind_marks, marked, settling, with_settling}
 use Rattle.sky_model.specs.Calls.{form, making, statement}
+use Rattle.sky_model.specs.Permits.{Leaves, of_any, of_resumed, may_leave, permit_of}
 use Rattle.sky_model.specs.SessionMarks.{look_of, entry_place, enters, failing}
 use Rattle.sky_model.specs.StepCopy.{copy_write, copy_writes, deletions, insertions, rows_now, begins_copy, all_fit, copies_rows, given_up}
-use Rattle.sky_model.specs.StepNode.{NodeCall, joining, parting, fetching, finishing, making_leaf, adding, removing, moving, listing, unlisting, beginning_copy, copying_rows, ending_copy, giving_up_copy, applying, holding, letting_go, if_there, set_queue, table_number, may_serve, call_form, node_does}
+use Rattle.sky_model.specs.StepNode.{NodeCall, joining, parting, fetching, finishing, making_root, making_leaf, adding, removing, moving, listing, unlisting, beginning_copy, copying_rows, ending_copy, giving_up_copy, applying, holding, letting_go, if_there, set_queue, table_number, may_serve, call_form, node_does}
 use Rattle.sky_model.specs.Rows.{Write, table_names}
 use Rattle.sky_names.specs.Places.{place_of}
 use Rattle.sky_model.specs.DatabaseCalls.{DatabaseCall, stepped, entered, failed, worked, served, database_does}
@@ -32,29 +33,29 @@ use Rattle.sky_model.specs.StepApply.{applies_batch}
 use Rattle.sky_histories.proofs.CopyCalls.{gives-there}
 use Rattle.sky_histories.proofs.ApplyCalls.{is_for_applying, gives-applies}
 use Rattle.sky_histories.proofs.NodeCalls.{is_for_consumers, is_consumers, gives-consumers}
-use Rattle.sky_histories.proofs.StatementMarks.{EachMark, each-append, each-given, Gives, gives-map, AnyReply, after, either, gives-tells, Kinds, no_more, may_leave, attempt_kinds, kinds, gives-form, each-failure, given-runs, settling-gives}
+use Rattle.sky_histories.proofs.StatementMarks.{EachMark, each-append, each-given, Gives, gives-map, AnyReply, after, either, gives-tells, gives-form, each-failure, given-runs, settling-gives, checked}
 use Rattle.std.specs.List.{list_any}
 
 -- ---- calls by which no copy begins
 
-unbegun-if : (k : Kinds) (who : ℕ) (mark : Mark) → may_leave k who mark ≡ true → is_no_begin mark ≡ true
-unbegun-if k who (began (of_copy table) t) e = absurd (cc)
-unbegun-if k who _ e = refl
+unbegun-if : (k : Leaves) (s : Session) (who : ℕ) (mark : Mark) → may_leave k s who mark ≡ true → is_no_begin mark ≡ true
+unbegun-if k s who (began (of_copy table) t) e = absurd (cc)
+unbegun-if k s who _ e = refl
 
-unbegun-form : (d : Database) (shown : Shown) (now : ℤ) (who : ℕ) (stmt : Stmt) → Gives AnyReply is_no_begin (form d shown now who stmt)
+unbegun-form : (d : Database) (shown : Shown) (now : ℤ) (who : ℕ) (stmt : DbStmt) → Gives AnyReply is_no_begin (form d shown now who stmt)
 unbegun-form d shown now who stmt =
-    let k : Kinds = kinds (d.part.session who).is_open stmt in
-    gives-map AnyReply AnyReply (may_leave k who) is_no_begin (λ reply any. any) (unbegun-if k who) _ (gives-form who d shown now stmt)
+    let k : Leaves = (permit_of stmt).leaves in
+    gives-map AnyReply AnyReply (may_leave k (d.part.session who) who) is_no_begin (λ reply any. any) (unbegun-if k (d.part.session who) who) _ (gives-form who d shown now stmt)
 
-unbegun-statement : (h : History) (now : ℤ) (who : ℕ) (stmt : Stmt) → EachMark is_no_begin (statement database_by_history h now who stmt).marks
+unbegun-statement : (h : History) (now : ℤ) (who : ℕ) (stmt : DbStmt) → EachMark is_no_begin (statement database_by_history h now who stmt).marks
 unbegun-statement h now who stmt =
-    (given-runs AnyReply is_no_begin (λ _. tt) (unbegun-if no_more) (making database_by_history now who stmt) (where_of stmt) who h
+    (given-runs AnyReply is_no_begin (λ _. tt) (unbegun-if of_any) (making database_by_history now who stmt) (where_of stmt) who h
     (allowed (is_waiting who (waiting h)) (has_open who h) (block who h) (where_of stmt))
     (unbegun-form (database_of h) (shown_in h) now who stmt) (unbegun-form (database_of (sight_taken who ∷ h)) (shown_in (sight_taken who ∷ h)) now who stmt)).1
 
 unbegun-settling : (h : History) (now : ℤ) → EachMark is_no_begin (settling (within_part database_by_history now) h).marks
 unbegun-settling h now =
-    (settling-gives is_no_begin (λ who. refl) (unbegun-if (attempt_kinds true)) (within_part database_by_history now)
+    (settling-gives is_no_begin (λ who. refl) (unbegun-if of_resumed) (within_part database_by_history now)
     (record { tells = λ g c gives. gives-tells is_no_begin (λ mark _. refl) ReplyHasMoments (database_of g) now c gives }) h).marks
 
 unbegun-turn : (h : History) (now : ℤ) (turn : Turn) → EachMark is_no_begin turn.marks → EachMark is_no_begin (with_settling (within_part database_by_history now) h turn).marks
@@ -108,6 +109,7 @@ unbegun-call d (joining consumer) e = unbegun-consumer d (joining consumer) refl
 unbegun-call d (parting consumer) e = unbegun-consumer d (parting consumer) refl
 unbegun-call d (fetching consumer) e = unbegun-consumer d (fetching consumer) refl
 unbegun-call d (finishing batch) e = unbegun-consumer d (finishing batch) refl
+unbegun-call d (making_root name queue now) e = search (after, checked)
 unbegun-call d (making_leaf name provider tick) e = (tt, tt)
 unbegun-call d (adding name) e = gives-there is_no_begin (table_number d name) _ (λ table. search (after))
 unbegun-call d (removing name) e = gives-there is_no_begin (table_number d name) _ (λ table. (tt, unbegun-then table name (copy_txid table d.copies) _ tt))
@@ -161,4 +163,4 @@ covered-does h l covered (worked part now) chain =
     covered-marks h _ l chain (each-daemon_does is_no_begin now (λ mark _. refl) (λ r. refl) (λ t. refl) (λ t. refl) database_by_history h part) covered
 covered-does h l covered (served call) chain = covered-node h l covered call chain
 covered-does h l covered (failed who now) chain =
-    covered-marks h _ l chain (unbegun-turn h now (failing (part_of h) who) (each-failure AnyReply is_no_begin (λ _. tt) (unbegun-if no_more) who (own_txid who h) (block who h))) covered
+    covered-marks h _ l chain (unbegun-turn h now (failing (part_of h) who) (each-failure AnyReply is_no_begin (λ _. tt) (unbegun-if of_any) who (own_txid who h) (block who h))) covered

@@ -9,7 +9,7 @@ use Rattle.sky_model.specs.StepRetry.{back, brings, most_back, maint_retry_event
 use Rattle.sky_model.specs.Outcome.{Outcome, Checked, reply_of, marks_of, ◌>>=◌, does_marks}
 use Rattle.sky_model.specs.declared.daemon.DaemonPart.{DaemonPart}
 use Rattle.sky_model.specs.declared.daemon.DaemonPart.TheVariants.{Tick, Retry, Maintain}
-use Rattle.sky_model.specs.History.{Mark, QueueMark, queued, History, of_worker, began, ended, put, returned, switching, switched}
+use Rattle.sky_model.specs.History.{Mark, QueueMark, queued, History, of_worker, began, ended, put, returned, switching, switched, ticked, second_step}
 use Rattle.sky_model.specs.Queues.{NamedQueue}
 use Rattle.sky_model.specs.State.{Database, part_of}
 use Rattle.sky_model.specs.StepQueue.{next_tick}
@@ -18,7 +18,7 @@ use Rattle.sky_model.specs.StepRotation.{held_back, rotates_alone, rotates_by_it
 use Rattle.sky_model.specs.Reader.{DatabaseReader, database_by_history, within_part}
 use Rattle.sky_model.specs.Settling.{Turn, behind_marks, marked, with_rest, and_then, ready}
 use Rattle.sky_model.specs.Daemon.{quietly, ticks_of, daemon_does, moved_by, again_if, retries_of, first_steps_of, second_step_of_all}
-use Rattle.sky_histories.proofs.StatementMarks.{EachMark, each-append, each-given, AnyReply, gives-tick, is_common, each-front, each-second_steps}
+use Rattle.sky_histories.proofs.StatementMarks.{EachMark, each-append, each-given, AnyReply, gives-tick, is_common, is_tick, is_second, each-front, each-second_steps}
 
 module _ {P Q : Type 0} (r : DatabaseReader P) (s : DatabaseReader Q) (at : P → Q) (same : (p : P) → r.database p ≡ s.database (at p)) (behind : (p : P) (mark : Mark) → at (r.behind p mark) ≡ s.behind (at p) mark) where
   -- a place after marks is read as the other one after them
@@ -70,6 +70,14 @@ module _ {P Q : Type 0} (r : DatabaseReader P) (s : DatabaseReader Q) (at : P �
       same-maintains now (r.database p).queues p
       ∙ ap (λ (d : Database). and_then (within_part s now) (at p) (first_steps_of s now d.queues (at p)) (second_step_of_all s)) (same p)
 
+tick-common : (mark : QueueMark) → is_tick mark ≡ true → is_common mark ≡ true
+tick-common (ticked q id time seq) e = refl
+tick-common _ e = absurd (cc)
+
+second-common : (mark : QueueMark) → is_second mark ≡ true → is_common mark ≡ true
+second-common (second_step q t) e = refl
+second-common _ e = absurd (cc)
+
 -- each mark of it is one of queues, or of a worker's transaction, which commits
 module _ (p : Mark → Bool) (now : ℤ) (of_queues : (mark : QueueMark) → is_common mark ≡ true → p (queued mark) ≡ true) (returns : (retry : retry.Retry) → p (queued (returned retry now)) ≡ true)
     (begins : (t : ℕ) → p (began of_worker t) ≡ true) (ends : (t : ℕ) → p (ended of_worker t true) ≡ true) where
@@ -77,7 +85,7 @@ module _ (p : Mark → Bool) (now : ℤ) (of_queues : (mark : QueueMark) → is_
   each-ticks r [] x = tt
   each-ticks r (q ∷ queues) x =
       let marks : List Mark = (quietly (next_tick (r.database x) now q.number)).marks in
-      each-append p marks _ (each-given AnyReply p _ (gives-tick p of_queues (r.database x) now q.number)) (each-ticks r queues (behind_marks (within_part r now) x marks))
+      each-append p marks _ (each-given AnyReply p _ (gives-tick p (λ mark e. of_queues mark (tick-common mark e)) (r.database x) now q.number)) (each-ticks r queues (behind_marks (within_part r now) x marks))
 
   each-back : (t : ℕ) (rs : List retry.Retry) → EachMark p (back now t rs)
   each-back t [] = tt
@@ -131,7 +139,7 @@ module _ (p : Mark → Bool) (now : ℤ) (of_queues : (mark : QueueMark) → is_
       of : (c : Checked ℕ) → EachMark p (marks_of (c >>= (λ t. does_marks (Number (length (q ∷ queues))) (began of_worker t ∷ second_steps t (q ∷ queues) ++ ended of_worker t true ∷ []))))
       of (Ok t) =
           each-front p (began of_worker t) (second_steps t (q ∷ queues) ++ ended of_worker t true ∷ []) (begins t)
-          (each-append p (second_steps t (q ∷ queues)) (ended of_worker t true ∷ []) (each-second_steps p of_queues t (q ∷ queues)) (each-front p (ended of_worker t true) [] (ends t) tt))
+          (each-append p (second_steps t (q ∷ queues)) (ended of_worker t true ∷ []) (each-second_steps p (λ mark e. of_queues mark (second-common mark e)) t (q ∷ queues)) (each-front p (ended of_worker t true) [] (ends t) tt))
       of (Err refusal) = tt
 
   pub each-daemon_does : {P : Type 0} (r : DatabaseReader P) (x : P) (part : DaemonPart) → EachMark p (daemon_does r x part now).marks

@@ -1,7 +1,7 @@
 -- A statement of a database: from what the database keeps to its history.
 use Rattle.std.proofs.Common.{◌≡◌, ℕ, ℤ, Bool, true, false, List, [], ◌∷◌, ◌++◌, Option, Some, None, option_map, Ok, Err, refl, sym, ◌∙◌, ap}
 use Rattle.sky_val.specs.declared.event.Event.{Event}
-use Rattle.sky_model.specs.declared.stmt.Stmt.{Stmt}
+use Rattle.sky_model.specs.declared.stmt.DbStmt.{DbStmt}
 use Rattle.sky_model.specs.declared.reply.Refusal.{Refusal}
 use Rattle.sky_keys.specs.Waits.{is_waiting}
 use Rattle.sky_model.specs.History.{Batch, Mark, sight_taken, History}
@@ -54,7 +54,7 @@ same-shown : (h : History) → Legal h → shown_in h ≡ shown_by (database_of 
 same-shown h l = λ i. record { events = λ id. same-events h l id (active_batch id h) refl i; rows = same-rows h l i }
 
 -- by the history a statement does what it does by what the database keeps
-same-statement : (h : History) → Legal h → (now : ℤ) (who : ℕ) (stmt : Stmt) → statement database_by_history h now who stmt ≡ statement database_by_itself (database_of h) now who stmt
+same-statement : (h : History) → Legal h → (now : ℤ) (who : ℕ) (stmt : DbStmt) → statement database_by_history h now who stmt ≡ statement database_by_itself (database_of h) now who stmt
 same-statement h l now who stmt =
     same-made_by (making database_by_history now who stmt) (making database_by_itself now who stmt) (where_of stmt) who h (database_of h) (record {
       sessions = refl;
@@ -86,7 +86,7 @@ settling-kept h l now turn turn' same chain =
     same-with_settling (within_part database_by_history now) (within_part database_by_itself now) Fine Keeps (as-kept now) h (database_of h) turn turn' (record { legal = l; shows = refl }) same
     (each-past (within_part database_by_history now) (λ g. g) (database-reads now) h _ chain)
 
-pub same-turn_at : (h : History) → Legal h → (now : ℤ) (who : ℕ) (stmt : Stmt) → database_turn database_by_history h now who stmt ≡ database_turn database_by_itself (database_of h) now who stmt
+pub same-turn_at : (h : History) → Legal h → (now : ℤ) (who : ℕ) (stmt : DbStmt) → database_turn database_by_history h now who stmt ≡ database_turn database_by_itself (database_of h) now who stmt
 same-turn_at h l now who stmt =
     settling-kept h l now (turn_of who (statement database_by_history h now who stmt)) (turn_of who (statement database_by_itself (database_of h) now who stmt))
     (ap (turn_of who) (same-statement h l now who stmt)) (good_turn h l now who stmt)

@@ -5,7 +5,7 @@ use Rattle.sky_model.specs.declared.stmt.RowStmt.{RowStmt}
 use Rattle.sky_model.specs.declared.stmt.RowStmt.TheVariants.{Get}
 use Rattle.sky_model.specs.declared.reply.Refusal.{Refusal}
 use Rattle.sky_model.specs.declared.reply.Refusal.TheVariants.{EventIdsSpent}
-use Rattle.sky_model.specs.History.{Mark, of_session, ended, tabled, of_worker, wrote}
+use Rattle.sky_model.specs.History.{Mark, of_session, ended, tabled, wrote}
 use Rattle.sky_model.specs.Sessions.{Block}
 use Rattle.sky_model.specs.State.{RowPart, after_part, after_part_marks}
 use Rattle.sky_model.specs.ShownRows.{RowsShown, rows_by}
@@ -16,7 +16,9 @@ use Rattle.sky_model.specs.Gates.{Gate, takes, passed, takes_all, passed_all, ga
 use Rattle.sky_model.specs.Settling.{Turn, behind_marks, with_settling}
 use Rattle.sky_model.specs.Calls.{row_turn}
 use Rattle.sky_model.specs.Printed.{ReplyHasMoments}
-use Rattle.sky_histories.proofs.StatementMarks.{EachMark, each-map, AnyReply, each-given, Kinds, no_more, may_leave, gives-row_form, each-abort}
+use Rattle.sky_model.specs.Sessions.{Session}
+use Rattle.sky_model.specs.Permits.{Leaves, of_any, of_rows, may_leave, permit_of_row}
+use Rattle.sky_histories.proofs.StatementMarks.{EachMark, each-map, AnyReply, each-given, gives-row_form, each-abort}
 use Rattle.sky_histories.proofs.Turns.{ReadAlike, same-with_settling, alike-turn, Any, each-any}
 
 -- a place after marks is the part after them, and the gate after them
@@ -72,20 +74,21 @@ gated-none gate g (Ok o) plain = ap (λ b. refused_if (not b) EventIdsSpent >> O
 
 -- ---- what writes nothing
 
-pub plain-if : (k : Kinds) → k.writes ≡ false → (who : ℕ) (mark : Mark) → may_leave k who mark ≡ true → is_no_write mark ≡ true
-plain-if k none who (tabled (wrote of_worker t table key old new)) e = absurd (cc)
-plain-if k none who (tabled (wrote whose t table key old new)) e = absurd (cc)
-plain-if k none who _ e = refl
+pub plain-if : (k : Leaves) → k.writes ≡ false → (s : Session) (who : ℕ) (mark : Mark) → may_leave k s who mark ≡ true → is_no_write mark ≡ true
+plain-if k none s who (tabled (wrote (of_session v) t table key old new)) e = absurd (cc)
+plain-if k none s who (tabled (wrote whose t table key old new)) e = absurd (cc)
+plain-if k none s who _ e = refl
 
 -- a refusal that aborts a block
 pub plain-abort : (who : ℕ) (b : Block) (txid : Option ℕ) (refusal : Refusal) → WritesNone (abort who b txid refusal)
-plain-abort who b txid refusal = each-abort AnyReply is_no_write (λ _. tt) (plain-if no_more refl) who b txid refusal
+plain-abort who b txid refusal = each-abort AnyReply is_no_write (λ _. tt) (plain-if of_any refl) who b txid refusal
 
 -- `get`
 pub plain-get : (d : RowPart) (shown : RowsShown) (who : ℕ) (name : List ℕ) (key : List Val) → PlainOutcome (get d shown who name key)
 plain-get d shown who name key =
-    each-map (may_leave no_more who) is_no_write (plain-if no_more refl who) (marks_of (get d shown who name key))
-    (each-given ReplyHasMoments (may_leave no_more who) (get d shown who name key) (gives-row_form who d shown (Get name key)))
+    let k : Leaves = of_rows (permit_of_row (Get name key)).leaves in
+    each-map (may_leave k (d.session who) who) is_no_write (plain-if k refl (d.session who) who) (marks_of (get d shown who name key))
+    (each-given ReplyHasMoments (may_leave k (d.session who) who) (get d shown who name key) (gives-row_form who d shown (Get name key)))
 
 -- ---- the gate that always has room
 

@@ -1,13 +1,17 @@
 -- Whatever is called, the history of each database is one that its own calls make; and those are legal.
-use Rattle.std.proofs.Common.{zero, suc, ◌≡◌, All, ℕ, ℤ, List, [], ◌∷◌, ◌++◌, Bool, true, false, ◌&&◌, is_some, nat_le, ◌+◌, ◌^◌, arith, Option, Some, None, Ok, Err, map, length, refl, sym, ◌∙◌, ap, subst, if◌then◌else◌}
+use Rattle.std.proofs.Common.{zero, suc, ◌≡◌, All, ℕ, ℤ, List, [], ◌∷◌, ◌++◌, Bool, true, false, nat_le, ◌+◌, ◌^◌, arith, Option, Some, None, Ok, Err, map, length, refl, sym, ◌∙◌, ap, subst, if◌then◌else◌}
 use Rattle.sky_model.specs.StepRetry.{most_back, maint_retry_events}
 use Rattle.sky_model.specs.Retries.{retries}
 use Rattle.std.proofs.lemmas.List.Elements.{All-nil, All-cons, All-head, All-tail, All-weaker}
 use Rattle.sky_model.specs.declared.stmt.Stmt.{Stmt}
-use Rattle.sky_model.specs.InForm.{IsInForm}
+use Rattle.sky_model.specs.declared.stmt.DbStmt.{DbStmt}
+use Rattle.sky_model.specs.declared.stmt.WorldStmt.{WorldStmt}
+use Rattle.sky_model.specs.declared.stmt.WorldStmt.TheVariants.{Clock, PgqdOn, PgqdOff}
+use Rattle.sky_model.specs.declared.reply.Refusal.{Refusal}
+use Rattle.sky_model.specs.InForm.{IsDbInForm, IsInForm}
 use Rattle.sky_keys.specs.Waits.{is_waiting}
 use Rattle.sky_names.specs.Places.{place_of}
-use Rattle.sky_model.specs.History.{Mark, History, Fact, appeared, founded, entered as came, within, queued, ticked, Past}
+use Rattle.sky_model.specs.History.{Mark, History, Fact, appeared, founded, entered as came, within, queued, ticked, daemon_off, Past}
 use Rattle.sky_model.specs.Sessions.{has_open, block, session}
 use Rattle.sky_model.specs.Locks.{waiting}
 use Rattle.sky_model.specs.State.{part_of, queue_of, database_of}
@@ -20,7 +24,7 @@ use Rattle.sky_model.specs.Settling.{Turn, marked, and_then}
 use Rattle.sky_model.specs.Clock.{deed_in, waits_at}
 use Rattle.sky_model.specs.declared.daemon.DaemonPart.{DaemonPart}
 use Rattle.sky_model.specs.declared.daemon.DaemonPart.TheVariants.{Tick, Retry, Maintain}
-use Rattle.sky_model.specs.declared.stmt.Stmt.TheVariants.{CreateRoot, Node, Clock}
+use Rattle.sky_model.specs.declared.stmt.Stmt.TheVariants.{Db, Node, World as OnWorld}
 use Rattle.sky_model.specs.declared.reply.Reply.TheVariants.{Number, Null}
 use Rattle.sky_model.specs.declared.reply.Refusal.TheVariants.{IdsSpent}
 use Rattle.sky_model.specs.Queues.{NamedQueue, queues, ticks, newest_tick}
@@ -34,15 +38,14 @@ use Rattle.sky_model.specs.StepRotation.{held_back, rotates_by_itself}
 use Rattle.sky_histories.proofs.DaemonTurns.{same-daemon_does}
 use Rattle.sky_histories.proofs.ClockSteps.{after-clock}
 use Rattle.sky_model.specs.StepNode.{NodeCall, node_does}
-use Rattle.sky_model.specs.NodesOfWorld.{node_called}
 use Rattle.sky_histories.proofs.NodeCalls.{IsBetween, node-chain}
 use Rattle.sky_histories.proofs.NodesStanding.{NodeStands, stands-start, stands-does}
 use Rattle.sky_histories.proofs.CallsRest.{calls-rest}
 use Rattle.sky_model.specs.Nodes.{node, leaf_tables}
 use Rattle.sky_model.specs.Rows.{table_names}
 use Rattle.sky_model.specs.LawsOfNodes.{is_one_of}
-use Rattle.sky_histories.proofs.NodeDeeds.{node-quiet, after-node_does}
-use Rattle.sky_model.specs.Calls.{may_make, database_turn, opening, opens, outside_does, beside, gets_node, node_if, does_at, session_does, turn, Call, called, past_of}
+use Rattle.sky_histories.proofs.NodeDeeds.{after-node_does, after-refused, after-switches}
+use Rattle.sky_model.specs.Calls.{database_turn, opening, opens, outside_does, is_leaving, left_if, db_stmt_does, fails_if, refused_in, on_unless, world_stmt_does, turn, Call, called, past_of}
 use Rattle.sky_model.specs.SessionMarks.{look_of, entry_place, enters, failing}
 use Rattle.sky_model.specs.Promises.{after_all}
 use Rattle.sky_model.specs.DatabaseCalls.{DatabaseCall, stepped, entered, failed, worked, served, IsDatabaseCallInForm, database_does, database_part}
@@ -52,9 +55,9 @@ use Rattle.sky_model.specs.LawsOfHistories.{HistoriesAreMadeByOwnCalls}
 use Rattle.sky_histories.proofs.Legal.{IsAmong, IsQueue, AllWritable, Fine, looks, ticks_next, Chain, done, more, Legal, start, next}
 use Rattle.sky_histories.proofs.Good.{same-session, good_failure}
 use Rattle.sky_histories.proofs.LawfulTelling.{good_append, legal_behind}
-use Rattle.sky_histories.proofs.Turns.{same-turn_read}
+use Rattle.sky_histories.proofs.Turns.{ReadsAs, same-turn_read, same-fails_read}
 use Rattle.sky_histories.proofs.Lawful.{past-behind, database-reads, good_with_settling-by, good_turn, good_then, maint_may}
-use Rattle.sky_histories.proofs.PastHistories.{on_top-append, history-marks, AreOutside, history-outside, beside-outside}
+use Rattle.sky_histories.proofs.PastHistories.{on_top-append, history-marks, AreOutside, history-outside, left-outside, on-quiet, off-quiet}
 use Rattle.sky_model.proofs.Cases.{by_same}
 use Rattle.sky_histories.proofs.CopiesCovered.{AllCovered, covered-start}
 use Rattle.sky_histories.proofs.CoveredCalls.{covered-does}
@@ -186,14 +189,20 @@ stands_calls calls = (lawful_calls calls).stands
 
 -- ---- calls of the world
 
--- in the past a statement, with what it unblocks, reads its database's history
-pub same-turn-within : (past : Past) (d : ℕ) (now : ℤ) (who : ℕ) (stmt : Stmt) → database_turn (within_database by_past d) past now who stmt ≡ database_turn database_by_history (history_in past d) now who stmt
-same-turn-within past d now who stmt =
-    same-turn_read (within_database by_past d) database_by_history (λ p. history_in p d) (record {
-      database = λ p. refl;
-      shown = λ p. refl;
-      behind = λ p mark. ap (λ b. if b then mark ∷ history_in p d else history_in p d) (same-session d);
-    }) past now who stmt
+-- in the past a database reads as its history does
+reads-within : (d : ℕ) → ReadsAs (within_database by_past d) database_by_history (λ p. history_in p d)
+reads-within d = record {
+  database = λ p. refl;
+  shown = λ p. refl;
+  behind = λ p mark. ap (λ b. if b then mark ∷ history_in p d else history_in p d) (same-session d);
+}
+
+-- so does a statement, with what it unblocks, and what fails in a session's name
+pub same-turn-within : (past : Past) (d : ℕ) (now : ℤ) (who : ℕ) (stmt : DbStmt) → database_turn (within_database by_past d) past now who stmt ≡ database_turn database_by_history (history_in past d) now who stmt
+same-turn-within past d now who stmt = same-turn_read (within_database by_past d) database_by_history (λ p. history_in p d) (reads-within d) past now who stmt
+
+pub same-fails-within : (past : Past) (d : ℕ) (now : ℤ) (who : ℕ) (aborts : Bool) → fails_if (within_database by_past d) past now who aborts ≡ fails_if database_by_history (history_in past d) now who aborts
+same-fails-within past d now who aborts = same-fails_read (within_database by_past d) database_by_history (λ p. history_in p d) (reads-within d) past now who aborts
 
 -- such calls of a database make a history, and are in form if this holds
 record Made (formed : Type 0) (h : History) : Type 0 where
@@ -205,25 +214,41 @@ record Made (formed : Type 0) (h : History) : Type 0 where
 abbrev AllMade : Type 0 → Past → Type 0
 AllMade formed past = (d : ℕ) → Made formed (history_in past d)
 
--- a history with what a statement does is made so too
-made_turn : (formed : Type 0) (h : History) (now : ℤ) (who : ℕ) (stmt : Stmt) → (formed → IsInForm stmt) → Made formed h → Made formed (marked h (database_turn database_by_history h now who stmt).marks)
+-- a history with what a statement does is made so too, and one with what a failure does
+made_turn : (formed : Type 0) (h : History) (now : ℤ) (who : ℕ) (stmt : DbStmt) → (formed → IsDbInForm stmt) → Made formed h → Made formed (marked h (database_turn database_by_history h now who stmt).marks)
 made_turn formed h now who stmt is_form made = record {
   calls = stepped who stmt now ∷ made.calls;
   in_form = λ holds. All-cons IsDatabaseCallInForm (stepped who stmt now) made.calls (is_form holds) (made.in_form holds);
   make = λ i. marked (made.make i) (database_turn database_by_history (made.make i) now who stmt).marks;
 }
 
+made_failed : (formed : Type 0) (h : History) (now : ℤ) (who : ℕ) → Made formed h → Made formed (marked h (fails_if database_by_history h now who true).marks)
+made_failed formed h now who made = record {
+  calls = failed who now ∷ made.calls;
+  in_form = λ holds. All-cons IsDatabaseCallInForm (failed who now) made.calls tt (made.in_form holds);
+  make = λ i. marked (made.make i) (fails_if database_by_history (made.make i) now who true).marks;
+}
+
 made_if : (formed : Type 0) (past : Past) (b : Bool) (x y : Deed) → AllMade formed (on_top past x.facts) → AllMade formed (on_top past y.facts) → AllMade formed (on_top past (if b then x else y).facts)
 made_if formed past true x y all also = all
 made_if formed past false x y all also = also
 
+-- marks in a database with which its history is made so
+made_within : (formed : Type 0) (past : Past) (d : ℕ) (marks : List Mark) → Made formed (marked (history_in past d) marks) → AllMade formed past → AllMade formed (on_top past (map (within d) marks))
+made_within formed past d marks here all = λ n.
+    subst (Made formed) (sym (history-marks past d marks n))
+    (by_same (λ b. Made formed (if b then marked (history_in past n) marks else history_in past n)) d n
+    (λ same. subst (λ m. Made formed (marked (history_in past m) marks)) same here) (λ _. all n))
+
+-- facts that change no history
+made_behind : (formed : Type 0) (past : Past) (facts outside : List Fact) → AreOutside outside → AllMade formed (on_top past facts) → AllMade formed (on_top past (facts ++ outside))
+made_behind formed past facts outside none all = λ n. subst (Made formed) (sym (history-outside past facts outside n none)) (all n)
+
 -- a statement in a database, with what it changes outside of databases
-made_deed : (formed : Type 0) (past : Past) (d who : ℕ) (stmt : Stmt) (outside : List Fact) → AreOutside outside → (formed → IsInForm stmt) → AllMade formed past
+made_deed : (formed : Type 0) (past : Past) (d who : ℕ) (stmt : DbStmt) (outside : List Fact) → AreOutside outside → (formed → IsDbInForm stmt) → AllMade formed past
     → AllMade formed (on_top past (deed_in d outside (database_turn (within_database by_past d) past (world_of past).now who stmt)).facts)
-made_deed formed past d who stmt outside none is_form all = λ n.
-    subst (Made formed) (sym (history-outside past (map (within d) turn_within.marks) outside n none ∙ history-marks past d turn_within.marks n))
-    (by_same (λ b. Made formed (if b then marked (history_in past n) turn_within.marks else history_in past n)) d n
-    (λ same. subst (λ m. Made formed (marked (history_in past m) turn_within.marks)) same here) (λ _. all n))
+made_deed formed past d who stmt outside none is_form all =
+    made_behind formed past (map (within d) turn_within.marks) outside none (made_within formed past d turn_within.marks here all)
   where
     turn_within : Turn
     turn_within = database_turn (within_database by_past d) past (world_of past).now who stmt
@@ -232,14 +257,24 @@ made_deed formed past d who stmt outside none is_form all = λ n.
     here = subst (λ (x : Turn). Made formed (marked (history_in past d) x.marks)) (sym (same-turn-within past d (world_of past).now who stmt))
         (made_turn formed (history_in past d) (world_of past).now who stmt is_form (all d))
 
-made_opens : (formed : Type 0) (past : Past) (who : ℕ) (stmt : Stmt) (name : List ℕ) (found : Option ℕ) → (formed → IsInForm stmt) → AllMade formed past
+-- a refusal in a database
+made_refused : (formed : Type 0) (past : Past) (who d : ℕ) (refusal : Refusal) → AllMade formed past → AllMade formed (on_top past (refused_in by_past past who d refusal).facts)
+made_refused formed past who d refusal all =
+    after-refused (AllMade formed) past who d refusal all
+    (made_within formed past d fails.marks
+    (subst (λ (x : Turn). Made formed (marked (history_in past d) x.marks)) (sym (same-fails-within past d (world_of past).now who true)) (made_failed formed (history_in past d) (world_of past).now who (all d))) all)
+  where
+    fails : Turn
+    fails = fails_if (within_database by_past d) past (world_of past).now who true
+
+made_opens : (formed : Type 0) (past : Past) (who : ℕ) (stmt : DbStmt) (name : List ℕ) (found : Option ℕ) → (formed → IsDbInForm stmt) → AllMade formed past
     → AllMade formed (on_top past (opens by_past past who stmt name found).facts)
 made_opens formed past who stmt name (Some d) is_form all = made_deed formed past d who stmt (came who d ∷ []) (λ p n. refl) is_form all
 made_opens formed past who stmt name None is_form all =
     let d : ℕ = length (database_names past) in
     made_if formed past (nat_le 16 d) _ _ all (made_deed formed (founded name ∷ past) d who stmt (came who d ∷ []) (λ p n. refl) is_form all)
 
-made_outside : (formed : Type 0) (past : Past) (who : ℕ) (stmt : Stmt) (name : Option (List ℕ)) → (formed → IsInForm stmt) → AllMade formed past
+made_outside : (formed : Type 0) (past : Past) (who : ℕ) (stmt : DbStmt) (name : Option (List ℕ)) → (formed → IsDbInForm stmt) → AllMade formed past
     → AllMade formed (on_top past (outside_does by_past past who stmt name).facts)
 made_outside formed past who stmt None is_form all = all
 made_outside formed past who stmt (Some name) is_form all = made_opens formed past who stmt name (place_of name (database_names past)) is_form all
@@ -254,26 +289,14 @@ made_served formed h call made = record {
 -- a call for a node in a database
 made_called-in : (formed : Type 0) (past : Past) (d : ℕ) (call : NodeCall) → AllMade formed past
     → AllMade formed (on_top past (map (within d) (marks_of (node_does (database_of (history_in past d)) call))))
-made_called-in formed past d call all = λ n.
-    let marks : List Mark = marks_of (node_does (database_of (history_in past d)) call) in
-    subst (Made formed) (sym (history-marks past d marks n))
-    (by_same (λ b. Made formed (if b then marked (history_in past n) marks else history_in past n)) d n
-    (λ same. subst (λ m. Made formed (marked (history_in past m) marks)) same (made_served formed (history_in past d) call (all d))) (λ _. all n))
+made_called-in formed past d call all =
+    made_within formed past d (marks_of (node_does (database_of (history_in past d)) call)) (made_served formed (history_in past d) call (all d)) all
 
-made_at : (formed : Type 0) (past : Past) (who : ℕ) (stmt : Stmt) (d : ℕ) → (formed → IsInForm stmt) → AllMade formed past → AllMade formed (on_top past (does_at by_past past who stmt d).facts)
-made_at formed past who (Node stmt) d is_form all =
-    after-node_does (AllMade formed) (λ p e made. made) (λ p e table hand made. made) (λ p e batch made. made) (made_called-in formed) past who stmt d (made_deed formed past d who (Node stmt) [] (λ p n. refl) is_form all) all
-made_at formed past who (CreateRoot name queue) d is_form all =
-    let turn_within : Turn = database_turn (within_database by_past d) past (world_of past).now who (CreateRoot name queue) in
-    let got : Bool = gets_node ((world_of past).database d) turn_within in
-    made_if formed past (may_make ((world_of past).database d) who (CreateRoot name queue) && is_some (node_called (world_of past) name)) _ _ all
-    (made_deed formed past d who (CreateRoot name queue) (node_if got d) (node-quiet got d).histories is_form all)
-made_at formed past who stmt d is_form all =
-    made_deed formed past d who stmt (beside (world_of past) who stmt d) (beside-outside (world_of past) who stmt d) is_form all
-
-made_session : (formed : Type 0) (past : Past) (who : ℕ) (stmt : Stmt) (at : Option ℕ) → (formed → IsInForm stmt) → AllMade formed past → AllMade formed (on_top past (session_does by_past past who stmt at).facts)
-made_session formed past who stmt None is_form all = made_outside formed past who stmt (opening stmt) is_form all
-made_session formed past who stmt (Some d) is_form all = made_at formed past who stmt d is_form all
+made_db : (formed : Type 0) (past : Past) (who : ℕ) (stmt : DbStmt) (home : Option ℕ) → (formed → IsDbInForm stmt) → AllMade formed past → AllMade formed (on_top past (db_stmt_does by_past past who stmt home).facts)
+made_db formed past who stmt None is_form all = made_outside formed past who stmt (opening stmt) is_form all
+made_db formed past who stmt (Some d) is_form all =
+    let leaving : Bool = is_leaving (is_waiting who ((world_of past).database d).part.waiting) stmt in
+    made_deed formed past d who stmt (left_if who leaving) (left-outside who leaving) is_form all
 
 -- what a daemon does, by the past and by its database's history
 pub same-daemon-within : (past : Past) (d : ℕ) (part : DaemonPart) (now : ℤ) → daemon_does (within_database by_past d) past part now ≡ daemon_does database_by_history (history_in past d) part now
@@ -289,16 +312,26 @@ made_daemon formed h part now made = record {
 
 made_works : (formed : Type 0) (past : Past) (d : ℕ) (part : DaemonPart) (now : ℤ) → AllMade formed past
     → AllMade formed (on_top past (map (within d) (daemon_does (within_database by_past d) past part now).marks))
-made_works formed past d part now all = λ n.
-    subst (Made formed) (sym (history-marks past d (daemon_does (within_database by_past d) past part now).marks n))
-    (by_same (λ b. Made formed (if b then marked (history_in past n) (daemon_does (within_database by_past d) past part now).marks else history_in past n)) d n
-    (λ same. subst (λ m. Made formed (marked (history_in past m) (daemon_does (within_database by_past d) past part now).marks)) same
-    (subst (λ (x : Turn). Made formed (marked (history_in past d) x.marks)) (sym (same-daemon-within past d part now)) (made_daemon formed (history_in past d) part now (all d)))) (λ _. all n))
+made_works formed past d part now all =
+    made_within formed past d (daemon_does (within_database by_past d) past part now).marks
+    (subst (λ (x : Turn). Made formed (marked (history_in past d) x.marks)) (sym (same-daemon-within past d part now)) (made_daemon formed (history_in past d) part now (all d))) all
+
+made_world : (formed : Type 0) (past : Past) (who : ℕ) (stmt : WorldStmt) (home : Option ℕ) → AllMade formed past → AllMade formed (on_top past (world_stmt_does by_past past who stmt home).facts)
+made_world formed past who (Clock time) home all =
+    after-clock (AllMade formed) (λ p moment made. made) (made_works formed) past who time (waits_at (world_of past) who home) all
+made_world formed past who PgqdOn home all =
+    after-switches (AllMade formed) past who (λ d. on_unless d ((world_of past).daemons d)) home
+    (λ d. made_behind formed past [] (on_unless d ((world_of past).daemons d)) (on-quiet d ((world_of past).daemons d)).histories all) (λ d refusal. made_refused formed past who d refusal all) all
+made_world formed past who PgqdOff home all =
+    after-switches (AllMade formed) past who (λ d. daemon_off d ∷ []) home (λ d. made_behind formed past [] (daemon_off d ∷ []) (off-quiet d).histories all)
+    (λ d refusal. made_refused formed past who d refusal all) all
 
 made_statement : (formed : Type 0) (past : Past) (who : ℕ) (stmt : Stmt) → (formed → IsInForm stmt) → AllMade formed past → AllMade formed (on_top past (turn by_past who stmt past).facts)
-made_statement formed past who (Clock time) is_form all =
-    after-clock (AllMade formed) (λ p moment made. made) (made_works formed) past who time (waits_at (world_of past) who (home past who)) all
-made_statement formed past who stmt is_form all = made_session formed past who stmt (home past who) is_form all
+made_statement formed past who (Db stmt) is_form all = made_db formed past who stmt (home past who) is_form all
+made_statement formed past who (Node stmt) is_form all =
+    after-node_does (AllMade formed) (λ p e made. made) (λ p e table hand made. made) (λ p e batch made. made) (made_called-in formed) past who stmt (home past who)
+    (λ d refusal. made_refused formed past who d refusal all) all
+made_statement formed past who (OnWorld stmt) is_form all = made_world formed past who stmt (home past who) all
 
 made_called : (formed : Type 0) (past : Past) (call : Call) (found : Option ℕ) → (formed → IsInForm call.stmt) → AllMade formed past → AllMade formed (on_top past (called by_past past call found).facts)
 made_called formed past call (Some who) is_form all = made_statement formed past who call.stmt is_form all

@@ -2,14 +2,16 @@
 use Rattle.std.proofs.Common.{Bool, ◌≡◌, All, ℕ, suc, zero, ℤ, ◌+◌, ◌<◌, List, [], ◌∷◌, ◌++◌, true, false, ◌==◌, ◌||◌, ◌&&◌, ◌≤◌, nat_le, nat_lt, Option, Some, None, Ok, Err, is_ok, option_map, unwrap_or, find, not, length, is_some, refl, sym, ◌∙◌, ap, subst, arith, ◌^◌, if◌then◌else◌}
 use Rattle.std.proofs.lemmas.Bool.{cond_both}
 use Rattle.std.proofs.lemmas.Bool.Decides.{nat_tests}
-use Rattle.sky_model.specs.declared.stmt.Stmt.{Stmt}
+use Rattle.sky_model.specs.declared.stmt.DbStmt.{DbStmt}
 use Rattle.sky_model.specs.declared.stmt.Extra.{Extra}
 use Rattle.sky_model.specs.declared.stmt.RowStmt.{RowStmt}
-use Rattle.sky_model.specs.declared.stmt.Stmt.TheVariants.{Row, CreateQueue, DropQueue, SetQueueConfig, QueueInfo, InsertEvent, Ticker, ForceTick, RegisterConsumer, RegisterConsumerAt, UnregisterConsumer, NextBatch, GetBatchEvents, GetBatchInfo, EventRetry, FinishBatch, MaintRetryEvents, MaintRotateStep1, MaintRotateStep2, ConsumerInfo, AddTrigger, CreateRoot, Node, Clock, PgqdOn, PgqdOff}
+use Rattle.sky_model.specs.declared.stmt.DbStmt.TheVariants.{Row, Queue}
+use Rattle.sky_model.specs.declared.stmt.QueueStmt.{QueueStmt}
+use Rattle.sky_model.specs.declared.stmt.QueueStmt.TheVariants.{CreateQueue, DropQueue, SetQueueConfig, QueueInfo, InsertEvent, AddTrigger, Ticker, ForceTick, RegisterConsumer, RegisterConsumerAt, UnregisterConsumer, NextBatch, GetBatchEvents, GetBatchInfo, EventRetry, FinishBatch, MaintRetryEvents, MaintRotateStep1, MaintRotateStep2, ConsumerInfo}
 use Rattle.sky_model.specs.declared.reply.Reply.{Reply}
-use Rattle.sky_model.specs.declared.reply.Reply.TheVariants.{Number, Done}
+use Rattle.sky_model.specs.declared.reply.Reply.TheVariants.{Number}
 use Rattle.sky_model.specs.declared.reply.Limit.TheVariants.{Queues, Triggers}
-use Rattle.sky_model.specs.declared.reply.Refusal.TheVariants.{BadColumn, BadValue, NodeConsumer, NodeExists, QueueExists, ReservedType, SetQueue, HasConsumers, HasTriggers, NoParam, NoQueue, NoTable, QueueBusy, TableBusy, TooMany, TriggerExists, TxidsSpent, EventIdsSpent, NoBatch, NoConsumer, NoEvent}
+use Rattle.sky_model.specs.declared.reply.Refusal.TheVariants.{BadColumn, BadValue, NodeConsumer, ReservedType, SetQueue, HasConsumers, HasTriggers, NoParam, NoQueue, NoTable, QueueBusy, TableBusy, TooMany, TriggerExists, TxidsSpent, EventIdsSpent, NoBatch, NoConsumer, NoEvent}
 use Rattle.sky_keys.specs.Waits.{Waiting, is_waiting}
 use Rattle.pgq_retry.specs.declared.retry.Retry.{Retry}
 use Rattle.pgq_retry.specs.Retries.{is_asked, due_now}
@@ -17,17 +19,16 @@ use Rattle.sky_model.specs.Batches.{batch_events}
 use Rattle.sky_model.specs.Retries.{retries}
 use Rattle.sky_model.specs.StepRetry.{retry_of, brings, most_back, maint_retry_events, back}
 use Rattle.sky_names.specs.Places.{place_of}
-use Rattle.sky_model.specs.History.{Batch, Mark, of_session, of_worker, began, ended, sight_taken, tabled, waited, queued, made, raised, put, moved, unregistered, opened, closed, noded, root_made, History}
+use Rattle.sky_model.specs.History.{Batch, Mark, of_session, of_worker, began, ended, sight_taken, tabled, waited, queued, made, raised, put, moved, unregistered, opened, closed, History}
 use Rattle.sky_model.specs.Transactions.{next_txid, running}
 use Rattle.sky_model.specs.Sessions.{Block, outside, inside, failed, has_open, block, own_txid, session}
 use Rattle.sky_model.specs.Rows.{table_names, columns_of}
 use Rattle.sky_model.specs.Triggers.{triggers, triggers_of}
 use Rattle.sky_model.specs.StepTrigger.{has_trigger, may_ignore}
 use Rattle.sky_model.specs.Config.{param_of, configured_by}
-use Rattle.sky_model.specs.Queues.{queues_made, queues, queue_number, config, Tick, ticks, kept_ticks, tick, newest_tick, sequence, events, event_tables}
+use Rattle.sky_model.specs.Queues.{queues, queue_number, config, Tick, ticks, kept_ticks, tick, newest_tick, sequence, events, event_tables}
 use Rattle.sky_model.specs.Consumers.{consumers, subscription_id, position, active, Subscription, subscription, active_batch}
 use Rattle.sky_model.specs.Nodes.{node, is_set_queue}
-use Rattle.sky_model.specs.StepNode.{create_root}
 use Rattle.sky_model.specs.Locks.{waiting}
 use Rattle.sky_model.specs.State.{RowPart, part_of, queue_of, database_of}
 use Rattle.sky_model.specs.ShownRows.{RowsShown, rows_in, least_writer}
@@ -43,15 +44,15 @@ use Rattle.sky_model.specs.Reader.{shown_in, PartReader, part_by_history, databa
 use Rattle.sky_model.specs.Gates.{Gate, takes_all, gated, by_gate}
 use Rattle.sky_model.specs.Made.{takes_sight, looking, runs_if}
 use Rattle.sky_model.specs.Settling.{Turn, turn_of, behind_marks, and_then, ready, attempted, resumed, goes_on, settles, settling, with_settling}
-use Rattle.sky_model.specs.Calls.{row_form, form, row_making, making, row_statement, row_turn, statement, database_turn, turn}
-use Rattle.sky_histories.proofs.Legal.{MayWait, IsQueue, begins, ends, looks, begins_work, ends_work, ends_waiting, makes, asks, raises, puts, ticks_next, registers, opens as opens_fine, closes, moves, unregisters, configures, drops, traces, nodes, Chain, done, more, Legal, next}
+use Rattle.sky_model.specs.Calls.{row_form, queue_form, form, row_making, making, row_statement, row_turn, statement, database_turn, turn}
+use Rattle.sky_histories.proofs.Legal.{MayWait, IsQueue, begins, ends, looks, begins_work, ends_work, ends_waiting, makes, asks, raises, puts, ticks_next, registers, opens as opens_fine, closes, moves, unregisters, configures, drops, traces, Chain, done, more, Legal, next}
 use Rattle.sky_histories.proofs.Good.{MayStand, Good, same-session, good_test, good_test_then, good_found, good_if, good_refused, good_refused_by, good_commits}
 use Rattle.sky_histories.proofs.RowOutcomes.{OfRows, attempts-rows, form-rows}
 use Rattle.sky_histories.proofs.LawfulTelling.{good_append, legal_behind, good_tells}
 use Rattle.sky_histories.proofs.WaitersFit.{may_go_on}
 use Rattle.sky_histories.proofs.LawfulRows.{no-one, nothing, good_leaves, good_attempts, good_row_form}
 use Rattle.sky_histories.proofs.QueueNumbers.{among-number}
-use Rattle.sky_histories.proofs.SetQueues.{not-sets, found-new}
+use Rattle.sky_histories.proofs.SetQueues.{not-sets}
 use Rattle.sky_histories.proofs.Rotation.{newest-kept, kept-made, floor-newest}
 use Rattle.sky_histories.proofs.Commits.{good_switches}
 use Rattle.sky_histories.proofs.Rotating.{good_rotates, may_end_switches}
@@ -101,14 +102,6 @@ good_create_queue h l now who name =
         does_marks (Number 1) (in_own who t (session h who) [] ++ queued (made name t now) ∷ [])))))
     by_place (Some n) is = done
     by_place None is = good_test h who (nat_le 64 (length (queues h))) (TooMany Queues) _ (λ _. good_makes h now who name (Number 1) [] (λ g t still. done) is)
-
-good_create_root : (h : History) (now : ℤ) (who : ℕ) (name queue : List ℕ) → Good h who (create_root (database_of h) now who name queue)
-good_create_root h now who name queue =
-    good_test h who (is_some (node h)) (NodeExists name) _ (λ bare.
-    good_test h who (is_some (queue_number queue (queues h))) (QueueExists queue) _ (λ new.
-    good_test h who (nat_le 64 (length (queues h))) (TooMany Queues) _ (λ _.
-    good_makes h now who queue Done (noded (root_made name queue) ∷ [])
-    (λ g t still. more (nodes (root_made name queue) (still ∙ nothing (node h) bare, found-new queue (queues g) (queues_made g))) done) (nothing (queue_number queue (queues h)) new))))
 
 good_insert_event : (h : History) → Legal h → (now : ℤ) (who : ℕ) (name : List ℕ) (ev_type ev_data : Option (List ℕ)) (extra : Option Extra)
     → Good h who (insert_event (database_of h) now who name ev_type ev_data extra)
@@ -219,38 +212,44 @@ good_next_tick h l now who q is =
     (good_test h who (nat_le (2 ^ 64) (newest_id ((database_of h).queue q) + 1)) _ _ (λ _.
     more (ticks_next q _ now _ is (omega arith) (omega (arith, all))) done)) (λ _. done)
 
-good_form : (h : History) → Legal h → (now : ℤ) (who : ℕ) (stmt : Stmt) → MayStand h who (where_of stmt) → Good h who (form (database_of h) (shown_in h) now who stmt)
-good_form h l now who (Row stmt) may =
-    by_commit (λ s. MayStand h who (where_of_row s) → Good h who (form (database_of h) (shown_in h) now who (Row s))) (λ _. good_commit h l now who)
-    (λ s none may. subst (Good h who) (sym (none-first (database_of h) now who s _ none)) (good_tells h l now who _ (form-rows (part_of h) (rows_in h) who s) (good_row_form h l who s may))) stmt may
-good_form h l now who (CreateQueue queue) may = good_create_queue h l now who queue
-good_form h l now who (DropQueue name) may =
+good_queue_form : (h : History) → Legal h → (now : ℤ) (who : ℕ) (stmt : QueueStmt) → Good h who (queue_form (database_of h) (shown_in h) now who stmt)
+good_queue_form h l now who (CreateQueue queue) = good_create_queue h l now who queue
+good_queue_form h l now who (DropQueue name) =
     good_found h who (queue_number name (queues h)) (NoQueue name) _ (λ q is.
     good_test h who (is_set_queue name (node h)) SetQueue _ (λ other.
     good_test h who (not (length (consumers q h) == 0)) (HasConsumers (length (consumers q h))) _ (λ none.
     good_refused_by h who (option_map (λ t. HasTriggers (shown_name t)) (first_trigger_into q (triggers h))) _ (λ untold.
     good_refused_by h who (option_map QueueBusy (least_producer (database_of h) q)) _ (λ idle.
     more (drops q (no-member h q none) (none-into q (triggers h) untold) (none-put (has_part_in (event_tables q h)) (running h) idle) (not-sets h name q is other)) done)))))
-good_form h l now who (InsertEvent queue ev_type ev_data extra) may = good_insert_event h l now who queue ev_type ev_data extra
-good_form h l now who (SetQueueConfig name param value) may =
+good_queue_form h l now who (SetQueueConfig name param value) =
     good_found h who (queue_number name (queues h)) (NoQueue name) _ (λ q is.
     good_found h who (param_of param) (NoParam param) _ (λ p known.
     good_found h who (configured_by (config q h) p value) (BadValue param) _ (λ c set.
     more (configures q c (among-number name (queues h) q is)) done)))
-good_form h l now who (QueueInfo name) may = good_found h who (queue_number name (queues h)) (NoQueue name) _ (λ q is. done)
-good_form h l now who (Ticker name) may =
+good_queue_form h l now who (QueueInfo name) = good_found h who (queue_number name (queues h)) (NoQueue name) _ (λ q is. done)
+good_queue_form h l now who (InsertEvent queue ev_type ev_data extra) = good_insert_event h l now who queue ev_type ev_data extra
+good_queue_form h l now who (AddTrigger name table_name queue_name backup ignored) =
+    good_found h who (place_of table_name (table_names h)) (NoTable table_name) _ (λ table there.
+    good_found h who (queue_number queue_name (queues h)) (NoQueue queue_name) _ (λ queue is.
+    good_test h who (is_set_queue queue_name (node h)) SetQueue _ (λ other.
+    good_test h who (has_trigger name (triggers_of table (triggers h))) (TriggerExists name) _ (λ new.
+    good_test h who (nat_le 8 (length (triggers_of table (triggers h)))) (TooMany Triggers) _ (λ _.
+    good_refused_by h who (option_map BadColumn (find (λ column. not (may_ignore (columns_of table h) column)) ignored)) _ (λ _.
+    good_refused_by h who (option_map TableBusy (least_writer (part_of h) table)) _ (λ _.
+    more (traces table (Some name) _ (place_of_within table_name (table_names h) table there) (among-number queue_name (queues h) queue is) (new, not-sets h queue_name queue is other)) done)))))))
+good_queue_form h l now who (Ticker name) =
     good_found h who (queue_number name (queues h)) (NoQueue name) _ (λ q is. good_next_tick h l now who q (among-number name (queues h) q is))
-good_form h l now who (ForceTick name) may =
+good_queue_form h l now who (ForceTick name) =
     good_found h who (queue_number name (queues h)) (NoQueue name) _ (λ q is.
     good_test h who (nat_le (2 ^ 62) (sequence q h + forced (config q h))) _ _ (λ _.
     more (raises q _ (among-number name (queues h) q is) (omega arith)) done))
-good_form h l now who (RegisterConsumer name consumer) may =
+good_queue_form h l now who (RegisterConsumer name consumer) =
     good_found h who (queue_number name (queues h)) (NoQueue name) _ (λ q is.
     good_test h who (is_nodes (database_of h) name consumer) _ _ (λ _.
     good_if h who (is_some (((database_of h).queue q).sub consumer)) _ _ done (λ new.
     let all : newest_id ((database_of h).queue q) ≡ id_of (newest_tick (ticks q h)) = ap id_of (newest-kept h l q (among-number name (queues h) q is)) in
     good_registers h who q consumer _ (among-number name (queues h) q is) (no-one _ (subscription_id q consumer h) (nothing _ new)) (omega arith) (omega (arith, all, floor-newest h l q (among-number name (queues h) q is))))))
-good_form h l now who (RegisterConsumerAt name consumer at) may =
+good_queue_form h l now who (RegisterConsumerAt name consumer at) =
     good_found h who (queue_number name (queues h)) (NoQueue name) _ (λ q is.
     good_test h who (is_nodes (database_of h) name consumer) _ _ (λ _.
     good_test h who (at == 0 || nat_lt (newest_id ((database_of h).queue q)) at) _ _ (λ within.
@@ -271,17 +270,17 @@ good_form h l now who (RegisterConsumerAt name consumer at) may =
         let all : newest_id ((database_of h).queue q) ≡ id_of (newest_tick (ticks q h)) = ap id_of (newest-kept h l q (among-number name (queues h) q is)) in
         subst (λ o. Good h who (if is_some (stands_as q o) then does_marks (Number 0) (queued (moved q consumer at) ∷ []) else registers_at (database_of h) q consumer at))
         (sym stands) (good_registers h who q consumer at (among-number name (queues h) q is) stands (grind (arith, nat_tests, within, all)) (grind (arith, nat_tests, low)))
-good_form h l now who (UnregisterConsumer name consumer) may =
+good_queue_form h l now who (UnregisterConsumer name consumer) =
     good_found h who (queue_number name (queues h)) (NoQueue name) _ (λ q is.
     good_test h who (is_nodes (database_of h) name consumer) _ _ (λ _. good_leaves_queue h who q consumer (subscription_id q consumer h) (among-number name (queues h) q is) refl))
-good_form h l now who (NextBatch name consumer) may =
+good_queue_form h l now who (NextBatch name consumer) =
     good_found h who (queue_number name (queues h)) (NoQueue name) _ (λ q is.
     good_test h who (is_nodes (database_of h) name consumer) _ _ (λ _.
     good_found h who (((database_of h).queue q).sub consumer) (NoConsumer consumer) _ (λ sub stands.
     good_takes_batch h l who q consumer sub sub.active (among-number name (queues h) q is) stands)))
-good_form h l now who (GetBatchEvents batch) may = good_found h who ((shown_in h).events batch) _ _ (λ b _. done)
-good_form h l now who (GetBatchInfo batch) may = good_found h who (active_batch batch h) _ _ (λ b _. done)
-good_form h l now who (EventRetry id event seconds) may =
+good_queue_form h l now who (GetBatchEvents batch) = good_found h who ((shown_in h).events batch) _ _ (λ b _. done)
+good_queue_form h l now who (GetBatchInfo batch) = good_found h who (active_batch batch h) _ _ (λ b _. done)
+good_queue_form h l now who (EventRetry id event seconds) =
     good_found h who ((shown_in h).events id) NoBatch _ (λ es listed.
     good_found h who (active_batch id h) NoBatch _ (λ b active.
     good_test h who (is_nodes_batch (database_of h) b) NodeConsumer _ (λ _.
@@ -303,37 +302,29 @@ good_form h l now who (EventRetry id event seconds) may =
       };
       fresh = fresh;
     })) done)))))
-good_form h l now who MaintRetryEvents may = good_maint h l now who
-good_form h l now who (MaintRotateStep1 name) may =
+good_queue_form h l now who (FinishBatch batch) = good_finishes h who batch (active_batch batch h) refl
+good_queue_form h l now who MaintRetryEvents = good_maint h l now who
+good_queue_form h l now who (MaintRotateStep1 name) =
     good_found h who (queue_number name (queues h)) (NoQueue name) _ (λ q is. good_rotates h l now who q (among-number name (queues h) q is) (held_back now (queue_of h q)) refl)
-good_form h l now who MaintRotateStep2 may = good_by_worker h who (maint_rotate_step2 (database_of h)) (may_end_switches h l)
-good_form h l now who (FinishBatch batch) may = good_finishes h who batch (active_batch batch h) refl
-good_form h l now who (ConsumerInfo name consumer) may =
+good_queue_form h l now who MaintRotateStep2 = good_by_worker h who (maint_rotate_step2 (database_of h)) (may_end_switches h l)
+good_queue_form h l now who (ConsumerInfo name consumer) =
     good_found h who (queue_number name (queues h)) (NoQueue name) _ (λ q is.
     good_found h who (subscription q consumer h) (NoConsumer consumer) _ (λ sub _. done))
-good_form h l now who (AddTrigger name table_name queue_name backup ignored) may =
-    good_found h who (place_of table_name (table_names h)) (NoTable table_name) _ (λ table there.
-    good_found h who (queue_number queue_name (queues h)) (NoQueue queue_name) _ (λ queue is.
-    good_test h who (is_set_queue queue_name (node h)) SetQueue _ (λ other.
-    good_test h who (has_trigger name (triggers_of table (triggers h))) (TriggerExists name) _ (λ new.
-    good_test h who (nat_le 8 (length (triggers_of table (triggers h)))) (TooMany Triggers) _ (λ _.
-    good_refused_by h who (option_map BadColumn (find (λ column. not (may_ignore (columns_of table h) column)) ignored)) _ (λ _.
-    good_refused_by h who (option_map TableBusy (least_writer (part_of h) table)) _ (λ _.
-    more (traces table (Some name) _ (place_of_within table_name (table_names h) table there) (among-number queue_name (queues h) queue is) (new, not-sets h queue_name queue is other)) done)))))))
-good_form h l now who (CreateRoot name queue) may = good_create_root h now who name queue
-good_form h l now who (Node stmt) may = done
-good_form h l now who (Clock time) may = done
-good_form h l now who PgqdOn may = done
-good_form h l now who PgqdOff may = done
 
-good_runs_if : (h : History) → Legal h → (now : ℤ) (who : ℕ) (stmt : Stmt) (may : Checked (Unit {0})) → allowed (is_waiting who (waiting h)) (has_open who h) (block who h) (where_of stmt) ≡ may
+good_form : (h : History) → Legal h → (now : ℤ) (who : ℕ) (stmt : DbStmt) → MayStand h who (where_of stmt) → Good h who (form (database_of h) (shown_in h) now who stmt)
+good_form h l now who (Row stmt) may =
+    by_commit (λ s. MayStand h who (where_of_row s) → Good h who (form (database_of h) (shown_in h) now who (Row s))) (λ _. good_commit h l now who)
+    (λ s none may. subst (Good h who) (sym (none-first (database_of h) now who s _ none)) (good_tells h l now who _ (form-rows (part_of h) (rows_in h) who s) (good_row_form h l who s may))) stmt may
+good_form h l now who (Queue stmt) may = good_queue_form h l now who stmt
+
+good_runs_if : (h : History) → Legal h → (now : ℤ) (who : ℕ) (stmt : DbStmt) (may : Checked (Unit {0})) → allowed (is_waiting who (waiting h)) (has_open who h) (block who h) (where_of stmt) ≡ may
     → Chain h (runs_if (making database_by_history now who stmt) (where_of stmt) who h may).marks
 good_runs_if h l now who stmt (Err refusal) is = good_refused h who refusal
 good_runs_if h l now who stmt (Ok _) is =
     cond_both (takes_sight (where_of stmt) (session h who).sight) (looking who (or_refused who (session (sight_taken who ∷ h) who) (form (database_of (sight_taken who ∷ h)) (shown_in (sight_taken who ∷ h)) now who stmt))) _ (λ o. Chain h o.marks)
     (λ _. more (looks who) (good_form (sight_taken who ∷ h) (next l (looks who)) now who stmt (ap is_ok is))) (λ _. good_form h l now who stmt (ap is_ok is))
 
-good_statement : (h : History) → Legal h → (now : ℤ) (who : ℕ) (stmt : Stmt) → Chain h (statement database_by_history h now who stmt).marks
+good_statement : (h : History) → Legal h → (now : ℤ) (who : ℕ) (stmt : DbStmt) → Chain h (statement database_by_history h now who stmt).marks
 good_statement h l now who stmt = good_runs_if h l now who stmt (allowed (is_waiting who (waiting h)) (has_open who h) (block who h) (where_of stmt)) refl
 
 -- a place that reads as its past does; what a statement on rows does and may come there, still may once its writes are recorded
@@ -449,6 +440,6 @@ module _ {P : Type 0} (r : PartReader P) (past : P → History) (reads : ReadsPa
       (good_row_runs p l who stmt (allowed (is_waiting who (r.part p).waiting) ((r.part p).session who).is_open ((r.part p).session who).block (where_of_row stmt)) refl)
 
 -- so may a statement of a whole database by its history
-pub good_turn : (h : History) → Legal h → (now : ℤ) (who : ℕ) (stmt : Stmt) → Chain h (database_turn database_by_history h now who stmt).marks
+pub good_turn : (h : History) → Legal h → (now : ℤ) (who : ℕ) (stmt : DbStmt) → Chain h (database_turn database_by_history h now who stmt).marks
 good_turn h l now who stmt =
     good_with_settling-by (within_part database_by_history now) (λ g. g) (database-reads now) h l (turn_of who (statement database_by_history h now who stmt)) (good_statement h l now who stmt)

@@ -6,7 +6,6 @@ use Rattle.sky_model.specs.declared.daemon.DaemonPart.{DaemonPart}
 use Rattle.sky_model.specs.declared.daemon.DaemonPart.TheVariants.{Tick, Retry, Maintain}
 use Rattle.sky_model.specs.World.{daemon}
 use Rattle.sky_model.specs.Daemon.{period, is_due_at, first_after, earlier, next_due}
-use Rattle.sky_model.specs.Clock as statement
 use Rattle.sky_model.specs.LawsOfDaemons.{IsDue, IsFirstDue, IsNextDue, NextDueIsFirst}
 
 -- ---- one daemon

@@ -1,5 +1,8 @@
 -- Which marks calls for nodes leave, and that these may come.
-use Rattle.std.proofs.Common.{◌≡◌, ℕ, ◌+◌, ◌^◌, nat_le, List, [], ◌∷◌, ◌++◌, Bool, true, false, ◌&&◌, Option, Some, None, Ok, Err, All, is_some, length, refl, sym, ◌∙◌, ap, arith, option_map, if◌then◌else◌}
+use Rattle.sky_histories.proofs.SetQueues.{found-new}
+use Rattle.sky_histories.proofs.Snapshots.{just_begun, sound}
+use Rattle.sky_model.specs.Transactions.{next_txid}
+use Rattle.std.proofs.Common.{◌≡◌, ℕ, ◌+◌, ◌^◌, nat_le, List, [], ◌∷◌, ◌++◌, Bool, true, false, ◌&&◌, Option, Some, None, Ok, Err, All, is_some, length, refl, sym, ◌∙◌, ap, arith, option_map, if◌then◌else◌, ℤ}
 use Rattle.std.proofs.lemmas.Bool.Decides.{nat_tests}
 use Rattle.std.proofs.lemmas.List.Elements.{All-nil, All-cons}
 use Rattle.sky_names.specs.Places.{place_of}
@@ -7,11 +10,11 @@ use Rattle.sky_names.proofs.PlaceLemmas.{place_of_within, bytes_eq_refl}
 use Rattle.londiste_state.specs.declared.state.TableState.{TableState}
 use Rattle.londiste_state.specs.Nodes.{Node, of_root, of_leaf, is_among}
 use Rattle.sky_model.specs.declared.reply.Reply.TheVariants.{Number, Null}
-use Rattle.sky_model.specs.declared.reply.Limit.TheVariants.{Consumers, Triggers}
-use Rattle.sky_model.specs.declared.reply.Refusal.TheVariants.{ConsumerExists, IdsSpent, TableBusy, TooMany}
-use Rattle.sky_model.specs.History.{Mark, tabled, read_only, queued, registered, unregistered, opened, closed, traced, untraced, noded, NodeMark, joined, parted, leaf_made, leaf_added, leaf_removed, state_set, set_added, set_removed, History, of_worker, of_copy, began, ended, wrote, restarted}
+use Rattle.sky_model.specs.declared.reply.Limit.TheVariants.{Consumers, Triggers, Queues}
+use Rattle.sky_model.specs.declared.reply.Refusal.TheVariants.{ConsumerExists, IdsSpent, TableBusy, TooMany, QueueExists, TxidsSpent}
+use Rattle.sky_model.specs.History.{Mark, tabled, read_only, queued, registered, unregistered, opened, closed, traced, untraced, noded, NodeMark, joined, parted, leaf_made, leaf_added, leaf_removed, state_set, set_added, set_removed, History, of_worker, of_copy, began, ended, wrote, restarted, made, root_made}
 use Rattle.sky_model.specs.Nodes.{node, is_leaf, leaf_tables}
-use Rattle.sky_model.specs.Queues.{Tick, tick, queues, id_of, newest_tick, ticks}
+use Rattle.sky_model.specs.Queues.{Tick, tick, queues, id_of, newest_tick, ticks, queue_number, queues_made}
 use Rattle.sky_model.specs.Consumers.{consumers, Subscription, subscription, subscription_id, last_subscription, position, active, active_batch}
 use Rattle.sky_model.specs.Rows.{table_names}
 use Rattle.sky_model.specs.Triggers.{triggers, triggers_of}
@@ -21,18 +24,18 @@ use Rattle.sky_model.specs.Outcome.{Outcome, Checked, ◌>>=◌, ◌>>◌, refus
 use Rattle.sky_model.specs.Settling.{ready, marked}
 use Rattle.sky_model.specs.StepQueue.{newest_id}
 use Rattle.sky_model.specs.StepConsumer.{opens_batch, takes_batch}
-use Rattle.sky_model.specs.StepNode.{set_queue, joins, parts, set_trigger, lists, adds, NodeCall, joining, parting, fetching, finishing, making_leaf, adding, removing, moving, listing, unlisting, table_number, may_serve, call_form, node_does, beginning_copy, copying_rows, ending_copy, giving_up_copy, applying, holding, letting_go}
+use Rattle.sky_model.specs.StepNode.{set_queue, joins, parts, set_trigger, lists, adds, NodeCall, joining, parting, fetching, finishing, makes_root, making_root, making_leaf, adding, removing, moving, listing, unlisting, table_number, may_serve, call_form, node_does, beginning_copy, copying_rows, ending_copy, giving_up_copy, applying, holding, letting_go}
 use Rattle.sky_model.specs.LawsOfRetries.{IsBackAt}
-use Rattle.sky_histories.proofs.Legal.{brief, IsQueue, queue_of_set, AllWritable, IsUnused, IsAtSet, IsOfLast, at_joining, at_leaving, Fine, registers, unregisters, traces, untraces, guards, nodes, Chain, done, more, Legal, next, ends_copy}
+use Rattle.sky_histories.proofs.Legal.{brief, IsQueue, queue_of_set, AllWritable, IsUnused, IsAtSet, IsOfLast, at_joining, at_leaving, Fine, registers, unregisters, traces, untraces, guards, nodes, Chain, done, more, Legal, next, ends_copy, begins_work, ends_work, makes}
 use Rattle.sky_histories.proofs.NodeReadings.{set-number, no-node, same-node}
 use Rattle.sky_histories.proofs.Unawaited.{unawaited}
 use Rattle.sky_model.proofs.Cases.{by_test}
-use Rattle.sky_histories.proofs.Good.{Good, same-session, good_test, good_refused, good_refused_by}
+use Rattle.sky_histories.proofs.Good.{Good, same-session, good_test, good_refused, good_refused_by, good_test_then}
 use Rattle.sky_histories.proofs.LawfulRows.{no-one, nothing}
 use Rattle.sky_histories.proofs.Lawful.{good_takes_batch, good_closes}
 use Rattle.sky_histories.proofs.QueueNumbers.{among-number}
 use Rattle.sky_histories.proofs.Rotation.{newest-kept, floor-newest}
-use Rattle.sky_histories.proofs.StatementMarks.{EachMark, each-map, each-rest, each-given, Gives, gives-map, AnyReply, after, either}
+use Rattle.sky_histories.proofs.StatementMarks.{EachMark, each-map, each-rest, each-given, Gives, gives-map, AnyReply, after, either, checked}
 use Rattle.sky_model.specs.Copies.{copies, is_copied, is_copied_by, copy_txid}
 use Rattle.sky_model.specs.StepCopy.{given_up}
 use Rattle.sky_histories.proofs.CopyCalls.{is_for_copies, is_copies, gives-there, gives-copies, good-there, LeafGuarded, among-one, good_copies}
@@ -42,7 +45,7 @@ use Rattle.sky_histories.proofs.CopiesCovered.{AllCovered}
 use Rattle.sky_model.specs.StepApply.{applies_batch}
 use Rattle.sky_histories.proofs.ApplyCalls.{is_for_applying, gives-applies, good_applies}
 
--- the marks that they leave, but for the applying of batches
+-- the marks that they leave, but for the making of a root and the applying of batches
 abbrev pub is_for_others : Mark → Bool
 is_for_others (queued (registered q name sub tick)) = true
 is_for_others (queued (unregistered q name sub)) = true
@@ -62,6 +65,7 @@ abbrev pub is_for_nodes : Mark → Bool
 is_for_nodes (began of_worker t) = true
 is_for_nodes (ended of_worker t committed) = true
 is_for_nodes (tabled (wrote of_worker t table key old new)) = true
+is_for_nodes (queued (made name t time)) = true
 is_for_nodes mark = is_for_others mark
 
 -- those of a leaf's consumer
@@ -145,12 +149,14 @@ others-then : (table : ℕ) (name : List ℕ) (o : Option ℕ) (marks : List Mar
 others-then table name None marks each = each
 others-then table name (Some t) marks each = each
 
--- whether a call applies a batch
-abbrev pub is_applying : NodeCall → Bool
-is_applying (applying events pick tick) = true
-is_applying _ = false
+-- whether a worker's transaction begins and ends in a call: a root is made, or a batch applied
+abbrev pub is_working : NodeCall → Bool
+is_working (making_root name queue now) = true
+is_working (applying events pick tick) = true
+is_working _ = false
 
-gives-other : (d : Database) (call : NodeCall) → is_applying call ≡ false → OtherGives (call_form d call)
+gives-other : (d : Database) (call : NodeCall) → is_working call ≡ false → OtherGives (call_form d call)
+gives-other d (making_root name queue now) e = absurd (cc)
 gives-other d (making_leaf name provider tick) e = (tt, tt)
 gives-other d (adding name) e = gives-there is_for_others (table_number d name) _ (λ table. search (after))
 gives-other d (removing name) e = gives-there is_for_others (table_number d name) _ (λ table. (tt, others-then table name (copy_txid table d.copies) _ tt))
@@ -168,6 +174,7 @@ others-too : (mark : Mark) → is_for_others mark ≡ true → is_for_nodes mark
 others-too (began of_worker t) e = refl
 others-too (ended of_worker t committed) e = refl
 others-too (tabled (wrote of_worker t table key old new)) e = refl
+others-too (queued (made name t time)) e = refl
 others-too _ e = e
 
 applying-too : (mark : Mark) → is_for_applying mark ≡ true → is_for_nodes mark ≡ true
@@ -179,6 +186,7 @@ applying-too _ e = absurd (cc)
 
 gives-call : (d : Database) (call : NodeCall) → Gives AnyReply is_for_nodes (call_form d call)
 gives-call d (applying events pick tick) = gives-map AnyReply AnyReply is_for_applying is_for_nodes (λ reply any. any) applying-too (applies_batch d pick tick events) (gives-applies d pick tick events)
+gives-call d (making_root name queue now) = search (after, checked)
 gives-call d call = gives-map AnyReply AnyReply is_for_others is_for_nodes (λ reply any. any) others-too (call_form d call) (gives-other d call refl)
 
 gives-node : (d : Database) (call : NodeCall) → Gives AnyReply is_for_nodes (node_does d call)
@@ -188,7 +196,7 @@ gives-node d call = either AnyReply is_for_nodes (may_serve call d.node) (call_f
 pub each-node : (p : Mark → Bool) → ((mark : Mark) → is_for_nodes mark ≡ true → p mark ≡ true) → (d : Database) (call : NodeCall) → EachMark p (marks_of (node_does d call))
 each-node p implies d call = each-map is_for_nodes p implies (marks_of (node_does d call)) (each-given AnyReply is_for_nodes (node_does d call) (gives-node d call))
 
-pub each-other : (p : Mark → Bool) → ((mark : Mark) → is_for_others mark ≡ true → p mark ≡ true) → (d : Database) (call : NodeCall) → is_applying call ≡ false → EachMark p (marks_of (node_does d call))
+pub each-other : (p : Mark → Bool) → ((mark : Mark) → is_for_others mark ≡ true → p mark ≡ true) → (d : Database) (call : NodeCall) → is_working call ≡ false → EachMark p (marks_of (node_does d call))
 each-other p implies d call other =
     each-map is_for_others p implies (marks_of (node_does d call))
     (each-given AnyReply is_for_others (node_does d call) (either AnyReply is_for_others (may_serve call d.node) (call_form d call) (answers Null) (gives-other d call other) (tt, tt)))
@@ -222,6 +230,7 @@ none-back (queued mark ∷ marks) all = All-cons (IsBackAt None) (queued mark) m
     of (closed batch) each = tt
     of (traced table name trigger) each = tt
     of (untraced table) each = tt
+    of (made name t time) each = tt
     of _ each = absurd each
 none-back (tabled (read_only table on) ∷ marks) all = All-cons (IsBackAt None) (tabled (read_only table on)) marks tt (none-back marks all)
 none-back (noded mark ∷ marks) all = All-cons (IsBackAt None) (noded mark) marks tt (none-back marks all)
@@ -370,12 +379,24 @@ good-moves h l name table state may there (Some t) is =
     (more (nodes (restarted name) tt)
     (more (nodes (state_set name state) (record { may = may; table = table; there = there; uncopied = gone h l table t runs })) done))
 
+-- a root is made
+good-root : (h : History) → Legal h → node h ≡ None → (name queue : List ℕ) (now : ℤ) → Good h 0 (makes_root (database_of h) now name queue)
+good-root h l bare name queue now =
+    good_test h 0 (is_some (queue_number queue (queues h))) (QueueExists queue) _ (λ new.
+    good_test h 0 (nat_le 64 (length (queues h))) (TooMany Queues) _ (λ _.
+    good_test_then h 0 (nat_le (2 ^ 62) (next_txid h)) TxidsSpent (next_txid h) _
+    (more begins_work
+    (more (ends_work (next_txid h) true (just_begun h (sound h l)).work)
+    (more (makes queue (next_txid h) now (nothing (queue_number queue (queues h)) new))
+    (more (nodes (root_made name queue) (bare, found-new queue (queues h) (queues_made h))) done))))))
+
 good_call : (h : History) → Legal h → IsBetween h → (call : NodeCall) → may_serve call (node h) ≡ true → Good h 0 (call_form (database_of h) call)
 good_call h l between (joining consumer) may = good-there h (set_queue (database_of h)) _ (λ q set. good-joins h l q consumer set)
 good_call h l between (parting consumer) may = good-there h (set_queue (database_of h)) _ (λ q set. good-parts h q consumer (subscription_id q consumer h) set refl)
 good_call h l between (fetching consumer) may =
     good-there h (set_queue (database_of h)) _ (λ q set. good-there h (subscription q consumer h) _ (λ sub stands. good_takes_batch h l 0 q consumer sub sub.active (set-stands h q set) stands))
 good_call h l between (finishing batch) may = good-there h (active_batch batch h) _ (λ b is. good_closes h batch b is)
+good_call h l between (making_root name queue now) may = good-root h l (no-node (node h) may) name queue now
 good_call h l between (making_leaf name provider tick) may =
     let none : node h ≡ None = no-node (node h) may in more (nodes (leaf_made name provider tick) (none, between.writable none)) done
 good_call h l between (adding name) may = good-there h (place_of name (table_names h)) _ (λ table there. good-adds h l between name table may there)

@@ -1,12 +1,11 @@
 -- What a statement on nodes does in the world: calls for nodes in databases, one after another.
-use Rattle.std.proofs.Common.{◌≡◌, ℕ, ◌==◌, List, [], ◌∷◌, ◌++◌, Bool, true, false, not, ◌||◌, map, Option, Some, None, Ok, Err, IfOk, is_some, is_none, option_map, bytes_eq, refl, sym, ◌∙◌, ap, subst, append_assoc, if◌then◌else◌}
+use Rattle.std.proofs.Common.{◌≡◌, ℕ, ℤ, ◌==◌, List, [], ◌∷◌, ◌++◌, Bool, true, false, not, ◌||◌, map, Option, Some, None, Ok, Err, IfOk, is_some, is_none, option_map, bytes_eq, refl, sym, ◌∙◌, ap, subst, append_assoc, if◌then◌else◌}
 use Rattle.std.proofs.lemmas.Bool.{not-false, or_parts}
 use Rattle.sky_names.specs.Places.{place_of}
 use Rattle.londiste_state.specs.Nodes.{Node, of_root, of_leaf, Root, Leaf, node_name, table_of, tables_of, is_among}
 use Rattle.sky_model.specs.Nodes.{node}
-use Rattle.sky_model.specs.declared.stmt.Stmt.TheVariants as stmt
 use Rattle.sky_model.specs.declared.stmt.NodeStmt.{NodeStmt}
-use Rattle.sky_model.specs.declared.stmt.NodeStmt.TheVariants.{CreateLeaf, AddTable, RemoveTable, TableState, CopyStep, Restart, RestartTable, LondisteStep}
+use Rattle.sky_model.specs.declared.stmt.NodeStmt.TheVariants.{CreateRoot, CreateLeaf, AddTable, RemoveTable, TableState, CopyStep, Restart, RestartTable, LondisteStep}
 use Rattle.sky_model.specs.declared.reply.Reply.{Reply}
 use Rattle.sky_model.specs.declared.reply.Reply.TheVariants.{Done, Null}
 use Rattle.sky_model.specs.declared.reply.Refusal.{Refusal}
@@ -15,27 +14,21 @@ use Rattle.sky_model.specs.History.{Mark, Fact, within, noded, leaf_made, node_m
 use Rattle.sky_model.specs.State.{Database, database_of}
 use Rattle.sky_model.specs.Hands.{BatchHand, Hand}
 use Rattle.sky_model.specs.World.{World, world_of, history_in, after_facts, on_top}
-use Rattle.sky_model.specs.Outcome.{Outcome, Checked, ◌>>=◌, ◌>>◌, refused_if, refused_by, found_or, answers, does_marks, marks_of}
-use Rattle.sky_model.specs.Reader.{part_by_history, by_past, within_database}
+use Rattle.sky_model.specs.Outcome.{Outcome, Checked, aborts, ◌>>=◌, ◌>>◌, refused_if, refused_by, found_or, answers, does_marks, marks_of}
+use Rattle.sky_model.specs.Reader.{part_by_history, by_past, within_database, answers_with}
 use Rattle.sky_model.specs.Settling.{behind_marks}
-use Rattle.sky_model.specs.Clock.{deed_in}
 use Rattle.sky_model.specs.StepQueue.{newest_id}
-use Rattle.sky_model.specs.StepNode.{set_queue, set_queue_of, joins, lists, unlists, adds, NodeCall, joining, making_leaf, adding, listing, unlisting, if_there, table_number, may_serve, call_form, node_does, removing}
-use Rattle.sky_model.specs.NodesOfWorld.{WorldOutcome, Located, if_named, node_among, node_called, done_in, leaf_of, create_leaf, provides, are_columns, columns_called, adds_to, first_user, shows_state}
+use Rattle.sky_model.specs.StepNode.{makes_root, making_root, set_queue, set_queue_of, joins, lists, unlists, adds, NodeCall, joining, making_leaf, adding, listing, unlisting, if_there, table_number, may_serve, call_form, node_does, removing}
+use Rattle.sky_model.specs.NodesOfWorld.{WorldOutcome, Located, if_named, node_among, node_called, done_in, root_of, create_root, leaf_of, create_leaf, provides, are_columns, columns_called, adds_to, first_user, shows_state}
 use Rattle.sky_model.specs.WorkerMoves.{Move}
 use Rattle.sky_model.specs.CopyMoves.{copy_move}
 use Rattle.sky_model.specs.ReplayMoves.{replay_move}
 use Rattle.sky_model.specs.WorkersOfWorld.{calls_facts, move_facts, moves, source, source_alike, leaf_table, restarts, restarting, provider_of, leaf_steps, leaves_leaf, removes_from, node_form}
-use Rattle.sky_model.specs.Calls.{may_make, database_turn, node_if, world_does, does_at}
+use Rattle.sky_model.specs.Calls.{allowed_outside, fails_if, refused_in, if_allowed, world_does, node_stmt_does, switches_daemon}
 use Rattle.sky_histories.proofs.LawfulRows.{nothing}
 use Rattle.sky_model.proofs.Cases.{by_test, by_same}
 use Rattle.sky_histories.proofs.Marks.{world_of-facts}
-use Rattle.sky_histories.proofs.PastHistories.{on_top-append, history-marks, AreQuiet}
-
--- a database that gets its node changes no history, and no session's home
-pub node-quiet : (b : Bool) (d : ℕ) → AreQuiet (node_if b d)
-node-quiet true d = record { histories = λ past n. refl; homes = λ past who. refl }
-node-quiet false d = record { histories = λ past n. refl; homes = λ past who. refl }
+use Rattle.sky_histories.proofs.PastHistories.{on_top-append, history-marks}
 
 -- what a call for a node leaves in a database
 abbrev call_facts : Past → ℕ → NodeCall → List Fact
@@ -150,6 +143,19 @@ module _ (past : Past) where
       (ap (λ n. marks_of (if is_none n then does_marks Done (noded (leaf_made name provider tick) ∷ []) else answers Null)) bare)
       (first q d (making_leaf name provider tick) (node_made d ∷ []) (gets _ d [] (none _)))
 
+  -- or a root
+  serves-root : (d : ℕ) (name queue : List ℕ) (now : ℤ) (c : Checked Outcome) → c ≡ node_does (database_of (history_in past d)) (making_root name queue now) → ServesIfOk (root_of d c)
+  serves-root d name queue now (Err refusal) same = tt
+  serves-root d name queue now (Ok making) same =
+      subst (λ x. Serves past (map (within d) (marks_of x) ++ node_made d ∷ [])) (sym same) (first past d (making_root name queue now) (node_made d ∷ []) (gets _ d [] (none _)))
+
+  serves-create_root : (d : ℕ) (name queue : List ℕ) → ServesIfOk (create_root w d name queue)
+  serves-create_root d name queue =
+      if-test (is_some (node_called w name) || is_some (w.database d).node) (NodeExists name) _ (λ new.
+      let bare : node (history_in past d) ≡ None = nothing (node (history_in past d)) (or_parts (is_some (node_called w name)) (is_some (w.database d).node) new).1 in
+      serves-root d name queue w.now (makes_root (w.database d) w.now name queue)
+      (sym (ap (λ n. if is_none n then makes_root (w.database d) w.now name queue else answers Null) bare)))
+
   serves-leaf : (d p : ℕ) (name provider : List ℕ) (tick queue : ℕ) (c : Checked Outcome) → c ≡ node_does (database_of (history_in past p)) (joining name) → node (history_in past d) ≡ None
       → (p == d) ≡ false → ServesIfOk (leaf_of d p name provider tick c)
   serves-leaf d p name provider tick queue (Err refusal) same bare other = tt
@@ -242,6 +248,7 @@ module _ (past : Past) where
   serves-state name table (of_leaf l) = if-found (table_of table l) (NotInSet table) _ (λ t _. none past)
 
   serves-form : (d : ℕ) (s : NodeStmt) → ServesIfOk (node_form w d s)
+  serves-form d (CreateRoot name queue) = serves-create_root d name queue
   serves-form d (CreateLeaf name provider) = serves-create_leaf d name provider
   serves-form d (AddTable name table_name) =
       if-found (node_called w name) (NoNode name) _ (λ n found.
@@ -267,21 +274,42 @@ module _ (past : Past) where
       serves-move past p n.database (in_hand n.database table) (restarting table (w.hands n.database table)) (λ r. in-hand n.database table r None))))
   serves-form d (LondisteStep name) = if-found (node_called w name) (NoNode name) _ (λ n _. serves-steps n.database name n.node)
 
--- what each of these keeps, a statement on nodes keeps, if it is kept where its session may not make it
+-- what each of these keeps, a statement on nodes keeps, if its refusal in its session's database does
 pub after-node_does : (Q : Past → Type 0) → ((past : Past) (d : ℕ) → Q past → Q (node_made d ∷ past))
     → ((past : Past) (d : ℕ) (table : List ℕ) (hand : Option Hand) → Q past → Q (in_hand d table hand ∷ past))
     → ((past : Past) (d : ℕ) (batch : Option BatchHand) → Q past → Q (batch_in_hand d batch ∷ past))
     → ((past : Past) (d : ℕ) (call : NodeCall) → Q past → Q (on_top past (map (within d) (marks_of (node_does (database_of (history_in past d)) call)))))
-    → (past : Past) (who : ℕ) (s : NodeStmt) (d : ℕ)
-    → Q (on_top past (deed_in d [] (database_turn (within_database by_past d) past (world_of past).now who (stmt.Node s))).facts)
-    → Q past → Q (on_top past (does_at by_past past who (stmt.Node s) d).facts)
-after-node_does Q made handed taken called past who s d refused q = of (may_make ((world_of past).database d) who (stmt.Node s))
+    → (past : Past) (who : ℕ) (s : NodeStmt) (home : Option ℕ)
+    → ((d : ℕ) (refusal : Refusal) → Q (on_top past (refused_in by_past past who d refusal).facts))
+    → Q past → Q (on_top past (node_stmt_does by_past past who s home).facts)
+after-node_does Q made handed taken called past who s None refused q = q
+after-node_does Q made handed taken called past who s (Some d) refused q = of (allowed_outside ((world_of past).database d) who)
   where
     does : (c : Checked WorldOutcome) → IfOk c (λ o. Serves past o.facts) → Q (on_top past (world_does who c).facts)
     does (Ok o) serves = after-serves Q made handed taken called past o.facts serves q
     does (Err refusal) serves = q
 
-    of : (b : Bool) → Q (on_top past (if b then world_does who (node_form (world_of past) d s)
-        else deed_in d [] (database_turn (within_database by_past d) past (world_of past).now who (stmt.Node s))).facts)
-    of true = does (node_form (world_of past) d s) (serves-form past d s)
-    of false = refused
+    of : (may : Checked (Unit {0})) → Q (on_top past (if_allowed by_past past who d may (world_does who (node_form (world_of past) d s))).facts)
+    of (Ok _) = does (node_form (world_of past) d s) (serves-form past d s)
+    of (Err refusal) = refused d refusal
+
+-- what a session's failure in a database keeps, a refusal there keeps
+pub after-refused : (Q : Past → Type 0) (past : Past) (who d : ℕ) (refusal : Refusal) → Q past
+    → Q (on_top past (map (within d) (fails_if (within_database by_past d) past (world_of past).now who true).marks)) → Q (on_top past (refused_in by_past past who d refusal).facts)
+after-refused Q past who d refusal q failed =
+    subst Q (sym (on_top-append past (map (within d) (fails_if (within_database by_past d) past (world_of past).now who (aborts refusal)).marks) [])) (of (aborts refusal))
+  where
+    of : (b : Bool) → Q (on_top past (map (within d) (fails_if (within_database by_past d) past (world_of past).now who b).marks))
+    of true = failed
+    of false = q
+
+-- what switching a daemon keeps, and a refusal, the statement on the daemon keeps
+pub after-switches : (Q : Past → Type 0) (past : Past) (who : ℕ) (facts : ℕ → List Fact) (home : Option ℕ)
+    → ((d : ℕ) → Q (on_top past (facts d))) → ((d : ℕ) (refusal : Refusal) → Q (on_top past (refused_in by_past past who d refusal).facts))
+    → Q past → Q (on_top past (switches_daemon by_past past who facts home).facts)
+after-switches Q past who facts None switched refused q = q
+after-switches Q past who facts (Some d) switched refused q = of (allowed_outside ((world_of past).database d) who)
+  where
+    of : (may : Checked (Unit {0})) → Q (on_top past (if_allowed by_past past who d may (answers_with who Done (facts d))).facts)
+    of (Ok _) = switched d
+    of (Err refusal) = refused d refusal

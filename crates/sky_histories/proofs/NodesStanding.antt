@@ -6,12 +6,12 @@ use Rattle.londiste_state.specs.declared.state.TableState.{TableState}
 use Rattle.londiste_state.specs.Nodes.{Node, of_root, of_leaf, is_among}
 use Rattle.sky_keys.specs.Waits.{is_waiting}
 use Rattle.sky_names.specs.Places.{place_of}
-use Rattle.sky_model.specs.declared.stmt.Stmt.{Stmt}
+use Rattle.sky_model.specs.declared.stmt.DbStmt.{DbStmt}
 use Rattle.sky_model.specs.declared.reply.Limit.TheVariants.{Triggers}
 use Rattle.sky_model.specs.declared.reply.Refusal.TheVariants.{TableBusy, TooMany}
 use Rattle.sky_model.specs.declared.reply.Reply.TheVariants.{Done, Null}
 use Rattle.sky_model.specs.History.{Mark, QueueMark, NodeMark, sight_taken, tabled, read_only, queued, traced, untraced, noded, root_made, set_added, set_removed, leaf_made, leaf_added, leaf_removed, state_set, History, of_copy, ended, restarted}
-use Rattle.sky_model.specs.Sessions.{has_open, block, own_txid, session}
+use Rattle.sky_model.specs.Sessions.{Session, has_open, block, own_txid, session}
 use Rattle.sky_model.specs.Rows.{table_names, is_read_only}
 use Rattle.sky_model.specs.Locks.{waiting}
 use Rattle.sky_model.specs.Queues.{queues_made, queues}
@@ -23,10 +23,11 @@ use Rattle.sky_model.specs.Outcome.{Checked, Outcome, ◌>>◌, refused_if, refu
 use Rattle.sky_model.specs.Allowed.{where_of, allowed}
 use Rattle.sky_model.specs.Made.{takes_sight}
 use Rattle.sky_model.specs.Printed.{ReplyHasMoments}
-use Rattle.sky_model.specs.StepNode.{set_queue, set_trigger, lists, adds, moves_table, NodeCall, making_leaf, adding, removing, moving, listing, unlisting, if_there, may_serve, call_form, node_does, beginning_copy, copying_rows, ending_copy, giving_up_copy, applying, holding, letting_go}
+use Rattle.sky_model.specs.StepNode.{set_queue, set_trigger, lists, adds, moves_table, NodeCall, makes_root, making_root, making_leaf, adding, removing, moving, listing, unlisting, if_there, may_serve, call_form, node_does, beginning_copy, copying_rows, ending_copy, giving_up_copy, applying, holding, letting_go}
 use Rattle.sky_model.specs.Reader.{Shown, shown_in, database_by_history, within_part}
 use Rattle.sky_model.specs.Settling.{Turn, turn_of, behind_marks, marked, settling, with_settling}
 use Rattle.sky_model.specs.Calls.{form, making, statement}
+use Rattle.sky_model.specs.Permits.{Leaves, of_any, of_resumed, may_leave, permit_of}
 use Rattle.sky_model.specs.SessionMarks.{look_of, entry_place, enters, failing}
 use Rattle.sky_model.specs.DatabaseCalls.{DatabaseCall, stepped, entered, failed, worked, served, database_does}
 use Rattle.sky_model.specs.LawsOfNodes.{is_at, is_one_of, triggers_into}
@@ -35,7 +36,7 @@ use Rattle.sky_histories.proofs.NodeReadings.{set-number, IsSameNode, same-node,
 use Rattle.sky_histories.proofs.SetQueues.{set-made, set-dropped}
 use Rattle.sky_histories.proofs.NodeTables.{one-push, one-less, one-apart, one-kept, has-queue, HaveTables, have-tables}
 use Rattle.sky_histories.proofs.NodeCalls.{is_for_consumers, gives-consumers}
-use Rattle.sky_histories.proofs.StatementMarks.{when-true, EachMark, each-map, each-append, each-rest, each-given, Gives, AnyReply, gives-map, gives-tells, Kinds, no_more, is_common, may_leave, attempt_kinds, kinds, gives-form, each-failure, given-runs, settling-gives}
+use Rattle.sky_histories.proofs.StatementMarks.{when-true, EachMark, each-map, each-append, each-rest, each-given, Gives, AnyReply, gives-map, gives-tells, is_common, is_told, gives-form, each-failure, given-runs, settling-gives, after, checked}
 use Rattle.sky_histories.proofs.DaemonTurns.{each-daemon_does}
 use Rattle.sky_model.proofs.Cases.{by_test, by_same}
 use Rattle.sky_model.specs.Copies.{copies, copy_txid}
@@ -346,6 +347,8 @@ stands-moves h l s name table state (Some t) chain = stands-marks h _ l chain tt
 
 stands-form : (h : History) → Legal h → NodeStands h → (call : NodeCall) → may_serve call (node h) ≡ true → Chain h (marks_of (call_form (database_of h) call))
     → NodeStands (marked h (marks_of (call_form (database_of h) call)))
+stands-form h l s (making_root name queue now) may chain =
+    stands-marks h _ l chain (each-given AnyReply is_single (makes_root (database_of h) now name queue) (search (after, checked))) s
 stands-form h l s (making_leaf name provider tick) may chain = stands-marks h _ l chain tt s
 stands-form h l s (moving name state) may chain = stands-moving (place_of name (table_names h)) chain
   where
@@ -378,36 +381,41 @@ stands-node h l s call chain =
 
 -- ---- other calls
 
-single-if : (k : Kinds) (who : ℕ) (mark : Mark) → may_leave k who mark ≡ true → is_single mark ≡ true
-single-if k who (queued (traced table name trigger)) e = (and_parts (is_some name) k.queues e).0
-single-if k who (queued (untraced table)) e = e
-single-if k who (tabled (read_only table on)) e = e
-single-if k who (noded (set_added table)) e = e
-single-if k who (noded (set_removed table)) e = e
-single-if k who (noded (leaf_added table)) e = e
-single-if k who (noded (leaf_removed table)) e = e
-single-if k who _ e = refl
+single-if : (k : Leaves) (s : Session) (who : ℕ) (mark : Mark) → may_leave k s who mark ≡ true → is_single mark ≡ true
+single-if k s who (queued (traced table name trigger)) e = (and_parts (is_some name) k.traces e).0
+single-if k s who (queued (untraced table)) e = e
+single-if k s who (tabled (read_only table on)) e = e
+single-if k s who (noded (set_added table)) e = e
+single-if k s who (noded (set_removed table)) e = e
+single-if k s who (noded (leaf_added table)) e = e
+single-if k s who (noded (leaf_removed table)) e = e
+single-if k s who _ e = refl
 
 single-queues : (mark : QueueMark) → is_common mark ≡ true → is_single (queued mark) ≡ true
 single-queues (traced table name trigger) e = e
 single-queues (untraced table) e = e
 single-queues _ e = refl
 
-single-form : (d : Database) (shown : Shown) (now : ℤ) (who : ℕ) (stmt : Stmt) → Gives AnyReply is_single (form d shown now who stmt)
-single-form d shown now who stmt =
-    let k : Kinds = kinds (d.part.session who).is_open stmt in
-    gives-map AnyReply AnyReply (may_leave k who) is_single (λ reply any. any) (single-if k who) _ (gives-form who d shown now stmt)
+single-told : (mark : QueueMark) → is_told mark ≡ true → is_single (queued mark) ≡ true
+single-told (traced table name trigger) e = absurd (cc)
+single-told (untraced table) e = absurd (cc)
+single-told _ e = refl
 
-single-statement : (h : History) (now : ℤ) (who : ℕ) (stmt : Stmt) → EachMark is_single (statement database_by_history h now who stmt).marks
+single-form : (d : Database) (shown : Shown) (now : ℤ) (who : ℕ) (stmt : DbStmt) → Gives AnyReply is_single (form d shown now who stmt)
+single-form d shown now who stmt =
+    let k : Leaves = (permit_of stmt).leaves in
+    gives-map AnyReply AnyReply (may_leave k (d.part.session who) who) is_single (λ reply any. any) (single-if k (d.part.session who) who) _ (gives-form who d shown now stmt)
+
+single-statement : (h : History) (now : ℤ) (who : ℕ) (stmt : DbStmt) → EachMark is_single (statement database_by_history h now who stmt).marks
 single-statement h now who stmt =
-    (given-runs AnyReply is_single (λ _. tt) (single-if no_more) (making database_by_history now who stmt) (where_of stmt) who h
+    (given-runs AnyReply is_single (λ _. tt) (single-if of_any) (making database_by_history now who stmt) (where_of stmt) who h
     (allowed (is_waiting who (waiting h)) (has_open who h) (block who h) (where_of stmt))
     (single-form (database_of h) (shown_in h) now who stmt) (single-form (database_of (sight_taken who ∷ h)) (shown_in (sight_taken who ∷ h)) now who stmt)).1
 
 single-settling : (h : History) (now : ℤ) → EachMark is_single (settling (within_part database_by_history now) h).marks
 single-settling h now =
-    (settling-gives is_single (λ who. refl) (single-if (attempt_kinds true)) (within_part database_by_history now)
-    (record { tells = λ g c gives. gives-tells is_single single-queues ReplyHasMoments (database_of g) now c gives }) h).marks
+    (settling-gives is_single (λ who. refl) (single-if of_resumed) (within_part database_by_history now)
+    (record { tells = λ g c gives. gives-tells is_single single-told ReplyHasMoments (database_of g) now c gives }) h).marks
 
 single-turn : (h : History) (now : ℤ) (turn : Turn) → EachMark is_single turn.marks → EachMark is_single (with_settling (within_part database_by_history now) h turn).marks
 single-turn h now turn each =
@@ -429,7 +437,7 @@ stands-does h l s (worked part now) chain =
     stands-marks h _ l chain (each-daemon_does is_single now single-queues (λ r. refl) (λ t. refl) (λ t. refl) database_by_history h part) s
 stands-does h l s (served call) chain = stands-node h l s call chain
 stands-does h l s (failed who now) chain =
-    stands-marks h _ l chain (single-turn h now (failing (part_of h) who) (each-failure AnyReply is_single (λ _. tt) (single-if no_more) who (own_txid who h) (block who h))) s
+    stands-marks h _ l chain (single-turn h now (failing (part_of h) who) (each-failure AnyReply is_single (λ _. tt) (single-if of_any) who (own_txid who h) (block who h))) s
 
 pub stands-start : NodeStands []
 stands-start = record { tracing = λ n. refl; guarding = λ n. refl; on_leaves = tt }

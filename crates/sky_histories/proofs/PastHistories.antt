@@ -1,13 +1,10 @@
 -- What facts do to the histories of databases.
 use Rattle.std.proofs.Common.{◌≡◌, ℕ, ℤ, List, [], ◌∷◌, ◌++◌, Bool, true, false, map, Option, Some, None, refl, ◌∙◌, ap, if◌then◌else◌, ◌==◌, arith}
-use Rattle.sky_model.specs.History.{Mark, Fact, within, Past}
-use Rattle.sky_model.specs.World.{World, home, history_in, on_top}
-use Rattle.sky_keys.specs.Waits.{is_waiting}
+use Rattle.sky_model.specs.History.{Mark, Fact, within, daemon_off, Past}
+use Rattle.sky_model.specs.World.{home, history_in, on_top}
 use Rattle.sky_model.specs.Reader.{part_by_history}
 use Rattle.sky_model.specs.Settling.{behind_marks}
-use Rattle.sky_model.specs.declared.stmt.Stmt.{Stmt}
-use Rattle.sky_model.specs.declared.stmt.Stmt.TheVariants.{PgqdOn, PgqdOff}
-use Rattle.sky_model.specs.Calls.{left_if, is_leaving, may_make, of_daemon_if, beside}
+use Rattle.sky_model.specs.Calls.{left_if, on_unless}
 
 pub on_top-append : (past : Past) (xs ys : List Fact) → on_top past (xs ++ ys) ≡ on_top (on_top past xs) ys
 on_top-append past [] ys = refl
@@ -38,19 +35,9 @@ pub record AreQuiet (facts : List Fact) : Type 0 where
   pub homes : (past : Past) (who : ℕ) → home (on_top past facts) who ≡ home past who
 
 -- a daemon being on or off is such
-pub daemon-quiet : (may : Bool) (d : ℕ) (start : Option ℤ) (stmt : Stmt) → AreQuiet (of_daemon_if may d start stmt)
-daemon-quiet true d None PgqdOn = record { histories = λ past n. refl; homes = λ past who. refl }
-daemon-quiet true d (Some moment) PgqdOn = record { histories = λ past n. refl; homes = λ past who. refl }
-daemon-quiet true d None PgqdOff = record { histories = λ past n. refl; homes = λ past who. refl }
-daemon-quiet true d (Some moment) PgqdOff = record { histories = λ past n. refl; homes = λ past who. refl }
-daemon-quiet true d start _ = record { histories = λ past n. refl; homes = λ past who. refl }
-daemon-quiet false d start stmt = record { histories = λ past n. refl; homes = λ past who. refl }
+pub on-quiet : (d : ℕ) (start : Option ℤ) → AreQuiet (on_unless d start)
+on-quiet d None = record { histories = λ past n. refl; homes = λ past who. refl }
+on-quiet d (Some moment) = record { histories = λ past n. refl; homes = λ past who. refl }
 
--- and facts one after another that change no history
-pub both-outside : (xs ys : List Fact) → AreOutside xs → AreOutside ys → AreOutside (xs ++ ys)
-both-outside xs ys none neither past n = history-outside past xs ys n neither ∙ none past n
-
-pub beside-outside : (w : World) (who : ℕ) (stmt : Stmt) (d : ℕ) → AreOutside (beside w who stmt d)
-beside-outside w who stmt d =
-    both-outside (left_if who (is_leaving (is_waiting who (w.database d).part.waiting) stmt)) (of_daemon_if (may_make (w.database d) who stmt) d (w.daemons d) stmt)
-    (left-outside who (is_leaving (is_waiting who (w.database d).part.waiting) stmt)) (daemon-quiet (may_make (w.database d) who stmt) d (w.daemons d) stmt).histories
+pub off-quiet : (d : ℕ) → AreQuiet (daemon_off d ∷ [])
+off-quiet d = record { histories = λ past n. refl; homes = λ past who. refl }

@@ -15,7 +15,9 @@ use Rattle.sky_model.specs.Reader.{PartReader, part_by_itself}
 use Rattle.sky_model.specs.Gates.{Gate, by_gate}
 use Rattle.sky_model.specs.Settling.{Turn, rests, behind_marks, with_rest, and_then, ready, attempted, resumed, goes_on, settles, settling}
 use Rattle.sky_model.specs.Printed.{ReplyHasMoments}
-use Rattle.sky_histories.proofs.StatementMarks.{EachMark, Gives, gives-map, Kinds, no_more, may_leave, attempt_kinds, gives-attempts, gives-gated, given-settled}
+use Rattle.sky_model.specs.Sessions.{Session}
+use Rattle.sky_model.specs.Permits.{Leaves, of_any, of_rows, attempt_leaves, may_leave}
+use Rattle.sky_histories.proofs.StatementMarks.{EachMark, Gives, gives-map, gives-attempts, gives-gated, given-settled}
 use Rattle.sky_model.proofs.Cases.{by_test}
 
 abbrev pub is_quiet : Mark → Bool
@@ -31,17 +33,17 @@ NoWaits marks = EachMark is_quiet marks
 abbrev pub Quiet : Checked Outcome → Type 0
 Quiet c = Gives ReplyHasMoments is_quiet c
 
-quiet-if : (k : Kinds) → k.blocks ≡ false → k.wakes ≡ false → (who : ℕ) (mark : Mark) → may_leave k who mark ≡ true → is_quiet mark ≡ true
-quiet-if k none still who (tabled (waits_mark v table key attempt)) e = absurd (cc (sym (ap (λ b. b && v == who) none) ∙ e))
-quiet-if k none still who (tabled (waited v)) e = absurd (cc)
-quiet-if k none still who _ e = refl
+quiet-if : (k : Leaves) → k.waits_for ≡ false → k.wakes ≡ false → (s : Session) (who : ℕ) (mark : Mark) → may_leave k s who mark ≡ true → is_quiet mark ≡ true
+quiet-if k none still s who (tabled (waits_mark v table key attempt)) e = absurd (cc (sym (ap (λ b. b && v == who) none) ∙ e))
+quiet-if k none still s who (tabled (waited v)) e = absurd (cc)
+quiet-if k none still s who _ e = refl
 
 -- an attempt with a key that no other session holds doesn't wait
 attempts-quiet : (d : RowPart) (shown : KeyShown) (who table : ℕ) (key : List Val) (attempt : Attempt) → other_holder d.holder who table key ≡ None
     → Quiet (attempts d shown who table key attempt)
 attempts-quiet d shown who table key attempt free =
-    let k : Kinds = attempt_kinds (is_some (other_holder d.holder who table key)) in
-    gives-map ReplyHasMoments ReplyHasMoments (may_leave k who) is_quiet (λ reply has. has) (quiet-if k (ap is_some free) refl who) _ (gives-attempts who d shown table key attempt)
+    let k : Leaves = of_rows (attempt_leaves (is_some (other_holder d.holder who table key))) in
+    gives-map ReplyHasMoments ReplyHasMoments (may_leave k (d.session who) who) is_quiet (λ reply has. has) (quiet-if k (ap is_some free) refl (d.session who) who) _ (gives-attempts who d shown table key attempt)
 
 waiting-quiet : (d : RowPart) (marks : List Mark) → NoWaits marks → (behind_marks part_by_itself d marks).waiting ≡ d.waiting
 waiting-quiet d [] quiet = refl
@@ -96,7 +98,7 @@ pub waiting-resumed : {P : Type 0} (r : PartReader P) → KeepsPart r → (p : P
 waiting-resumed {P = P} r keeps p w e =
     ap RowPart.waiting (part-behind_marks r keeps behind (attempted r w ((r.part p).attempt w.who) behind).marks)
     ∙ waiting-quiet (r.part behind) (attempted r w ((r.part p).attempt w.who) behind).marks
-    (given-settled ReplyHasMoments is_quiet (λ _. tt) (quiet-if no_more refl refl) w.who ((r.part behind).session w.who) (r.tells behind tried)
+    (given-settled ReplyHasMoments is_quiet (λ _. tt) (quiet-if of_any refl refl) w.who ((r.part behind).session w.who) (r.tells behind tried)
     (keeps.quiet behind tried (attempts-quiet (r.part behind) ((r.rows behind).key w.who w.table w.key) w.who w.table w.key ((r.part p).attempt w.who) free))).1
     ∙ ap RowPart.waiting gone
   where

@@ -1,17 +1,17 @@
 -- A statement on rows, in its part of a database: from what the part keeps to the history, and to the whole database.
-use Rattle.std.proofs.Common.{◌≡◌, ℕ, ℤ, List, [], ◌∷◌, true, refl, ◌∙◌, ap, if◌then◌else◌, false}
-use Rattle.sky_model.specs.declared.stmt.Stmt.{Stmt}
+use Rattle.std.proofs.Common.{◌≡◌, Bool, true, false, ℕ, ℤ, List, [], ◌∷◌, true, refl, ◌∙◌, ap, if◌then◌else◌, false}
+use Rattle.sky_model.specs.declared.stmt.DbStmt.{DbStmt}
 use Rattle.sky_model.specs.History.{Mark, ended, queued, made, History, noded, hold_begun, hold_ended}
 use Rattle.sky_model.specs.State.{RowPart, part_of, after_part, after_part_marks, Database, after_mark}
 use Rattle.sky_model.specs.ShownRows.{rows_by}
 use Rattle.sky_model.specs.World.{World}
 use Rattle.sky_model.specs.Reader.{part_by_history, part_by_itself, database_by_itself, within_database, by_world}
 use Rattle.sky_model.specs.Settling.{marked}
-use Rattle.sky_model.specs.Calls.{database_turn}
+use Rattle.sky_model.specs.Calls.{fails_if, database_turn}
 use Rattle.sky_histories.proofs.Legal.{Fine, Legal, next}
 use Rattle.sky_histories.proofs.Marks.{part_of-mark}
 use Rattle.sky_histories.proofs.Good.{same-session}
-use Rattle.sky_histories.proofs.Turns.{ReadAlike, same-turn_read}
+use Rattle.sky_histories.proofs.Turns.{ReadsAs, same-fails_read, ReadAlike, same-turn_read}
 use Rattle.sky_histories.proofs.RowSights.{same-rows}
 
 -- a legal history reads as what the part keeps of it
@@ -40,11 +40,19 @@ part-behind d (noded (hold_begun hold)) = refl
 part-behind d (noded (hold_ended hold)) = refl
 part-behind d _ = refl
 
+-- the world reads each database as it is
+reads-itself : (d : ℕ) → ReadsAs (within_database by_world d) database_by_itself (λ (v : World). v.database d)
+reads-itself d = record {
+  database = λ v. refl;
+  shown = λ v. refl;
+  behind = λ v mark. ap (λ b. if b then after_mark (v.database d) mark else v.database d) (same-session d);
+}
+
 -- within the world a statement, with what it unblocks, is one of the database
-pub turn-within : (w : World) (d : ℕ) (now : ℤ) (who : ℕ) (stmt : Stmt) → database_turn (within_database by_world d) w now who stmt ≡ database_turn database_by_itself (w.database d) now who stmt
+pub turn-within : (w : World) (d : ℕ) (now : ℤ) (who : ℕ) (stmt : DbStmt) → database_turn (within_database by_world d) w now who stmt ≡ database_turn database_by_itself (w.database d) now who stmt
 turn-within w d now who stmt =
-    same-turn_read (within_database by_world d) database_by_itself (λ (v : World). v.database d) (record {
-      database = λ v. refl;
-      shown = λ v. refl;
-      behind = λ v mark. ap (λ b. if b then after_mark (v.database d) mark else v.database d) (same-session d);
-    }) w now who stmt
+    same-turn_read (within_database by_world d) database_by_itself (λ (v : World). v.database d) (reads-itself d) w now who stmt
+
+-- and so is what fails in a session's name
+pub fails-within : (w : World) (d : ℕ) (now : ℤ) (who : ℕ) (aborts : Bool) → fails_if (within_database by_world d) w now who aborts ≡ fails_if database_by_itself (w.database d) now who aborts
+fails-within w d now who aborts = same-fails_read (within_database by_world d) database_by_itself (λ (v : World). v.database d) (reads-itself d) w now who aborts

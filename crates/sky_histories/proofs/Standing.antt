@@ -1,34 +1,41 @@
 -- From what the world shows to what has happened.
-use Rattle.std.proofs.Common.{◌≡◌, ℕ, zero, suc, ◌+◌, ℤ, ◌+ℤ◌, ◌-ℤ◌, int_lt, unsigned_abs, List, [], ◌∷◌, Bool, true, false, ◌&&◌, is_some, nat_le, length, Option, Some, None, refl, sym, ◌∙◌, ap, if◌then◌else◌}
+use Rattle.std.proofs.Common.{◌≡◌, ℕ, zero, suc, ◌+◌, ℤ, ◌+ℤ◌, ◌-ℤ◌, int_lt, unsigned_abs, List, [], ◌∷◌, Bool, true, false, nat_le, length, Option, Some, None, refl, sym, ◌∙◌, ap, if◌then◌else◌, Ok, Err}
 use Rattle.sky_model.specs.declared.stmt.Stmt.{Stmt}
+use Rattle.sky_model.specs.declared.stmt.DbStmt.{DbStmt}
+use Rattle.sky_model.specs.declared.stmt.NodeStmt.{NodeStmt}
+use Rattle.sky_model.specs.declared.stmt.WorldStmt.{WorldStmt}
+use Rattle.sky_model.specs.declared.stmt.WorldStmt.TheVariants.{Clock, PgqdOn, PgqdOff}
 use Rattle.sky_model.specs.declared.reply.Reply.{Reply}
 use Rattle.sky_model.specs.declared.reply.Refusal.TheVariants.{TooMany}
 use Rattle.sky_model.specs.declared.reply.Limit.TheVariants.{Sessions, Databases}
 use Rattle.sky_names.specs.Places.{place_of}
-use Rattle.sky_model.specs.History.{entered, within, clock_at, Past}
+use Rattle.sky_model.specs.History.{Fact, entered, within, clock_at, daemon_off, Past}
 use Rattle.sky_model.specs.World.{World, world_of, session_names, database_names, history_in, on_top, after_facts}
 use Rattle.sky_model.specs.Reader.{within_database, by_past, by_world, Deed, answers_with, refuses, appears, founds, idles, deed_with, followed}
 use Rattle.sky_model.specs.declared.daemon.DaemonPart.{DaemonPart}
 use Rattle.sky_model.specs.declared.daemon.DaemonPart.TheVariants.{Tick, Retry, Maintain}
-use Rattle.sky_model.specs.declared.stmt.Stmt.TheVariants.{CreateRoot, Node, Clock}
-use Rattle.sky_model.specs.declared.reply.Reply.TheVariants.{Moment}
-use Rattle.sky_model.specs.declared.reply.Refusal.TheVariants.{ClockSpent, NodeExists}
+use Rattle.sky_model.specs.declared.stmt.Stmt.TheVariants.{Db, Node, World as OnWorld}
+use Rattle.sky_model.specs.declared.reply.Reply.TheVariants.{Done, Moment, Refused}
+use Rattle.sky_model.specs.declared.reply.Refusal.TheVariants.{ClockSpent}
 use Rattle.sky_model.specs.Daemon.{is_due_at, next_due}
 use Rattle.sky_model.specs.Moment.{last_moment}
 use Rattle.sky_model.specs.Clock.{deed_in, part_works, daemon_works, daemons_work, at_moment, goes_to, through, clock, waits_at}
-use Rattle.sky_model.specs.NodesOfWorld.{node_called}
 use Rattle.sky_model.specs.WorkersOfWorld.{node_form}
-use Rattle.sky_model.specs.Calls.{may_make, database_turn, opening, opens_in, opens, outside_does, beside, world_does, roots_in, does_at, session_does, turn, Call, called, does, after, world_part, past_of, answers_of}
+use Rattle.sky_model.specs.Outcome.{Checked, aborts}
+use Rattle.sky_model.specs.Settling.{with_rest}
+use Rattle.sky_model.specs.DatabaseCalls.{failed}
+use Rattle.sky_keys.specs.Waits.{is_waiting}
+use Rattle.sky_model.specs.Calls.{database_turn, opening, opens_in, opens, outside_does, is_leaving, left_if, db_stmt_does, allowed_outside, fails_if, if_allowed, world_does, node_stmt_does, on_unless, switches_daemon, world_stmt_does, turn, Call, called, does, after, answers_of, world_part, past_of}
 use Rattle.sky_model.specs.Steps.{IsCallInForm, Steps, deed_at, answers_at, after_call}
 use Rattle.sky_histories.proofs.Marks.{world_of-fact, world_of-facts}
 use Rattle.sky_histories.proofs.DaemonTurns.{same-daemon_does}
-use Rattle.sky_histories.proofs.Histories.{AllLegal, same-turn-within, legal_past}
+use Rattle.sky_histories.proofs.Histories.{AllLegal, same-turn-within, same-fails-within, legal_past}
 use Rattle.sky_histories.proofs.Promised.{promised}
-use Rattle.sky_histories.proofs.RowStanding.{turn-within}
-use Rattle.sky_histories.proofs.DatabaseStanding.{same-turn_at}
+use Rattle.sky_histories.proofs.RowStanding.{turn-within, fails-within}
+use Rattle.sky_histories.proofs.DatabaseStanding.{same-turn_at, same-database_does}
 
 -- in a past a statement does, with those that it unblocks, what it does by what the world shows
-same-database_turn : (past : Past) → AllLegal past → (d : ℕ) (now : ℤ) (who : ℕ) (stmt : Stmt)
+same-database_turn : (past : Past) → AllLegal past → (d : ℕ) (now : ℤ) (who : ℕ) (stmt : DbStmt)
     → database_turn (within_database by_past d) past now who stmt ≡ database_turn (within_database by_world d) (world_of past) now who stmt
 same-database_turn past all d now who stmt =
     same-turn-within past d now who stmt ∙ same-turn_at (history_in past d) (all d) now who stmt ∙ sym (turn-within (world_of past) d now who stmt)
@@ -39,32 +46,43 @@ same-followed : (past : Past) (rest : Past → Deed) (rest_shown : World → Dee
 same-followed past rest rest_shown deed all same = ap (deed_with deed) (same (on_top past deed.facts) all ∙ ap rest_shown (world_of-facts past deed.facts))
 
 -- so does a turn
-same-opens_in : (who : ℕ) (stmt : Stmt) (d : ℕ) (past : Past) → AllLegal past → opens_in by_past who stmt d past ≡ opens_in by_world who stmt d (world_of past)
+same-opens_in : (who : ℕ) (stmt : DbStmt) (d : ℕ) (past : Past) → AllLegal past → opens_in by_past who stmt d past ≡ opens_in by_world who stmt d (world_of past)
 same-opens_in who stmt d past all = ap (deed_in d (entered who d ∷ [])) (same-database_turn past all d (world_of past).now who stmt)
 
-same-opens : (past : Past) → AllLegal past → (who : ℕ) (stmt : Stmt) (name : List ℕ) (found : Option ℕ) → opens by_past past who stmt name found ≡ opens by_world (world_of past) who stmt name found
+same-opens : (past : Past) → AllLegal past → (who : ℕ) (stmt : DbStmt) (name : List ℕ) (found : Option ℕ) → opens by_past past who stmt name found ≡ opens by_world (world_of past) who stmt name found
 same-opens past all who stmt name (Some d) = same-opens_in who stmt d past all
 same-opens past all who stmt name None =
     let d : ℕ = length (database_names past) in
     ap (λ deed. if nat_le 16 d then refuses who (TooMany Databases) else deed)
     (same-followed past (opens_in by_past who stmt d) (opens_in by_world who stmt d) (founds name) all (same-opens_in who stmt d))
 
-same-outside : (past : Past) → AllLegal past → (who : ℕ) (stmt : Stmt) (name : Option (List ℕ)) → outside_does by_past past who stmt name ≡ outside_does by_world (world_of past) who stmt name
+same-outside : (past : Past) → AllLegal past → (who : ℕ) (stmt : DbStmt) (name : Option (List ℕ)) → outside_does by_past past who stmt name ≡ outside_does by_world (world_of past) who stmt name
 same-outside past all who stmt None = refl
 same-outside past all who stmt (Some name) = same-opens past all who stmt name (place_of name (database_names past))
 
-same-at : (past : Past) → AllLegal past → (who : ℕ) (stmt : Stmt) (d : ℕ) → does_at by_past past who stmt d ≡ does_at by_world (world_of past) who stmt d
-same-at past all who (Node stmt) d =
-    ap (λ turn. if may_make ((world_of past).database d) who (Node stmt) then world_does who (node_form (world_of past) d stmt) else deed_in d [] turn)
-    (same-database_turn past all d (world_of past).now who (Node stmt))
-same-at past all who (CreateRoot name queue) d =
-    ap (λ turn. if may_make ((world_of past).database d) who (CreateRoot name queue) && is_some (node_called (world_of past) name) then refuses who (NodeExists name) else roots_in d ((world_of past).database d) turn)
-    (same-database_turn past all d (world_of past).now who (CreateRoot name queue))
-same-at past all who stmt d = ap (deed_in d (beside (world_of past) who stmt d)) (same-database_turn past all d (world_of past).now who stmt)
+same-db : (past : Past) → AllLegal past → (who : ℕ) (stmt : DbStmt) (home : Option ℕ) → db_stmt_does by_past past who stmt home ≡ db_stmt_does by_world (world_of past) who stmt home
+same-db past all who stmt None = same-outside past all who stmt (opening stmt)
+same-db past all who stmt (Some d) =
+    ap (deed_in d (left_if who (is_leaving (is_waiting who ((world_of past).database d).part.waiting) stmt))) (same-database_turn past all d (world_of past).now who stmt)
 
-same-session : (past : Past) → AllLegal past → (who : ℕ) (stmt : Stmt) (at : Option ℕ) → session_does by_past past who stmt at ≡ session_does by_world (world_of past) who stmt at
-same-session past all who stmt None = same-outside past all who stmt (opening stmt)
-same-session past all who stmt (Some d) = same-at past all who stmt d
+-- a refusal
+same-fails : (past : Past) → AllLegal past → (d : ℕ) (now : ℤ) (who : ℕ) (b : Bool) → fails_if (within_database by_past d) past now who b ≡ fails_if (within_database by_world d) (world_of past) now who b
+same-fails past all d now who true =
+    same-fails-within past d now who true ∙ sym (same-database_does (history_in past d) (all d) (failed who now)) ∙ sym (fails-within (world_of past) d now who true)
+same-fails past all d now who false = refl
+
+same-refused : (past : Past) → AllLegal past → (who d : ℕ) (may : Checked (Unit {0})) (deed : Deed) → if_allowed by_past past who d may deed ≡ if_allowed by_world (world_of past) who d may deed
+same-refused past all who d (Ok _) deed = refl
+same-refused past all who d (Err refusal) deed =
+    ap (λ turn. deed_in d [] (with_rest (record { answers = (who, Refused refusal) ∷ []; marks = [] }) turn)) (same-fails past all d (world_of past).now who (aborts refusal))
+
+same-node : (past : Past) → AllLegal past → (who : ℕ) (stmt : NodeStmt) (home : Option ℕ) → node_stmt_does by_past past who stmt home ≡ node_stmt_does by_world (world_of past) who stmt home
+same-node past all who stmt None = refl
+same-node past all who stmt (Some d) = same-refused past all who d (allowed_outside ((world_of past).database d) who) (world_does who (node_form (world_of past) d stmt))
+
+same-switches : (past : Past) → AllLegal past → (who : ℕ) (facts : ℕ → List Fact) (home : Option ℕ) → switches_daemon by_past past who facts home ≡ switches_daemon by_world (world_of past) who facts home
+same-switches past all who facts None = refl
+same-switches past all who facts (Some d) = same-refused past all who d (allowed_outside ((world_of past).database d) who) (answers_with who Done (facts d))
 
 -- ---- the clock
 
@@ -110,9 +128,15 @@ same-clock past who time false =
     (same-both past (λ q. answers_with who (Moment to) (clock_at to ∷ [])) (λ q. answers_with who (Moment to) (clock_at to ∷ [])) _ _
     (same-through to (unsigned_abs (to -ℤ (world_of past).now)) past) (λ later. refl))
 
+same-world : (past : Past) → AllLegal past → (who : ℕ) (stmt : WorldStmt) (home : Option ℕ) → world_stmt_does by_past past who stmt home ≡ world_stmt_does by_world (world_of past) who stmt home
+same-world past all who (Clock time) home = same-clock past who time (waits_at (world_of past) who home)
+same-world past all who PgqdOn home = same-switches past all who (λ d. on_unless d ((world_of past).daemons d)) home
+same-world past all who PgqdOff home = same-switches past all who (λ d. daemon_off d ∷ []) home
+
 same-turn : (past : Past) → AllLegal past → (who : ℕ) (stmt : Stmt) → turn by_past who stmt past ≡ turn by_world who stmt (world_of past)
-same-turn past all who (Clock time) = same-clock past who time (waits_at (world_of past) who ((world_of past).homes who))
-same-turn past all who stmt = same-session past all who stmt ((world_of past).homes who)
+same-turn past all who (Db stmt) = same-db past all who stmt ((world_of past).homes who)
+same-turn past all who (Node stmt) = same-node past all who stmt ((world_of past).homes who)
+same-turn past all who (OnWorld stmt) = same-world past all who stmt ((world_of past).homes who)
 
 same-called : (past : Past) → AllLegal past → (call : Call) (found : Option ℕ) → called by_past past call found ≡ called by_world (world_of past) call found
 same-called past all call (Some who) = same-turn past all who call.stmt

@@ -1,8 +1,8 @@
 -- What is unblocked is the same at places that read alike.
-use Rattle.std.proofs.Common.{◌≡◌, ℕ, ℤ, suc, zero, List, [], ◌∷◌, ◌++◌, Option, Some, None, length, refl, ◌∙◌, ap}
+use Rattle.std.proofs.Common.{◌≡◌, Bool, true, false, ℕ, ℤ, suc, zero, List, [], ◌∷◌, ◌++◌, Option, Some, None, length, refl, ◌∙◌, ap}
 use Rattle.sky_keys.specs.Waits.{Waiting, is_waiting}
 use Rattle.sky_model.specs.declared.stmt.RowStmt.{RowStmt}
-use Rattle.sky_model.specs.declared.stmt.Stmt.{Stmt}
+use Rattle.sky_model.specs.declared.stmt.DbStmt.{DbStmt}
 use Rattle.sky_model.specs.History.{Mark, sight_taken, tabled, waited}
 use Rattle.sky_model.specs.State.{RowPart, Database}
 use Rattle.sky_model.specs.Outcome.{or_refused}
@@ -11,7 +11,8 @@ use Rattle.sky_model.specs.StepRows.{attempts}
 use Rattle.sky_model.specs.Telling.{tells}
 use Rattle.sky_model.specs.Reader.{PartReader, DatabaseReader, Shown, within_part}
 use Rattle.sky_model.specs.Settling.{Turn, turn_of, behind_marks, with_rest, and_then, ready, resumed, goes_on, settles, settling, with_settling}
-use Rattle.sky_model.specs.Calls.{row_form, form, row_making, making, row_statement, row_turn, database_turn}
+use Rattle.sky_model.specs.SessionMarks.{failing}
+use Rattle.sky_model.specs.Calls.{fails_if, row_form, form, row_making, making, row_statement, row_turn, database_turn}
 use Rattle.sky_histories.proofs.MadeAt.{same-made_by}
 
 -- marks come one after another, each where it may
@@ -114,20 +115,32 @@ pub record ReadsAs {P Q : Type 0} (r : DatabaseReader P) (s : DatabaseReader Q) 
   pub shown : (p : P) → r.shown p ≡ s.shown (at p)
   pub behind : (p : P) (mark : Mark) → at (r.behind p mark) ≡ s.behind (at p) mark
 
--- a statement does the same there, with what it unblocks
-pub same-turn_read : {P Q : Type 0} (r : DatabaseReader P) (s : DatabaseReader Q) (at : P → Q) → ReadsAs r s at → (p : P) (now : ℤ) (who : ℕ) (stmt : Stmt)
-    → database_turn r p now who stmt ≡ database_turn s (at p) now who stmt
-same-turn_read r s at reads p now who stmt =
+-- a turn is the same there, with what it unblocks
+same-settled_read : {P Q : Type 0} (r : DatabaseReader P) (s : DatabaseReader Q) (at : P → Q) → ReadsAs r s at → (p : P) (now : ℤ) (turn turn' : Turn) → turn ≡ turn'
+    → with_settling (within_part r now) p turn ≡ with_settling (within_part s now) (at p) turn'
+same-settled_read r s at reads p now turn turn' same =
     same-with_settling (within_part r now) (within_part s now) Any (λ x y. at x ≡ y) (record {
       parts = λ x y is. ap Database.part (reads.database x) ∙ ap (λ z. (s.database z).part) is;
       rows = λ x y is. ap Shown.rows (reads.shown x) ∙ ap (λ z. (s.shown z).rows) is;
       tells = λ x y is. λ i checked. tells ((reads.database x ∙ ap s.database is) i) now checked;
       behind = λ x y mark is _. reads.behind x mark ∙ ap (λ z. s.behind z mark) is;
-    }) p (at p) _ _ refl
+    }) p (at p) turn turn' refl same (each-any (within_part r now) p _)
+
+-- a statement does the same
+pub same-turn_read : {P Q : Type 0} (r : DatabaseReader P) (s : DatabaseReader Q) (at : P → Q) → ReadsAs r s at → (p : P) (now : ℤ) (who : ℕ) (stmt : DbStmt)
+    → database_turn r p now who stmt ≡ database_turn s (at p) now who stmt
+same-turn_read r s at reads p now who stmt =
+    same-settled_read r s at reads p now _ _
     (ap (turn_of who) (same-made_by (making r now who stmt) (making s now who stmt) (where_of stmt) who p (at p) (record {
       sessions = ap (λ (d : Database). d.part.session who) (reads.database p);
       waiting = ap (λ (d : Database). is_waiting who d.part.waiting) (reads.database p);
       outcomes = λ i. form (reads.database p i) (reads.shown p i) now who stmt;
       sessions_behind = ap (λ (d : Database). d.part.session who) (reads.database (r.behind p (sight_taken who)) ∙ ap s.database (reads.behind p (sight_taken who)));
       outcomes_behind = λ i. form ((reads.database (r.behind p (sight_taken who)) ∙ ap s.database (reads.behind p (sight_taken who))) i) ((reads.shown (r.behind p (sight_taken who)) ∙ ap s.shown (reads.behind p (sight_taken who))) i) now who stmt;
-    }))) (each-any (within_part r now) p _)
+    })))
+
+-- and so does what fails in a session's name
+pub same-fails_read : {P Q : Type 0} (r : DatabaseReader P) (s : DatabaseReader Q) (at : P → Q) → ReadsAs r s at → (p : P) (now : ℤ) (who : ℕ) (aborts : Bool)
+    → fails_if r p now who aborts ≡ fails_if s (at p) now who aborts
+same-fails_read r s at reads p now who true = same-settled_read r s at reads p now _ _ (ap (λ (d : Database). failing d.part who) (reads.database p))
+same-fails_read r s at reads p now who false = refl

@@ -1,29 +1,32 @@
 -- A worker's transaction begins and commits in one turn, without a tick or a new retry in between; and retries come back at the moment of their call.
+use Rattle.sky_model.specs.declared.reply.Limit.TheVariants.{Queues}
 use Rattle.std.specs.List.{list_any}
-use Rattle.std.proofs.Common.{◌≡◌, ℕ, zero, suc, ℤ, ◌||◌, List, [], ◌∷◌, ◌++◌, Bool, true, false, ◌&&◌, not, filter, Option, Some, None, Ok, Err, length, nat_le, append_assoc, refl, sym, ap, subst, ◌∙◌, arith, All, Contains, ◌==◌, ◌+◌, ◌^◌, ◌<◌, ◌≤◌, if◌then◌else◌}
+use Rattle.std.proofs.Common.{◌≡◌, ℕ, zero, suc, ℤ, ◌||◌, List, [], ◌∷◌, ◌++◌, Bool, true, false, ◌&&◌, not, filter, Option, Some, None, Ok, Err, length, nat_le, append_assoc, refl, sym, ap, subst, ◌∙◌, arith, All, Contains, ◌==◌, ◌+◌, ◌^◌, ◌<◌, ◌≤◌, if◌then◌else◌, is_some}
 use Rattle.std.proofs.lemmas.Bool.Decides.{nat_tests}
-use Rattle.std.proofs.lemmas.Bool.{cond_both, and_parts, false_from_ne_true}
+use Rattle.std.proofs.lemmas.Bool.{cond_both, false_from_ne_true}
 use Rattle.std.proofs.lemmas.List.Elements.{All-head, All-tail, All-contains}
 use Rattle.sky_val.specs.declared.event.Event.{Event}
 use Rattle.sky_txid.specs.Ids.{contains}
 use Rattle.sky_keys.specs.Waits.{is_waiting}
 use Rattle.pgq_tables.specs.Listed.{is_for}
-use Rattle.sky_model.specs.declared.reply.Refusal.TheVariants.{TxidsSpent}
+use Rattle.sky_model.specs.declared.reply.Refusal.TheVariants.{TxidsSpent, QueueExists, TooMany}
 use Rattle.pgq_retry.specs.declared.retry.Retry.{Retry}
 use Rattle.pgq_retry.specs.Retries.{is_event, due_now}
-use Rattle.sky_model.specs.declared.stmt.Stmt.{Stmt}
+use Rattle.sky_model.specs.declared.stmt.DbStmt.{DbStmt}
 use Rattle.sky_model.specs.declared.stmt.RowStmt.{RowStmt}
-use Rattle.sky_model.specs.declared.stmt.RowStmt.TheVariants.{OpenDb, Close, Cancel, Insert, Update, Delete}
-use Rattle.sky_model.specs.declared.stmt.Stmt.TheVariants.{Row, MaintRetryEvents, MaintRotateStep2}
+use Rattle.sky_model.specs.declared.stmt.RowStmt.TheVariants.{OpenDb}
+use Rattle.sky_model.specs.declared.stmt.DbStmt.TheVariants.{Row, Queue}
+use Rattle.sky_model.specs.declared.stmt.QueueStmt.TheVariants.{MaintRetryEvents, MaintRotateStep2}
+use Rattle.sky_model.specs.Permits.{Leaves, of_any, of_resumed, may_leave, permit_of_row, permit_of}
 use Rattle.sky_model.specs.declared.daemon.DaemonPart.{DaemonPart}
 use Rattle.sky_model.specs.declared.daemon.DaemonPart.TheVariants as part
-use Rattle.sky_model.specs.declared.reply.Reply.TheVariants.{Number, Null}
+use Rattle.sky_model.specs.declared.reply.Reply.TheVariants.{Number, Null, Done}
 use Rattle.sky_model.specs.declared.reply.HeldBack.{HeldBack}
-use Rattle.sky_model.specs.History.{Mark, QueueMark, Pick, of_worker, tabled, wrote, noded, applied, began, ended, sight_taken, queued, made, put, ticked, asked, returned, switching, switched, History}
+use Rattle.sky_model.specs.History.{Mark, QueueMark, Pick, of_worker, tabled, wrote, noded, applied, began, ended, sight_taken, queued, made, put, ticked, asked, returned, switching, switched, History, root_made}
 use Rattle.sky_model.specs.Transactions.{next_txid}
 use Rattle.sky_model.specs.Sessions.{Session, session, has_open, block, own_txid}
 use Rattle.sky_model.specs.Locks.{waiting}
-use Rattle.sky_model.specs.Queues.{NamedQueue, queues, events}
+use Rattle.sky_model.specs.Queues.{NamedQueue, queues, events, queue_number}
 use Rattle.sky_model.specs.Retries.{retries, brought_by}
 use Rattle.sky_model.specs.OwnTransaction.{next_id}
 use Rattle.sky_model.specs.State.{RowPart, part_of, after_part, Database, queue_of, database_of}
@@ -41,7 +44,7 @@ use Rattle.sky_model.specs.Daemon.{quietly, ticks_of, moved_by, again_if, retrie
 use Rattle.sky_model.specs.Calls.{form, making, statement}
 use Rattle.sky_model.specs.SessionMarks.{look_of, failure, entry_place, enters, failing}
 use Rattle.sky_model.specs.StepApply.{picked, applies_events, applies_in, ends_applying, applies_picked, is_of_copied, applies_batch}
-use Rattle.sky_model.specs.StepNode.{NodeCall, applying, may_serve, node_does}
+use Rattle.sky_model.specs.StepNode.{NodeCall, applying, may_serve, node_does, makes_root, making_root}
 use Rattle.sky_histories.proofs.NodeCalls.{is_for_others, each-other}
 use Rattle.sky_histories.proofs.ApplyCalls.{is_written, each-event}
 use Rattle.sky_model.specs.DatabaseCalls.{DatabaseCall, stepped, entered, failed as failed_call, worked, served, database_does}
@@ -55,7 +58,7 @@ use Rattle.sky_histories.proofs.LawfulTelling.{legal_behind}
 use Rattle.sky_histories.proofs.RetryCopies.{copies}
 use Rattle.sky_histories.proofs.RetriesBack.{AreBack, due-back}
 use Rattle.sky_histories.proofs.EventsBegun.{events-begun}
-use Rattle.sky_histories.proofs.StatementMarks.{EachMark, each-map, each-first, each-rest, each-given, AnyReply, Gives, gives-map, gives-tick, gives-tells, Kinds, no_more, is_common, may_leave, attempt_kinds, row_kinds, kinds, gives-form, each-abort, each-failure, settling-gives}
+use Rattle.sky_histories.proofs.StatementMarks.{EachMark, each-map, each-first, each-rest, each-given, AnyReply, Gives, gives-map, gives-tick, gives-tells, is_common, is_told, is_tick, gives-form, each-abort, each-failure, settling-gives}
 
 -- no mark of a worker's transaction, and none by which a retry comes back
 abbrev pub is_no_work : Mark → Bool
@@ -68,23 +71,26 @@ no_work-queues : (mark : QueueMark) → is_common mark ≡ true → is_no_work (
 no_work-queues (returned retry moment) e = absurd (cc)
 no_work-queues _ e = refl
 
-no_work-if : (k : Kinds) → k.works ≡ false → (who : ℕ) (mark : Mark) → may_leave k who mark ≡ true → is_no_work mark ≡ true
-no_work-if k none who (began of_worker t) e = absurd (cc)
-no_work-if k none who (ended of_worker t committed) e = absurd (cc)
-no_work-if k none who (queued (returned retry moment)) e = absurd (cc (sym (and_parts k.queues k.works e).1 ∙ none))
-no_work-if k none who _ e = refl
+no_work-told : (mark : QueueMark) → is_told mark ≡ true → is_no_work (queued mark) ≡ true
+no_work-told (returned retry moment) e = absurd (cc)
+no_work-told _ e = refl
+
+no_work-tick : (mark : QueueMark) → is_tick mark ≡ true → is_no_work (queued mark) ≡ true
+no_work-tick (returned retry moment) e = absurd (cc)
+no_work-tick _ e = refl
+
+no_work-if : (k : Leaves) → k.works ≡ false → k.brings_back ≡ false → (s : Session) (who : ℕ) (mark : Mark) → may_leave k s who mark ≡ true → is_no_work mark ≡ true
+no_work-if k none never s who (began of_worker t) e = absurd (cc)
+no_work-if k none never s who (ended of_worker t committed) e = absurd (cc)
+no_work-if k none never s who (queued (returned retry moment)) e = absurd (cc)
+no_work-if k none never s who _ e = refl
 
 no_work-abort : (who : ℕ) (s : Session) (refusal : _) → EachMark is_no_work (abort who s.block s.txid refusal)
-no_work-abort who s refusal = each-abort AnyReply is_no_work (λ _. tt) (no_work-if no_more refl) who s.block s.txid refusal
+no_work-abort who s refusal = each-abort AnyReply is_no_work (λ _. tt) (no_work-if of_any refl refl) who s.block s.txid refusal
 
-pub rows-no_work : (is_open : Bool) (stmt : RowStmt) → (row_kinds is_open stmt).works ≡ false
-rows-no_work is_open (OpenDb name) = refl
-rows-no_work is_open Close = refl
-rows-no_work is_open Cancel = refl
-rows-no_work is_open (Insert table row) = refl
-rows-no_work is_open (Update table key sets) = refl
-rows-no_work is_open (Delete table key) = refl
-rows-no_work is_open _ = refl
+pub rows-no_work : (stmt : RowStmt) → ((permit_of_row stmt).leaves.works ≡ false) × ((permit_of_row stmt).leaves.brings_back ≡ false)
+rows-no_work (OpenDb name) = (refl, refl)
+rows-no_work _ = (refl, refl)
 
 -- an event of this id and this transaction that is for a subscription
 abbrev pub is_hit : ℕ → ℕ → ℕ → Event → Bool
@@ -305,26 +311,30 @@ rests-settled h who s (Err refusal) r also = rests-marks h (abort who s.block s.
 rests-plain : (h : History) (who : ℕ) (s : Session) (c : Checked Outcome) → Gives AnyReply is_no_work c → Rests h → Rests (marked h (or_refused who s c).marks)
 rests-plain h who s c gives r = rests-settled h who s c r (rests-marks h (marks_of c) (each-given AnyReply is_no_work c gives) r)
 
-plain-form : (d : Database) (shown : Shown) (now : ℤ) (who : ℕ) (stmt : Stmt) → (kinds (d.part.session who).is_open stmt).works ≡ false → Gives AnyReply is_no_work (form d shown now who stmt)
-plain-form d shown now who stmt none =
-    let k : Kinds = kinds (d.part.session who).is_open stmt in
-    gives-map AnyReply AnyReply (may_leave k who) is_no_work (λ reply any. any) (no_work-if k none who) _ (gives-form who d shown now stmt)
+plain-form : (d : Database) (shown : Shown) (now : ℤ) (who : ℕ) (stmt : DbStmt) → (permit_of stmt).leaves.works ≡ false → (permit_of stmt).leaves.brings_back ≡ false
+    → Gives AnyReply is_no_work (form d shown now who stmt)
+plain-form d shown now who stmt none never =
+    let k : Leaves = (permit_of stmt).leaves in
+    gives-map AnyReply AnyReply (may_leave k (d.part.session who) who) is_no_work (λ reply any. any) (no_work-if k none never (d.part.session who) who) _ (gives-form who d shown now stmt)
 
-rests-form : (h : History) → Legal h → Rests h → (now : ℤ) (who : ℕ) (stmt : Stmt) → Rests (marked h (or_refused who (session h who) (form (database_of h) (shown_in h) now who stmt)).marks)
-rests-form h l r now who (Row stmt) = rests-plain h who (session h who) (form (database_of h) (shown_in h) now who (Row stmt)) (plain-form (database_of h) (shown_in h) now who (Row stmt) (rows-no_work (has_open who h) stmt)) r
-rests-form h l r now who MaintRetryEvents =
+rests-form : (h : History) → Legal h → Rests h → (now : ℤ) (who : ℕ) (stmt : DbStmt) → Rests (marked h (or_refused who (session h who) (form (database_of h) (shown_in h) now who stmt)).marks)
+rests-form h l r now who (Row stmt) =
+    let none = rows-no_work stmt in
+    rests-plain h who (session h who) (form (database_of h) (shown_in h) now who (Row stmt)) (plain-form (database_of h) (shown_in h) now who (Row stmt) none.0 none.1) r
+rests-form h l r now who (Queue MaintRetryEvents) =
     rests-settled h who (session h who) (maint_retry_events (database_of h) now) r (rests-maint h l now r)
-rests-form h l r now who MaintRotateStep2 =
+rests-form h l r now who (Queue MaintRotateStep2) =
     rests-settled h who (session h who) (maint_rotate_step2 (database_of h)) r (rests-ends_switches h (database_of h) (lack_second_step (database_of h)) r)
-rests-form h l r now who stmt = rests-plain h who (session h who) (form (database_of h) (shown_in h) now who stmt) (plain-form (database_of h) (shown_in h) now who stmt refl) r
+rests-form h l r now who (Queue stmt) =
+    rests-plain h who (session h who) (form (database_of h) (shown_in h) now who (Queue stmt)) (plain-form (database_of h) (shown_in h) now who (Queue stmt) refl refl) r
 
-rests-runs : (h : History) → Legal h → Rests h → (now : ℤ) (who : ℕ) (stmt : Stmt) (may : Checked (Unit {0})) → Rests (marked h (runs_if (making database_by_history now who stmt) (where_of stmt) who h may).marks)
+rests-runs : (h : History) → Legal h → Rests h → (now : ℤ) (who : ℕ) (stmt : DbStmt) (may : Checked (Unit {0})) → Rests (marked h (runs_if (making database_by_history now who stmt) (where_of stmt) who h may).marks)
 rests-runs h l r now who stmt (Err refusal) = rests-marks h (abort who (session h who).block (session h who).txid refusal) (no_work-abort who (session h who) refusal) r
 rests-runs h l r now who stmt (Ok _) =
     cond_both (takes_sight (where_of stmt) (session h who).sight) (looking who (or_refused who (session (sight_taken who ∷ h) who) (form (database_of (sight_taken who ∷ h)) (shown_in (sight_taken who ∷ h)) now who stmt))) _ (λ o. Rests (marked h o.marks))
     (λ _. rests-form (sight_taken who ∷ h) (next l (looks who)) (rests-mark h (sight_taken who) tt r) now who stmt) (λ _. rests-form h l r now who stmt)
 
-rests-statement : (h : History) → Legal h → Rests h → (now : ℤ) (who : ℕ) (stmt : Stmt) → Rests (marked h (statement database_by_history h now who stmt).marks)
+rests-statement : (h : History) → Legal h → Rests h → (now : ℤ) (who : ℕ) (stmt : DbStmt) → Rests (marked h (statement database_by_history h now who stmt).marks)
 rests-statement h l r now who stmt = rests-runs h l r now who stmt (allowed (is_waiting who (waiting h)) (has_open who h) (block who h) (where_of stmt))
 
 -- ---- what follows it
@@ -338,8 +348,8 @@ rests-then now h turn rest r also =
 
 settling-no_work : (h : History) (now : ℤ) → EachMark is_no_work (settling (within_part database_by_history now) h).marks
 settling-no_work h now =
-    (settling-gives is_no_work (λ who. refl) (no_work-if (attempt_kinds true) refl) (within_part database_by_history now)
-    (record { tells = λ g c gives. gives-tells is_no_work no_work-queues ReplyHasMoments (database_of g) now c gives }) h).marks
+    (settling-gives is_no_work (λ who. refl) (no_work-if of_resumed refl refl) (within_part database_by_history now)
+    (record { tells = λ g c gives. gives-tells is_no_work no_work-told ReplyHasMoments (database_of g) now c gives }) h).marks
 
 rests-settling : (now : ℤ) (h : History) (turn : Turn) → Rests (marked h turn.marks) → Rests (marked h (with_settling (within_part database_by_history now) h turn).marks)
 rests-settling now h turn r =
@@ -352,7 +362,7 @@ rests-ticks now [] h r = r
 rests-ticks now (q ∷ left) h r =
     let c : Checked Outcome = next_tick (database_of h) now q.number in
     rests-then now h (quietly c) (ticks_of database_by_history now left)
-    (rests-marks h (marks_of c) (each-given AnyReply is_no_work c (gives-tick is_no_work no_work-queues (database_of h) now q.number)) r) (rests-ticks now left)
+    (rests-marks h (marks_of c) (each-given AnyReply is_no_work c (gives-tick is_no_work no_work-tick (database_of h) now q.number)) r) (rests-ticks now left)
 
 rests-again : (rest : History → Turn) (h : History) → Rests (marked h (rest h).marks) → (b : Bool) → Rests h → Rests (marked h (again_if b rest h).marks)
 rests-again rest h also true r = also
@@ -425,9 +435,29 @@ rests-applies h l r pick tick events =
     cond_both (list_any (is_of_copied (database_of h)) (picked (node h) pick events)) (answers Null) (applies_picked (database_of h) pick tick (picked (node h) pick events)) (λ c. Rests (marked h (marks_of c)))
     (λ _. r) (λ _. rests-picked h l r pick tick (picked (node h) pick events))
 
+-- a root is made once the worker's transaction has ended
+rests-makes : (h : History) → Legal h → Rests h → (name queue : List ℕ) (now : ℤ) → Rests (marked h (marks_of (makes_root (database_of h) now name queue)))
+rests-makes h l r name queue now =
+    by (is_some (queue_number queue (queues h))) (nat_le 64 (length (queues h))) (nat_le (2 ^ 62) (next_txid h))
+  where
+    t : ℕ
+    t = next_txid h
+
+    begun : Rests (marked h (began of_worker t ∷ ended of_worker t true ∷ []))
+    begun = rests-work h t [] tt r
+
+    by : (there full spent : Bool) → Rests (marked h (marks_of (refused_if there (QueueExists queue) >> (refused_if full (TooMany Queues) >> ((refused_if spent TxidsSpent >> Ok t) >>= (λ t.
+        does_marks Done (began of_worker t ∷ ended of_worker t true ∷ queued (made queue t now) ∷ noded (root_made name queue) ∷ [])))))))
+    by true full spent = r
+    by false true spent = r
+    by false false true = r
+    by false false false = rests-marks (ended of_worker t true ∷ began of_worker t ∷ h) (queued (made queue t now) ∷ noded (root_made name queue) ∷ []) tt begun
+
 rests-served : (h : History) → Legal h → Rests h → (call : NodeCall) → Rests (marked h (marks_of (node_does (database_of h) call)))
 rests-served h l r (applying events pick tick) =
     cond_both (may_serve (applying events pick tick) (node h)) (applies_batch (database_of h) pick tick events) (answers Null) (λ c. Rests (marked h (marks_of c))) (λ _. rests-applies h l r pick tick events) (λ _. r)
+rests-served h l r (making_root name queue now) =
+    cond_both (may_serve (making_root name queue now) (node h)) (makes_root (database_of h) now name queue) (answers Null) (λ c. Rests (marked h (marks_of c))) (λ _. rests-makes h l r name queue now) (λ _. r)
 rests-served h l r call = rests-marks h (marks_of (node_does (database_of h) call)) (each-other is_no_work for-others (database_of h) call refl) r
 
 -- after a call no worker's transaction is running, if none was before
@@ -439,4 +469,4 @@ rests-does h l r (worked work now) = rests-daemon h l r work now
 rests-does h l r (served call) = rests-served h l r call
 rests-does h l r (failed_call who now) =
     rests-settling now h (failing (part_of h) who)
-    (rests-marks h (failure who (own_txid who h) (block who h)) (each-failure AnyReply is_no_work (λ _. tt) (no_work-if no_more refl) who (own_txid who h) (block who h)) r)
+    (rests-marks h (failure who (own_txid who h) (block who h)) (each-failure AnyReply is_no_work (λ _. tt) (no_work-if of_any refl refl) who (own_txid who h) (block who h)) r)

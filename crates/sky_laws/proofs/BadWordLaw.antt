@@ -7,7 +7,7 @@ use Rattle.sky_model.specs.declared.stmt.Stmt.{Stmt}
 use Rattle.sky_model.specs.declared.line.Line.{Line}
 use Rattle.sky_model.specs.declared.line.Line.TheVariants.{Blank, Run}
 use Rattle.sky_model.specs.Words.{is_parting, quoted_after, with_first, pieces, words}
-use Rattle.sky_model.specs.Grammar.{GrammarRow, reads_on, reads, all_forms, named_form, statement_of, session_of, session_line, run_of, line_of_words, line_of}
+use Rattle.sky_model.specs.Grammar.{on_rows, GrammarRow, reads_on, reads, all_forms, named_form, statement_of, session_of, session_line, run_of, line_of_words, line_of}
 use Rattle.sky_model.specs.LawsOfLines.{words_of, BeginsALine, IsLeastBadWord, BadWordIsLeast}
 use Rattle.sky_model.proofs.FirstWords.{has_first}
 use Rattle.sky_laws.proofs.LeastBadWord.{Begins, bad_within, none_begins, some_begins}
@@ -88,7 +88,7 @@ some_begin_in_form w name f ws rest row rows k j session are form is found =
 
 -- `open p`
 abbrev opens_p : Stmt
-opens_p = Stmt.Row (RowStmt.OpenDb (codes "p"))
+opens_p = on_rows (RowStmt.OpenDb (codes "p"))
 
 some_begin_line : (w : List ℕ) (ws : List (List ℕ)) (k : ℕ) → Fault w ws k → BeginsWords (take (k - 1) (w ∷ ws))
 some_begin_line w ws k (no_session none is) =

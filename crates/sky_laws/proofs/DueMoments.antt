@@ -1,29 +1,33 @@
 -- The moments at which daemons are due, as the clock moves from one to the next.
-use Rattle.std.proofs.Common.{◌≡◌, ◌⊎◌, inl, inr, ℕ, zero, suc, ◌+◌, ◌<◌, ◌≤◌, ℤ, pos, ◌+ℤ◌, ◌-ℤ◌, ◌<ℤ◌, ◌≤ℤ◌, int_lt, unsigned_abs, List, [], ◌∷◌, ◌++◌, Bool, true, false, ◌&&◌, is_some, ◌==◌, nat_le, map, length, Option, Some, None, IfSome, Contains, refl, sym, ◌∙◌, ap, subst, arith, if◌then◌else◌}
+use Rattle.std.proofs.Common.{◌≡◌, ◌⊎◌, inl, inr, ℕ, zero, suc, ◌+◌, ◌<◌, ◌≤◌, ℤ, pos, ◌+ℤ◌, ◌-ℤ◌, ◌<ℤ◌, ◌≤ℤ◌, int_lt, unsigned_abs, List, [], ◌∷◌, ◌++◌, Bool, true, false, ◌==◌, nat_le, map, length, Option, Some, None, IfSome, Contains, refl, sym, ◌∙◌, ap, subst, arith, if◌then◌else◌}
 use Rattle.std.proofs.lemmas.Int.{ints}
 use Rattle.std.proofs.lemmas.List.Elements.{All-head, All-tail}
 use Rattle.sky_names.specs.Places.{place_of}
 use Rattle.sky_model.specs.declared.daemon.DaemonPart.{DaemonPart}
 use Rattle.sky_model.specs.declared.daemon.DaemonPart.TheVariants.{Tick, Retry, Maintain}
 use Rattle.sky_model.specs.declared.stmt.Stmt.{Stmt}
-use Rattle.sky_model.specs.declared.stmt.Stmt.TheVariants.{CreateRoot, Node, Clock, PgqdOn, PgqdOff}
+use Rattle.sky_model.specs.declared.stmt.DbStmt.{DbStmt}
+use Rattle.sky_model.specs.declared.stmt.NodeStmt.{NodeStmt}
+use Rattle.sky_model.specs.declared.stmt.WorldStmt.{WorldStmt}
+use Rattle.sky_model.specs.declared.stmt.WorldStmt.TheVariants.{Clock, PgqdOn, PgqdOff}
+use Rattle.sky_model.specs.declared.reply.Refusal.{Refusal}
+use Rattle.sky_model.specs.declared.stmt.Stmt.TheVariants.{Db, Node, World as OnWorld}
 use Rattle.sky_model.specs.declared.reply.Reply.TheVariants.{Moment}
 use Rattle.sky_model.specs.declared.reply.Refusal.TheVariants.{ClockSpent}
-use Rattle.sky_model.specs.InForm.{IsInForm}
+use Rattle.sky_model.specs.InForm.{IsWorldInForm, IsInForm}
 use Rattle.sky_model.specs.History.{Mark, Fact, appeared, founded, entered, within, clock_at, daemon_on, daemon_off, Past}
 use Rattle.sky_model.specs.World.{world_of, history_in, session_names, database_names, home, clock, daemon, on_top}
 use Rattle.sky_model.specs.State.{database_of}
 use Rattle.sky_model.specs.Outcome.{marks_of}
 use Rattle.sky_model.specs.StepNode.{node_does}
-use Rattle.sky_model.specs.NodesOfWorld.{node_called}
-use Rattle.sky_histories.proofs.NodeDeeds.{after-node_does}
+use Rattle.sky_histories.proofs.NodeDeeds.{after-node_does, after-refused, after-switches}
 use Rattle.sky_model.specs.Settling.{Turn}
 use Rattle.sky_model.specs.Reader.{Reader, within_database, by_past, Deed, answers_with, refuses, appears, idles, followed}
 use Rattle.sky_model.specs.Daemon.{daemon_does, is_due_at, next_due}
 use Rattle.sky_model.specs.Moment.{last_moment}
 use Rattle.sky_model.specs.Clock.{deed_in, part_works, daemon_works, daemons_work, at_moment, goes_to, through, waits_at}
 use Rattle.sky_model.specs.Clock as statement
-use Rattle.sky_model.specs.Calls.{database_turn, opening, opens, outside_does, is_leaving, left_if, may_make, of_daemon_if, gets_node, node_if, does_at, session_does, turn, Call, called, past_of}
+use Rattle.sky_model.specs.Calls.{database_turn, opening, opens, outside_does, is_leaving, left_if, turn, Call, called, past_of, db_stmt_does, fails_if, refused_in, node_stmt_does, on_unless, world_stmt_does}
 use Rattle.sky_model.specs.Steps.{IsCallInForm}
 use Rattle.sky_model.specs.LawsOfDaemons.{AreOnSince, DaemonsHaveStarted, IsDue, IsFirstDue, IsNextDue, RiseFrom, at_moments, DaemonsWorkWhenDue}
 use Rattle.sky_histories.proofs.PastHistories.{on_top-append}
@@ -258,13 +262,9 @@ keep-off d past since e = by (d == e)
     by true = tt
     by false = since e
 
-keep-daemon : (may : Bool) (d : ℕ) (start : Option ℤ) (stmt : Stmt) → Keep (of_daemon_if may d start stmt)
-keep-daemon true d None PgqdOn = keep-on d
-keep-daemon true d (Some moment) PgqdOn = λ past since. since
-keep-daemon true d None PgqdOff = keep-off d
-keep-daemon true d (Some moment) PgqdOff = keep-off d
-keep-daemon true d start _ = λ past since. since
-keep-daemon false d start stmt = λ past since. since
+keep-on_unless : (d : ℕ) (start : Option ℤ) → Keep (on_unless d start)
+keep-on_unless d None = keep-on d
+keep-on_unless d (Some moment) = λ past since. since
 
 keep-deed : (d : ℕ) (outside : List Fact) (turn : Turn) → Keep outside → Keep (deed_in d outside turn).facts
 keep-deed d outside turn = keep-append (map (within d) turn.marks) outside (keep-marks d turn.marks)
@@ -273,7 +273,7 @@ started-if : (past : Past) (b : Bool) (x y : Deed) → AreStarted (on_top past x
 started-if past true x y since also = since
 started-if past false x y since also = also
 
-started-opens : (past : Past) (who : ℕ) (stmt : Stmt) (name : List ℕ) (found : Option ℕ) → AreStarted past → AreStarted (on_top past (opens by_past past who stmt name found).facts)
+started-opens : (past : Past) (who : ℕ) (stmt : DbStmt) (name : List ℕ) (found : Option ℕ) → AreStarted past → AreStarted (on_top past (opens by_past past who stmt name found).facts)
 started-opens past who stmt name (Some d) since =
     keep-deed d (entered who d ∷ []) (database_turn (within_database by_past d) past (clock past) who stmt) (λ p still. still) past since
 started-opens past who stmt name None since =
@@ -281,36 +281,35 @@ started-opens past who stmt name None since =
     started-if past (nat_le 16 d) _ _ since
     (keep-deed d (entered who d ∷ []) (database_turn (within_database by_past d) (founded name ∷ past) (clock past) who stmt) (λ p still. still) (founded name ∷ past) since)
 
-started-outside : (past : Past) (who : ℕ) (stmt : Stmt) (name : Option (List ℕ)) → AreStarted past → AreStarted (on_top past (outside_does by_past past who stmt name).facts)
+started-outside : (past : Past) (who : ℕ) (stmt : DbStmt) (name : Option (List ℕ)) → AreStarted past → AreStarted (on_top past (outside_does by_past past who stmt name).facts)
 started-outside past who stmt None since = since
 started-outside past who stmt (Some name) since = started-opens past who stmt name (place_of name (database_names past)) since
 
-keep-node : (b : Bool) (d : ℕ) → Keep (node_if b d)
-keep-node true d past since = since
-keep-node false d past since = since
+started-db : (past : Past) (who : ℕ) (stmt : DbStmt) (at : Option ℕ) → AreStarted past → AreStarted (on_top past (db_stmt_does by_past past who stmt at).facts)
+started-db past who stmt None since = started-outside past who stmt (opening stmt) since
+started-db past who stmt (Some d) since =
+    keep-deed d (left_if who (is_leaving (waits_at (world_of past) who (Some d)) stmt)) (database_turn (within_database by_past d) past (clock past) who stmt)
+    (keep-left who (is_leaving (waits_at (world_of past) who (Some d)) stmt)) past since
 
-started-at : (past : Past) (who : ℕ) (stmt : Stmt) (d : ℕ) → AreStarted past → AreStarted (on_top past (does_at by_past past who stmt d).facts)
-started-at past who (Node stmt) d since =
-    after-node_does AreStarted (λ p e since. since) (λ p e table hand since. since) (λ p e batch since. since) (λ p e call since. keep-marks e (marks_of (node_does (database_of (history_in p e)) call)) p since) past who stmt d
-    (keep-deed d [] (database_turn (within_database by_past d) past (clock past) who (Node stmt)) (λ p still. still) past since) since
-started-at past who (CreateRoot name queue) d since =
-    let turn_within : Turn = database_turn (within_database by_past d) past (clock past) who (CreateRoot name queue) in
-    let got : Bool = gets_node ((world_of past).database d) turn_within in
-    started-if past (may_make ((world_of past).database d) who (CreateRoot name queue) && is_some (node_called (world_of past) name)) _ _ since
-    (keep-deed d (node_if got d) turn_within (keep-node got d) past since)
-started-at past who stmt d since =
-    let gone : List Fact = left_if who (is_leaving (waits_at (world_of past) who (Some d)) stmt) in
-    let put : List Fact = of_daemon_if (may_make ((world_of past).database d) who stmt) d (daemon past d) stmt in
-    keep-deed d (gone ++ put) (database_turn (within_database by_past d) past (clock past) who stmt)
-    (keep-append gone put (keep-left who (is_leaving (waits_at (world_of past) who (Some d)) stmt)) (keep-daemon (may_make ((world_of past).database d) who stmt) d (daemon past d) stmt)) past since
+started-refused : (past : Past) (who d : ℕ) (refusal : Refusal) → AreStarted past → AreStarted (on_top past (refused_in by_past past who d refusal).facts)
+started-refused past who d refusal since = after-refused AreStarted past who d refusal since (keep-marks d (fails_if (within_database by_past d) past (clock past) who true).marks past since)
 
-started-session : (past : Past) (who : ℕ) (stmt : Stmt) (at : Option ℕ) → AreStarted past → AreStarted (on_top past (session_does by_past past who stmt at).facts)
-started-session past who stmt None since = started-outside past who stmt (opening stmt) since
-started-session past who stmt (Some d) since = started-at past who stmt d since
+started-node : (past : Past) (who : ℕ) (stmt : NodeStmt) (at : Option ℕ) → AreStarted past → AreStarted (on_top past (node_stmt_does by_past past who stmt at).facts)
+started-node past who stmt at since =
+    after-node_does AreStarted (λ p e since. since) (λ p e table hand since. since) (λ p e batch since. since) (λ p e call since. keep-marks e (marks_of (node_does (database_of (history_in p e)) call)) p since) past who stmt at
+    (λ d refusal. started-refused past who d refusal since) since
+
+started-world : (past : Past) (who : ℕ) (stmt : WorldStmt) (at : Option ℕ) → IsWorldInForm stmt → AreStarted past → AreStarted (on_top past (world_stmt_does by_past past who stmt at).facts)
+started-world past who (Clock time) at form since = started-clock past who time (waits_at (world_of past) who at) form.0 since
+started-world past who PgqdOn at form since =
+    after-switches AreStarted past who (λ d. on_unless d (daemon past d)) at (λ d. keep-on_unless d (daemon past d) past since) (λ d refusal. started-refused past who d refusal since) since
+started-world past who PgqdOff at form since =
+    after-switches AreStarted past who (λ d. daemon_off d ∷ []) at (λ d. keep-off d past since) (λ d refusal. started-refused past who d refusal since) since
 
 started-statement : (past : Past) (who : ℕ) (stmt : Stmt) → IsInForm stmt → AreStarted past → AreStarted (on_top past (turn by_past who stmt past).facts)
-started-statement past who (Clock time) form since = started-clock past who time (waits_at (world_of past) who (home past who)) form.0 since
-started-statement past who stmt form since = started-session past who stmt (home past who) since
+started-statement past who (Db stmt) form since = started-db past who stmt (home past who) since
+started-statement past who (Node stmt) form since = started-node past who stmt (home past who) since
+started-statement past who (OnWorld stmt) form since = started-world past who stmt (home past who) form since
 
 started-called : (past : Past) (call : Call) (found : Option ℕ) → IsInForm call.stmt → AreStarted past → AreStarted (on_top past (called by_past past call found).facts)
 started-called past call (Some who) form since = started-statement past who call.stmt form since

@@ -1,6 +1,8 @@
 -- A statement other than `open` and `close` leaves each session as it was: with the database open, or without it.
-use Rattle.std.proofs.Common.{◌≡◌, ℕ, ℤ, List, [], ◌∷◌, Bool, true, false, refl}
-use Rattle.sky_model.specs.declared.stmt.Stmt.{Stmt}
+use Rattle.sky_model.specs.Permits.{Leaves, of_any, of_resumed, may_leave, permit_of}
+use Rattle.sky_model.specs.Sessions.{Session}
+use Rattle.std.proofs.Common.{◌≡◌, ℕ, ℤ, List, [], ◌∷◌, Bool, true, false, refl, ◌&&◌, sym, not, ◌∙◌}
+use Rattle.sky_model.specs.declared.stmt.DbStmt.{DbStmt}
 use Rattle.sky_model.specs.History.{Mark, connected, disconnected, History}
 use Rattle.sky_model.specs.Sessions.{has_open}
 use Rattle.sky_model.specs.State.{Database, database_of}
@@ -8,7 +10,7 @@ use Rattle.sky_model.specs.Printed.{ReplyHasMoments}
 use Rattle.sky_model.specs.Reader.{Shown, database_by_history, within_part}
 use Rattle.sky_model.specs.Settling.{marked, settling}
 use Rattle.sky_model.specs.Calls.{form}
-use Rattle.sky_histories.proofs.StatementMarks.{EachMark, Gives, AnyReply, gives-map, Kinds, may_leave, attempt_kinds, kinds, gives-tells, gives-form, settling-gives}
+use Rattle.sky_histories.proofs.StatementMarks.{EachMark, Gives, AnyReply, gives-map, gives-tells, gives-form, settling-gives}
 
 abbrev pub is_staying : Mark → Bool
 is_staying (connected who) = false
@@ -26,22 +28,30 @@ open-stays v h (connected who ∷ marks) stay = absurd stay
 open-stays v h (disconnected who ∷ marks) stay = absurd stay
 open-stays v h (mark ∷ marks) stay = open-stays v (mark ∷ h) marks stay
 
-pub stays-if : (k : Kinds) → k.moves ≡ false → (who : ℕ) (mark : Mark) → may_leave k who mark ≡ true → is_staying mark ≡ true
-stays-if k none who (connected v) e = absurd (cc)
-stays-if k none who (disconnected v) e = absurd (cc)
-stays-if k none who _ e = refl
+-- kinds that have none of these for a session that has the database open, or hasn't
+pub record IsStill (k : Leaves) (is_open : Bool) : Type 0 where
+  pub opens : (k.opens && not is_open) ≡ false
+  pub closes : k.closes ≡ false
+
+pub stays-if : (k : Leaves) (s : Session) → IsStill k s.is_open → (who : ℕ) (mark : Mark) → may_leave k s who mark ≡ true → is_staying mark ≡ true
+stays-if k s still who (connected v) e = absurd (cc (sym e ∙ still.opens))
+stays-if k s still who (disconnected v) e = absurd (cc (sym e ∙ still.closes))
+stays-if k s still who _ e = refl
 
 -- a statement that opens no database, and closes none, of a session that has it open or hasn't
-abbrev pub IsStaying : Bool → Stmt → Type 0
-IsStaying is_open stmt = (kinds is_open stmt).moves ≡ false
+abbrev pub IsStaying : Bool → DbStmt → Type 0
+IsStaying is_open stmt = IsStill (permit_of stmt).leaves is_open
 
-pub stays-form : (d : Database) (shown : Shown) (now : ℤ) (who : ℕ) (stmt : Stmt) → IsStaying (d.part.session who).is_open stmt → Gives AnyReply is_staying (form d shown now who stmt)
+pub stays-form : (d : Database) (shown : Shown) (now : ℤ) (who : ℕ) (stmt : DbStmt) → IsStaying (d.part.session who).is_open stmt → Gives AnyReply is_staying (form d shown now who stmt)
 stays-form d shown now who stmt is =
-    let k : Kinds = kinds (d.part.session who).is_open stmt in
-    gives-map AnyReply AnyReply (may_leave k who) is_staying (λ reply any. any) (stays-if k is who) _ (gives-form who d shown now stmt)
+    let k : Leaves = (permit_of stmt).leaves in
+    gives-map AnyReply AnyReply (may_leave k (d.part.session who) who) is_staying (λ reply any. any) (stays-if k (d.part.session who) is who) _ (gives-form who d shown now stmt)
+
+pub stays-any : (s : Session) (who : ℕ) (mark : Mark) → may_leave of_any s who mark ≡ true → is_staying mark ≡ true
+stays-any s = stays-if of_any s (record { opens = refl; closes = refl })
 
 -- those that resume
 pub stay-settling : (h : History) (now : ℤ) → Stay (settling (within_part database_by_history now) h).marks
 stay-settling h now =
-    (settling-gives is_staying (λ who. refl) (stays-if (attempt_kinds true) refl) (within_part database_by_history now)
+    (settling-gives is_staying (λ who. refl) (λ s. stays-if of_resumed s (record { opens = refl; closes = refl })) (within_part database_by_history now)
     (record { tells = λ g c stay. gives-tells is_staying (λ mark _. refl) ReplyHasMoments (database_of g) now c stay }) h).marks

@@ -8,13 +8,14 @@ use Rattle.sky_model.specs.declared.reply.HeldBack.{HeldBack}
 use Rattle.sky_model.specs.declared.reply.Reply.TheVariants.{Number}
 use Rattle.sky_model.specs.declared.reply.Refusal.{Refusal}
 use Rattle.sky_model.specs.declared.reply.Refusal.TheVariants.{TxidsSpent, NoQueue, Canceled}
-use Rattle.sky_model.specs.declared.stmt.Stmt.{Stmt}
+use Rattle.sky_model.specs.declared.stmt.DbStmt.{DbStmt}
 use Rattle.sky_model.specs.declared.stmt.RowStmt.TheVariants.{Begin, BeginRepeatableRead, Commit}
-use Rattle.sky_model.specs.declared.stmt.Stmt.TheVariants.{Row, MaintRetryEvents, MaintRotateStep1}
+use Rattle.sky_model.specs.declared.stmt.DbStmt.TheVariants.{Row, Queue}
+use Rattle.sky_model.specs.declared.stmt.QueueStmt.TheVariants.{MaintRetryEvents, MaintRotateStep1}
 use Rattle.sky_model.specs.declared.stmt.Where.TheVariants.{WhenReading}
 use Rattle.sky_model.specs.declared.daemon.DaemonPart.{DaemonPart}
 use Rattle.sky_model.specs.declared.daemon.DaemonPart.TheVariants as part
-use Rattle.sky_model.specs.History.{Mark, of_session, of_worker, began, ended, block_begun, repeats, block_ended, sight_taken, tabled, waited, read_only, queued, registered, unregistered, opened, closed, traced, untraced, switching, switched, noded, History, of_copy, wrote}
+use Rattle.sky_model.specs.History.{Mark, of_session, of_worker, began, ended, block_begun, repeats, block_ended, sight_taken, tabled, waited, read_only, queued, registered, unregistered, opened, closed, traced, untraced, switching, switched, noded, History, of_copy, wrote, made}
 use Rattle.sky_model.specs.Transactions.{next_txid}
 use Rattle.sky_model.specs.Sessions.{Block, outside, inside, failed, session, has_open, block, own_txid}
 use Rattle.sky_model.specs.Locks.{waiting, attempt}
@@ -44,7 +45,7 @@ use Rattle.sky_histories.proofs.Lawful.{database-reads, past-behind}
 use Rattle.sky_model.proofs.Cases.{by_block}
 use Rattle.sky_histories.proofs.Good.{same-session, MayStand}
 use Rattle.sky_histories.proofs.StatementMarks.{EachMark, each-given, AnyReply, Gives}
-use Rattle.sky_laws.proofs.PlainStatements.{IsOut, out-here, may_do, abort-plain, does-attempts, does-tells, does-ends_switches, does-tick, does-form}
+use Rattle.sky_laws.proofs.PlainStatements.{IsOut, out-here, may_do, abort-plain, does-attempts, does-ends_switches, does-tick, does-form}
 
 -- a property of marks at their place that what calls leave has, at a moment
 pub record IsOfCalls (now : ℤ) (K : History → List Mark → Type 0) : Type 0 where
@@ -79,6 +80,7 @@ for-nodes (queued (opened batch)) e = refl
 for-nodes (queued (closed batch)) e = refl
 for-nodes (queued (traced table name trigger)) e = refl
 for-nodes (queued (untraced table)) e = refl
+for-nodes (queued (made name t time)) e = refl
 for-nodes (tabled (read_only table on)) e = refl
 for-nodes (noded mark) e = refl
 for-nodes (began (of_copy table) t) e = refl
@@ -154,18 +156,19 @@ module _ (now : ℤ) (K : History → List Mark → Type 0) (is : IsOfCalls now 
   of-commit h who failed None = within h who (block_ended who ∷ []) tt
   of-commit h who failed (Some t) = within h who (ended (of_session who) t false ∷ block_ended who ∷ []) tt
 
-  of-form : (h : History) (who : ℕ) (stmt : Stmt) → MayStand h who (where_of stmt) → K h (or_refused who (session h who) (form (database_of h) (shown_in h) now who stmt)).marks
+  of-form : (h : History) (who : ℕ) (stmt : DbStmt) → MayStand h who (where_of stmt) → K h (or_refused who (session h who) (form (database_of h) (shown_in h) now who stmt)).marks
   of-form h who (Row Begin) may =
       by_block (λ b. K h (or_refused who (session h who) (after_marks_of [] (tells (database_of h) now (begin who b)))).marks) (is.begins h who) (none h) (none h) (block who h)
   of-form h who (Row BeginRepeatableRead) may =
       by_block (λ b. K h (or_refused who (session h who) (after_marks_of [] (tells (database_of h) now (begin_repeatable_read who b)))).marks)
       (is.joined h (block_begun who ∷ []) (repeats who ∷ []) (is.begins h who) (within (block_begun who ∷ h) who (repeats who ∷ []) tt)) (none h) (none h) (block who h)
   of-form h who (Row Commit) may = of-commit h who (block who h) (own_txid who h)
-  of-form h who (MaintRotateStep1 name) may = of-step1 h who name may (queue_number name (queues h))
-  of-form h who MaintRetryEvents may = of-settled h who (maint_retry_events (database_of h) now) (is.brings_back h (due_now now most_back (retries h)))
-  of-form h who stmt may = of-plain h who (form (database_of h) (shown_in h) now who stmt) (does-form who (database_of h) (shown_in h) now stmt refl)
+  of-form h who (Queue (MaintRotateStep1 name)) may = of-step1 h who name may (queue_number name (queues h))
+  of-form h who (Queue MaintRetryEvents) may = of-settled h who (maint_retry_events (database_of h) now) (is.brings_back h (due_now now most_back (retries h)))
+  of-form h who stmt may = of-plain h who (form (database_of h) (shown_in h) now who stmt)
+      (does-form who (database_of h) (shown_in h) now stmt (record { begins = refl; commits = refl; rotates = refl; switches = refl; brings_back = refl }))
 
-  of-runs : (h : History) (who : ℕ) (stmt : Stmt) (may : Checked (Unit {0})) → allowed (is_waiting who (waiting h)) (has_open who h) (block who h) (where_of stmt) ≡ may
+  of-runs : (h : History) (who : ℕ) (stmt : DbStmt) (may : Checked (Unit {0})) → allowed (is_waiting who (waiting h)) (has_open who h) (block who h) (where_of stmt) ≡ may
       → K h (runs_if (making database_by_history now who stmt) (where_of stmt) who h may).marks
   of-runs h who stmt (Err refusal) same = of-abort h who refusal
   of-runs h who stmt (Ok _) same =
@@ -173,7 +176,7 @@ module _ (now : ℤ) (K : History → List Mark → Type 0) (is : IsOfCalls now 
       (λ _. is.joined h (sight_taken who ∷ []) (or_refused who (session (sight_taken who ∷ h) who) (form (database_of (sight_taken who ∷ h)) (shown_in (sight_taken who ∷ h)) now who stmt)).marks (within h who (sight_taken who ∷ []) tt)
       (of-form (sight_taken who ∷ h) who stmt (ap is_ok same))) (λ _. of-form h who stmt (ap is_ok same))
 
-  of-statement : (h : History) (who : ℕ) (stmt : Stmt) → K h (statement database_by_history h now who stmt).marks
+  of-statement : (h : History) (who : ℕ) (stmt : DbStmt) → K h (statement database_by_history h now who stmt).marks
   of-statement h who stmt = of-runs h who stmt (allowed (is_waiting who (waiting h)) (has_open who h) (block who h) (where_of stmt)) refl
 
   -- ---- what follows it
@@ -184,7 +187,7 @@ module _ (now : ℤ) (K : History → List Mark → Type 0) (is : IsOfCalls now 
       let tried : Checked Outcome = attempts (part_of g) ((rows_in g).key w.who w.table w.key) w.who w.table w.key (attempt w.who h) in
       is.joined h (tabled (waited w.who) ∷ []) (or_refused w.who (session g w.who) (tells (database_of g) now tried)).marks (within h w.who (tabled (waited w.who) ∷ []) tt)
       (of-plain g w.who (tells (database_of g) now tried)
-      (does-tells w.who (block w.who g) (database_of g) now tried (does-attempts w.who (part_of g) ((rows_in g).key w.who w.table w.key) w.table w.key (attempt w.who h))))
+      (does-attempts w.who (database_of g) now ((rows_in g).key w.who w.table w.key) w.table w.key (attempt w.who h)))
 
   of-settles : (n : ℕ) (h : History) → K h (settles (within_part database_by_history now) n h).marks
   of-settles zero h = none h
@@ -249,7 +252,7 @@ module _ (now : ℤ) (K : History → List Mark → Type 0) (is : IsOfCalls now 
 
   -- ---- calls
 
-  pub of_stepped : (h : History) (who : ℕ) (stmt : Stmt) → K h (database_does database_by_history h (stepped who stmt now)).marks
+  pub of_stepped : (h : History) (who : ℕ) (stmt : DbStmt) → K h (database_does database_by_history h (stepped who stmt now)).marks
   of_stepped h who stmt = of-settling h (turn_of who (statement database_by_history h now who stmt)) (of-statement h who stmt)
 
   pub of_failed : (h : History) (who : ℕ) → K h (database_does database_by_history h (failed_call who now)).marks

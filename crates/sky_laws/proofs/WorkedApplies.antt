@@ -9,7 +9,7 @@ use Rattle.sky_val.specs.declared.val.Val.TheVariants as value
 use Rattle.sky_val.specs.declared.column.ColKind.TheVariants as kind
 use Rattle.sky_val.specs.declared.event.Event.{Event}
 use Rattle.londiste_state.specs.declared.state.TableState.TheVariants.{InCopy, WannaSync, DoSync, Synced}
-use Rattle.sky_model.specs.declared.stmt.Stmt.TheVariants as stmt
+use Rattle.sky_model.specs.declared.stmt.DbStmt.TheVariants.{Row}
 use Rattle.sky_model.specs.declared.stmt.RowStmt.{RowStmt}
 use Rattle.sky_model.specs.declared.stmt.RowStmt.TheVariants.{OpenDb, CreateTable, Insert}
 use Rattle.sky_model.specs.declared.reply.Reply.{Reply}
@@ -25,7 +25,7 @@ use Rattle.sky_model.specs.StepApply.{bad_event}
 use Rattle.sky_model.specs.StepNode.{making_leaf, adding, moving, beginning_copy, copying_rows, ending_copy, applying, node_does}
 
 does : RowStmt → DatabaseCall
-does statement = stepped 0 (stmt.Row statement) (pos 0)
+does statement = stepped 0 (Row statement) (pos 0)
 
 make_table : List ℕ → DatabaseCall
 make_table name = does (CreateTable name (record { name = codes "id"; kind = kind.Int; key = true } ∷ record { name = codes "n"; kind = kind.Int; key = false } ∷ []))

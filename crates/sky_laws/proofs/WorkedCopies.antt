@@ -5,7 +5,7 @@ use Rattle.sky_val.specs.declared.val.Val.TheVariants as value
 use Rattle.sky_val.specs.declared.column.ColKind.TheVariants as kind
 use Rattle.londiste_state.specs.declared.state.TableState.TheVariants.{InCopy, CatchingUp}
 use Rattle.londiste_state.specs.Nodes.{LeafTable}
-use Rattle.sky_model.specs.declared.stmt.Stmt.TheVariants as stmt
+use Rattle.sky_model.specs.declared.stmt.DbStmt.TheVariants.{Row}
 use Rattle.sky_model.specs.declared.stmt.RowStmt.{RowStmt}
 use Rattle.sky_model.specs.declared.stmt.RowStmt.TheVariants.{OpenDb, CreateTable, Insert, Delete}
 use Rattle.sky_model.specs.declared.reply.Reply.{Reply}
@@ -18,13 +18,13 @@ use Rattle.sky_model.specs.State.{database_of, part_of}
 use Rattle.sky_model.specs.ShownRows.{snapshot_now}
 use Rattle.sky_model.specs.Promises.{after_all}
 use Rattle.sky_model.specs.DatabaseCalls.{DatabaseCall, stepped, served, database_part}
-use Rattle.sky_model.specs.StepNode.{NodeCall, making_leaf, adding, moving, listing}
+use Rattle.sky_model.specs.StepNode.{making_root, NodeCall, making_leaf, adding, moving, listing}
 use Rattle.sky_model.specs.Hands.{Hand}
 use Rattle.sky_model.specs.WorkerMoves.{Move}
 use Rattle.sky_model.specs.CopyMoves.{copy_move, table_at, rows_from}
 
 abbrev does : RowStmt → DatabaseCall
-does statement = stepped 0 (stmt.Row statement) (pos 0)
+does statement = stepped 0 (Row statement) (pos 0)
 
 abbrev row : ℕ → ℕ → List Val
 row key n = value.Int (pos key) ∷ value.Int (pos n) ∷ []
@@ -37,7 +37,7 @@ make_table = does (CreateTable (codes "t") (record { name = codes "id"; kind = k
 
 -- a root's database with a table of three rows, and a leaf's with one of two; the last call first
 abbrev provider : List DatabaseCall
-provider = served (listing (codes "t")) ∷ insert 3 30 ∷ insert 1 10 ∷ insert 2 20 ∷ stepped 0 (stmt.CreateRoot (codes "root") (codes "q")) (pos 0) ∷ make_table ∷ does (OpenDb (codes "p")) ∷ []
+provider = served (listing (codes "t")) ∷ insert 3 30 ∷ insert 1 10 ∷ insert 2 20 ∷ served (making_root (codes "root") (codes "q") (pos 0)) ∷ make_table ∷ does (OpenDb (codes "p")) ∷ []
 
 abbrev bare : List DatabaseCall
 bare = served (adding (codes "t")) ∷ served (making_leaf (codes "leaf") (codes "root") 1) ∷ insert 7 70 ∷ insert 1 11 ∷ make_table ∷ does (OpenDb (codes "r")) ∷ []

@@ -8,9 +8,10 @@ use Rattle.std.specs.Char.{encode_utf8}
 use Rattle.sky_val.specs.declared.val.Val.TheVariants.{Null, Int, Text}
 use Rattle.sky_val.specs.declared.column.ColKind.TheVariants as kind
 use Rattle.sky_model.specs.declared.stmt.RowStmt.TheVariants.{OpenDb, TxidVisibleInSnapshot, CreateTable, Insert}
-use Rattle.sky_model.specs.declared.stmt.Stmt.TheVariants.{SetQueueConfig, AddTrigger, GetBatchEvents, Clock}
+use Rattle.sky_model.specs.declared.stmt.QueueStmt.TheVariants.{SetQueueConfig, AddTrigger, GetBatchEvents}
+use Rattle.sky_model.specs.declared.stmt.WorldStmt.TheVariants.{Clock}
 use Rattle.sky_model.specs.Kinds.{Name, Column, Value, is_text_byte}
-use Rattle.sky_model.specs.InForm.{IsQuotable, IsOf, IsRowInForm, IsInForm}
+use Rattle.sky_model.specs.InForm.{IsQuotable, IsOf, IsRowInForm, IsQueueInForm, IsWorldInForm}
 
 -- it's
 quotable : IsQuotable (codes "it's")
@@ -29,29 +30,29 @@ insert = (
 )
 
 -- add_trigger w t q backup ignore=v
-add_trigger : IsInForm (AddTrigger (codes "w") (codes "t") (codes "q") true (codes "v" ∷ []))
+add_trigger : IsQueueInForm (AddTrigger (codes "w") (codes "t") (codes "q") true (codes "v" ∷ []))
 add_trigger = (refl, refl, refl, All-cons (IsOf Name) (codes "v") [] refl (All-nil (IsOf Name)))
 
 -- set_queue_config q 'it''s' 'it''s', of which the database says that there is no such parameter
-set_queue_config : IsInForm (SetQueueConfig (codes "q") (codes "it's") (codes "it's"))
+set_queue_config : IsQueueInForm (SetQueueConfig (codes "q") (codes "it's") (codes "it's"))
 set_queue_config = (refl, quotable, quotable)
 
 -- clock +1day
-day : IsInForm (Clock (pos 86_400_000_000))
+day : IsWorldInForm (Clock (pos 86_400_000_000))
 day = (omega arith, omega arith)
 
 -- no time, and a microsecond more than a day
-no_time : IsInForm (Clock (pos 0)) → ⊥
+no_time : IsWorldInForm (Clock (pos 0)) → ⊥
 no_time is = omega arith
 
-time_too_long : IsInForm (Clock (pos 86_400_000_001)) → ⊥
+time_too_long : IsWorldInForm (Clock (pos 86_400_000_001)) → ⊥
 time_too_long is = omega arith
 
 -- a number of more than 64 bits
 too_large : IsRowInForm (Insert (codes "t") (Int (pos (2 ^ 70)) ∷ [])) → ⊥
 too_large is = let fits = All-head (IsOf Value) (Int (pos (2 ^ 70))) [] is.1.1 in omega (arith, fits.sfits)
 
-batch_too_large : IsInForm (GetBatchEvents (2 ^ 64)) → ⊥
+batch_too_large : IsQueueInForm (GetBatchEvents (2 ^ 64)) → ⊥
 batch_too_large is = omega arith
 
 -- no value at all

@@ -3,10 +3,12 @@ use Rattle.std.specs.Prelude.{◌≡◌, ℕ, ◌-◌, ◌^◌, true, false, Lis
 use Rattle.std.specs.Str.{is_utf8, chars}
 use Rattle.std.specs.Char.{encode_utf8}
 use Rattle.sky_model.specs.declared.stmt.RowStmt.{RowStmt}
+use Rattle.sky_model.specs.declared.stmt.QueueStmt.{QueueStmt}
+use Rattle.sky_model.specs.declared.stmt.WorldStmt.{WorldStmt}
 use Rattle.sky_model.specs.declared.stmt.Stmt.{Stmt}
 use Rattle.sky_model.specs.declared.line.Line.{Line}
 use Rattle.sky_model.specs.declared.line.Line.TheVariants.{Blank, Run}
-use Rattle.sky_model.specs.Grammar.{line_of}
+use Rattle.sky_model.specs.Grammar.{on_rows, on_queues, line_of}
 use Rattle.sky_val.specs.declared.val.Val.TheVariants.{Null, Int, Text}
 use Rattle.sky_val.specs.declared.column.ColKind.{ColKind}
 use Rattle.sky_val.specs.declared.column.ColKind.TheVariants as kind
@@ -21,7 +23,10 @@ abbrev runs : Stmt → Result Line ℕ
 runs stmt = Ok (Run (codes "a") stmt)
 
 abbrev runs_row : RowStmt → Result Line ℕ
-runs_row stmt = runs (Stmt.Row stmt)
+runs_row stmt = runs (on_rows stmt)
+
+abbrev runs_queue : QueueStmt → Result Line ℕ
+runs_queue stmt = runs (on_queues stmt)
 
 abbrev column : List ℕ → ColKind → Column
 column name kind = record { name = name; kind = kind; key = false }
@@ -47,35 +52,35 @@ lines =
     ∷ (codes "a: txid_visible_in_snapshot 9 'it''s a b'", runs_row (RowStmt.TxidVisibleInSnapshot 9 (codes "it's a b")))
     ∷ (codes "a: txid_visible_in_snapshot 9 ''", runs_row (RowStmt.TxidVisibleInSnapshot 9 []))
     ∷ (codes "a: txid_visible_in_snapshot 9 null", runs_row (RowStmt.TxidVisibleInSnapshot 9 (codes "null")))
-    ∷ (codes "a: create_queue q", runs (Stmt.CreateQueue (codes "q")))
-    ∷ (codes "a: drop_queue q", runs (Stmt.DropQueue (codes "q")))
-    ∷ (codes "a: set_queue_config q ticker_max_lag '3 s'", runs (Stmt.SetQueueConfig (codes "q") (codes "ticker_max_lag") (codes "3 s")))
-    ∷ (codes "a: set_queue_config q 'it''s' ''", runs (Stmt.SetQueueConfig (codes "q") (codes "it's") []))
-    ∷ (codes "a: queue_info q", runs (Stmt.QueueInfo (codes "q")))
-    ∷ (codes "a: insert_event q null 'd'", runs (Stmt.InsertEvent (codes "q") None (Some (codes "d")) None))
-    ∷ (codes "a: insert_event q 'it''s a b' '' null 'x' null ''''", runs (Stmt.InsertEvent (codes "q") (Some (codes "it's a b")) (Some []) (Some (record { ev_extra1 = None; ev_extra2 = Some (codes "x"); ev_extra3 = None; ev_extra4 = Some (codes "'") }))))
-    ∷ (codes "a: add_trigger tr app.t q", runs (Stmt.AddTrigger (codes "tr") (codes "app.t") (codes "q") false []))
-    ∷ (codes "a: add_trigger tr t q backup", runs (Stmt.AddTrigger (codes "tr") (codes "t") (codes "q") true []))
-    ∷ (codes "a: add_trigger tr t q ignore=s,n,s", runs (Stmt.AddTrigger (codes "tr") (codes "t") (codes "q") false (codes "s" ∷ codes "n" ∷ codes "s" ∷ [])))
-    ∷ (codes "a: add_trigger tr t q backup ignore=n", runs (Stmt.AddTrigger (codes "tr") (codes "t") (codes "q") true (codes "n" ∷ [])))
-    ∷ (codes "a: ticker q", runs (Stmt.Ticker (codes "q")))
-    ∷ (codes "a: force_tick _q9", runs (Stmt.ForceTick (codes "_q9")))
-    ∷ (codes "a: register_consumer q c", runs (Stmt.RegisterConsumer (codes "q") (codes "c")))
-    ∷ (codes "a: register_consumer_at q w.m 18446744073709551615", runs (Stmt.RegisterConsumerAt (codes "q") (codes "w.m") (2 ^ 64 - 1)))
-    ∷ (codes "a: unregister_consumer q c", runs (Stmt.UnregisterConsumer (codes "q") (codes "c")))
-    ∷ (codes "a: next_batch q w.m", runs (Stmt.NextBatch (codes "q") (codes "w.m")))
-    ∷ (codes "a: get_batch_events 0", runs (Stmt.GetBatchEvents 0))
-    ∷ (codes "a: event_retry 1 2 1000000000", runs (Stmt.EventRetry 1 2 1_000_000_000))
-    ∷ (codes "a: maint_retry_events", runs Stmt.MaintRetryEvents)
-    ∷ (codes "a: get_batch_info 7", runs (Stmt.GetBatchInfo 7))
-    ∷ (codes "a: consumer_info q w.m", runs (Stmt.ConsumerInfo (codes "q") (codes "w.m")))
-    ∷ (codes "a: finish_batch 18446744073709551615", runs (Stmt.FinishBatch (2 ^ 64 - 1)))
-    ∷ (codes "a: clock +3s", runs (Stmt.Clock (pos 3_000_000)))
-    ∷ (codes "a: clock '+1 min'", runs (Stmt.Clock (pos 60_000_000)))
-    ∷ (codes "a: clock '+1us'", runs (Stmt.Clock (pos 1)))
-    ∷ (codes "a: clock +1day", runs (Stmt.Clock (pos 86_400_000_000)))
-    ∷ (codes "a: pgqd on", runs Stmt.PgqdOn)
-    ∷ (codes "a: pgqd off", runs Stmt.PgqdOff)
+    ∷ (codes "a: create_queue q", runs_queue (QueueStmt.CreateQueue (codes "q")))
+    ∷ (codes "a: drop_queue q", runs_queue (QueueStmt.DropQueue (codes "q")))
+    ∷ (codes "a: set_queue_config q ticker_max_lag '3 s'", runs_queue (QueueStmt.SetQueueConfig (codes "q") (codes "ticker_max_lag") (codes "3 s")))
+    ∷ (codes "a: set_queue_config q 'it''s' ''", runs_queue (QueueStmt.SetQueueConfig (codes "q") (codes "it's") []))
+    ∷ (codes "a: queue_info q", runs_queue (QueueStmt.QueueInfo (codes "q")))
+    ∷ (codes "a: insert_event q null 'd'", runs_queue (QueueStmt.InsertEvent (codes "q") None (Some (codes "d")) None))
+    ∷ (codes "a: insert_event q 'it''s a b' '' null 'x' null ''''", runs_queue (QueueStmt.InsertEvent (codes "q") (Some (codes "it's a b")) (Some []) (Some (record { ev_extra1 = None; ev_extra2 = Some (codes "x"); ev_extra3 = None; ev_extra4 = Some (codes "'") }))))
+    ∷ (codes "a: add_trigger tr app.t q", runs_queue (QueueStmt.AddTrigger (codes "tr") (codes "app.t") (codes "q") false []))
+    ∷ (codes "a: add_trigger tr t q backup", runs_queue (QueueStmt.AddTrigger (codes "tr") (codes "t") (codes "q") true []))
+    ∷ (codes "a: add_trigger tr t q ignore=s,n,s", runs_queue (QueueStmt.AddTrigger (codes "tr") (codes "t") (codes "q") false (codes "s" ∷ codes "n" ∷ codes "s" ∷ [])))
+    ∷ (codes "a: add_trigger tr t q backup ignore=n", runs_queue (QueueStmt.AddTrigger (codes "tr") (codes "t") (codes "q") true (codes "n" ∷ [])))
+    ∷ (codes "a: ticker q", runs_queue (QueueStmt.Ticker (codes "q")))
+    ∷ (codes "a: force_tick _q9", runs_queue (QueueStmt.ForceTick (codes "_q9")))
+    ∷ (codes "a: register_consumer q c", runs_queue (QueueStmt.RegisterConsumer (codes "q") (codes "c")))
+    ∷ (codes "a: register_consumer_at q w.m 18446744073709551615", runs_queue (QueueStmt.RegisterConsumerAt (codes "q") (codes "w.m") (2 ^ 64 - 1)))
+    ∷ (codes "a: unregister_consumer q c", runs_queue (QueueStmt.UnregisterConsumer (codes "q") (codes "c")))
+    ∷ (codes "a: next_batch q w.m", runs_queue (QueueStmt.NextBatch (codes "q") (codes "w.m")))
+    ∷ (codes "a: get_batch_events 0", runs_queue (QueueStmt.GetBatchEvents 0))
+    ∷ (codes "a: event_retry 1 2 1000000000", runs_queue (QueueStmt.EventRetry 1 2 1_000_000_000))
+    ∷ (codes "a: maint_retry_events", runs_queue QueueStmt.MaintRetryEvents)
+    ∷ (codes "a: get_batch_info 7", runs_queue (QueueStmt.GetBatchInfo 7))
+    ∷ (codes "a: consumer_info q w.m", runs_queue (QueueStmt.ConsumerInfo (codes "q") (codes "w.m")))
+    ∷ (codes "a: finish_batch 18446744073709551615", runs_queue (QueueStmt.FinishBatch (2 ^ 64 - 1)))
+    ∷ (codes "a: clock +3s", runs (Stmt.World (WorldStmt.Clock (pos 3_000_000))))
+    ∷ (codes "a: clock '+1 min'", runs (Stmt.World (WorldStmt.Clock (pos 60_000_000))))
+    ∷ (codes "a: clock '+1us'", runs (Stmt.World (WorldStmt.Clock (pos 1))))
+    ∷ (codes "a: clock +1day", runs (Stmt.World (WorldStmt.Clock (pos 86_400_000_000))))
+    ∷ (codes "a: pgqd on", runs (Stmt.World WorldStmt.PgqdOn))
+    ∷ (codes "a: pgqd off", runs (Stmt.World WorldStmt.PgqdOff))
     ∷ ([], Ok Blank)
     ∷ (codes "# a: ticker", Ok Blank)
     ∷ (codes " a: ticker q", Err 1)

@@ -1,7 +1,8 @@
 -- Worked calls of one database: a session that hasn't it open may only open it, and cancel.
 use Rattle.std.proofs.Common.{◌≡◌, ℕ, pos, List, [], ◌∷◌, true, map, refl, codes}
-use Rattle.sky_model.specs.declared.stmt.Stmt.{Stmt}
-use Rattle.sky_model.specs.declared.stmt.Stmt.TheVariants.{Row, CreateQueue}
+use Rattle.sky_model.specs.declared.stmt.DbStmt.{DbStmt}
+use Rattle.sky_model.specs.declared.stmt.DbStmt.TheVariants.{Row, Queue}
+use Rattle.sky_model.specs.declared.stmt.QueueStmt.TheVariants.{CreateQueue}
 use Rattle.sky_model.specs.declared.stmt.RowStmt.TheVariants.{OpenDb, Close, Cancel, Begin, TxidCurrent}
 use Rattle.sky_model.specs.declared.reply.Reply.{Reply}
 use Rattle.sky_model.specs.declared.reply.Reply.TheVariants.{Done, NotWaiting, Number, Refused}
@@ -11,10 +12,10 @@ use Rattle.sky_model.specs.Reader.{database_by_history}
 use Rattle.sky_model.specs.DatabaseCalls.{DatabaseCall, stepped, entered, database_does, database_part}
 
 -- the first session makes a statement
-abbrev a : Stmt → DatabaseCall
+abbrev a : DbStmt → DatabaseCall
 a stmt = stepped 0 stmt (pos 0)
 
-abbrev open_d : Stmt
+abbrev open_d : DbStmt
 open_d = Row (OpenDb (codes "d"))
 
 -- the answers to a call after calls, the last one first
@@ -25,7 +26,7 @@ answered calls call = (database_does database_by_history (after_all database_par
 abbrev worked : List (List DatabaseCall × DatabaseCall × List (ℕ × Reply))
 worked =
     ([], a (Row TxidCurrent), (0, Refused NotOpen) ∷ [])
-    ∷ ([], a (CreateQueue (codes "q")), (0, Refused NotOpen) ∷ [])
+    ∷ ([], a (Queue (CreateQueue (codes "q"))), (0, Refused NotOpen) ∷ [])
     ∷ ([], entered 0 true, (0, Refused NotOpen) ∷ [])
     -- nor because another one has it open
     ∷ (stepped 1 open_d (pos 0) ∷ [], a (Row Begin), (0, Refused NotOpen) ∷ [])

@@ -9,7 +9,8 @@ use Rattle.sky_urlenc.specs.RowText.{row_text}
 use Rattle.sky_model.specs.declared.stmt.Change.TheVariants.{To}
 use Rattle.sky_model.specs.declared.stmt.Stmt.{Stmt}
 use Rattle.sky_model.specs.declared.stmt.RowStmt.TheVariants.{OpenDb, Begin, Commit, Rollback, CreateTable, Insert, Update}
-use Rattle.sky_model.specs.declared.stmt.Stmt.TheVariants.{Row, CreateQueue, AddTrigger}
+use Rattle.sky_model.specs.declared.stmt.QueueStmt.TheVariants.{CreateQueue, AddTrigger}
+use Rattle.sky_model.specs.Grammar.{on_rows, on_queues}
 use Rattle.sky_model.specs.declared.reply.Reply.{Reply}
 use Rattle.sky_model.specs.declared.reply.Reply.TheVariants.{Done, Refused}
 use Rattle.sky_model.specs.declared.reply.Refusal.TheVariants.{BadColumn, TableBusy, TriggerExists}
@@ -38,16 +39,16 @@ abbrev text : ℕ → ℕ → List ℕ
 text k n = row_text columns (row k n)
 
 abbrev update : ℕ → ℕ → Stmt
-update k n = Row (Update (codes "t") (key k) (record { column = codes "n"; change = To (value.Int (pos n)) } ∷ []))
+update k n = on_rows (Update (codes "t") (key k) (record { column = codes "n"; change = To (value.Int (pos n)) } ∷ []))
 
 abbrev insert : ℕ → Stmt
-insert k = Row (Insert (codes "t") (row k 0))
+insert k = on_rows (Insert (codes "t") (row k 0))
 
 -- a queue, and a table with two triggers, of which the second ignores what changes `n` alone; the last statement first
 abbrev run : List Call
-run = b (Row (OpenDb (codes "d"))) ∷ a (AddTrigger (codes "keys") (codes "t") (codes "q") false (codes "n" ∷ [])) ∷ a (AddTrigger (codes "all") (codes "t") (codes "q") true [])
-    ∷ a (Row (CreateTable (codes "t") columns))
-    ∷ a (CreateQueue (codes "q")) ∷ a (Row (OpenDb (codes "d"))) ∷ []
+run = b (on_rows (OpenDb (codes "d"))) ∷ a (on_queues (AddTrigger (codes "keys") (codes "t") (codes "q") false (codes "n" ∷ []))) ∷ a (on_queues (AddTrigger (codes "all") (codes "t") (codes "q") true []))
+    ∷ a (on_rows (CreateTable (codes "t") columns))
+    ∷ a (on_queues (CreateQueue (codes "q"))) ∷ a (on_rows (OpenDb (codes "d"))) ∷ []
 
 abbrev then : List Call → History
 then calls = history_in (past_of (calls ++ run)) 0
@@ -77,7 +78,7 @@ inserted = refl
 
 -- a statement that waited writes when it resumes, so its event comes after those of the other one
 abbrev waited_for : List Call
-waited_for = a (Row Commit) ∷ b (update 1 2) ∷ a (update 1 1) ∷ a (Row Begin) ∷ b (insert 2) ∷ b (Row Begin) ∷ a (insert 1) ∷ []
+waited_for = a (on_rows Commit) ∷ b (update 1 2) ∷ a (update 1 1) ∷ a (on_rows Begin) ∷ b (insert 2) ∷ b (on_rows Begin) ∷ a (insert 1) ∷ []
 
 abbrev ids : List Event → List (ℕ × ℕ)
 ids es = map (λ (e : Event). (e.ev_id, e.ev_txid)) es
@@ -98,10 +99,10 @@ abbrev answers : List Call → Stmt → List (ℕ × Reply)
 answers calls stmt = answers_of (past_of (calls ++ run)) (a stmt)
 
 abbrev trigger : (name : List ℕ) → List (List ℕ) → Stmt
-trigger name ignored = AddTrigger name (codes "t") (codes "q") false ignored
+trigger name ignored = on_queues (AddTrigger name (codes "t") (codes "q") false ignored)
 
 -- a table that a running transaction has written gets no trigger, nor does any a second one of a name, nor one that ignores part of the key
-triggered : answers (b (insert 1) ∷ b (Row Begin) ∷ []) (trigger (codes "more") []) ++ answers (b (Row Rollback) ∷ b (insert 1) ∷ b (Row Begin) ∷ []) (trigger (codes "more") [])
+triggered : answers (b (insert 1) ∷ b (on_rows Begin) ∷ []) (trigger (codes "more") []) ++ answers (b (on_rows Rollback) ∷ b (insert 1) ∷ b (on_rows Begin) ∷ []) (trigger (codes "more") [])
     ++ answers [] (trigger (codes "all") []) ++ answers [] (trigger (codes "more") (codes "n" ∷ codes "id" ∷ []))
     ≡ (0, Refused (TableBusy 4)) ∷ (0, Done) ∷ (0, Refused (TriggerExists (codes "all"))) ∷ (0, Refused (BadColumn (codes "id"))) ∷ []
 triggered = refl

@@ -1,4 +1,5 @@
 -- Who writes a key in a worked run, by computation: the law on the order of writes isn't vacuous.
+use Rattle.sky_model.specs.Grammar.{on_rows}
 use Rattle.std.proofs.Common.{◌≡◌, ℕ, pos, List, [], ◌∷◌, ◌++◌, Bool, true, false, refl, codes, map}
 use Rattle.sky_val.specs.declared.val.Val.TheVariants as value
 use Rattle.sky_val.specs.declared.column.ColKind.TheVariants as kind
@@ -7,7 +8,6 @@ use Rattle.sky_txid.specs.Snapshot.{sees}
 use Rattle.sky_model.specs.declared.stmt.Change.TheVariants.{To}
 use Rattle.sky_model.specs.declared.stmt.RowStmt.{RowStmt}
 use Rattle.sky_model.specs.declared.stmt.RowStmt.TheVariants.{OpenDb, Begin, Commit, Rollback, CreateTable, Insert, Update}
-use Rattle.sky_model.specs.declared.stmt.Stmt.TheVariants.{Row}
 use Rattle.sky_model.specs.History.{History}
 use Rattle.sky_model.specs.Transactions.{has_rolled_back, snapshot}
 use Rattle.sky_model.specs.Rows.{committed}
@@ -17,10 +17,10 @@ use Rattle.sky_model.specs.Calls.{Call, past_of}
 use Rattle.sky_model.specs.LawsOfWrites.{writers, is_before}
 
 abbrev a : RowStmt → Call
-a stmt = record { who = codes "a"; stmt = Row stmt }
+a stmt = record { who = codes "a"; stmt = on_rows stmt }
 
 abbrev b : RowStmt → Call
-b stmt = record { who = codes "b"; stmt = Row stmt }
+b stmt = record { who = codes "b"; stmt = on_rows stmt }
 
 abbrev insert : ℕ → RowStmt
 insert key = Insert (codes "t") (value.Int (pos key) ∷ value.Int (pos 0) ∷ [])

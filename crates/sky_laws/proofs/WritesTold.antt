@@ -2,8 +2,11 @@
 use Rattle.std.proofs.Common.{◌≡◌, ℕ, zero, suc, ℤ, List, [], ◌∷◌, ◌++◌, Bool, true, false, Option, Some, None, Ok, Err, IfOk, length, refl, sym, ap, subst, pos}
 use Rattle.sky_val.specs.declared.val.Val.{Val}
 use Rattle.sky_keys.specs.Waits.{Waiting, is_waiting}
-use Rattle.sky_model.specs.declared.stmt.Stmt.{Stmt}
-use Rattle.sky_model.specs.declared.stmt.Stmt.TheVariants.{Row}
+use Rattle.sky_model.specs.declared.stmt.DbStmt.{DbStmt}
+use Rattle.sky_model.specs.declared.stmt.DbStmt.TheVariants.{Row, Queue}
+use Rattle.sky_model.specs.declared.stmt.QueueStmt.{QueueStmt}
+use Rattle.sky_model.specs.declared.stmt.QueueStmt.TheVariants.{InsertEvent}
+use Rattle.sky_model.specs.Permits.{Leaves, of_any, may_leave, permit_of_queue, permit_of}
 use Rattle.sky_model.specs.declared.stmt.RowStmt.TheVariants.{Commit}
 use Rattle.sky_model.specs.History.{Mark, Whose, of_session, of_worker, sight_taken, tabled, wrote, waited, History, of_copy}
 use Rattle.sky_model.specs.Sessions.{Session, session, has_open, block, own_txid}
@@ -26,7 +29,7 @@ use Rattle.sky_model.specs.DatabaseCalls.{DatabaseCall, stepped, entered, failed
 use Rattle.sky_model.specs.LawsOfWrites.{IsTold, WritesAreTold}
 use Rattle.sky_histories.proofs.Marks.{database_of-mark, database_of-marks}
 use Rattle.sky_histories.proofs.Lawful.{database-reads, past-behind}
-use Rattle.sky_histories.proofs.StatementMarks.{each-first, each-rest, AnyReply, gives-map, Kinds, no_more, may_leave, kinds, gives-form, each-failure, given-settled, by_commit, none-first, EachMark}
+use Rattle.sky_histories.proofs.StatementMarks.{each-first, each-rest, AnyReply, gives-map, gives-form, each-failure, given-settled, by_commit, none-first, EachMark}
 use Rattle.sky_histories.proofs.GatedLemmas.{is_no_write, WritesNone, plain-if, plain-abort}
 use Rattle.std.proofs.lemmas.Result.{IfOk-at_ok}
 use Rattle.sky_model.proofs.Cases.{ok-then}
@@ -131,28 +134,33 @@ tells-told h told now who s (Ok o) = of (with_told (database_of h) now o.marks) 
     of (Ok marks) all = all
     of (Err refusal) all = plain-told h (abort who s.block s.txid refusal) (plain-abort who s.block s.txid refusal) told
 
-form-plain : (h : History) → AllTold h → (now : ℤ) (who : ℕ) (stmt : Stmt) → (kinds (has_open who h) stmt).writes ≡ false
+form-plain : (h : History) → AllTold h → (now : ℤ) (who : ℕ) (stmt : DbStmt) → (permit_of stmt).leaves.writes ≡ false
     → AllTold (marked h (or_refused who (session h who) (form (database_of h) (shown_in h) now who stmt)).marks)
 form-plain h told now who stmt quiet =
-    let k : Kinds = kinds (has_open who h) stmt in
+    let k : Leaves = (permit_of stmt).leaves in
     let done : Checked Outcome = form (database_of h) (shown_in h) now who stmt in
     plain-told h (or_refused who (session h who) done).marks
-    (given-settled AnyReply is_no_write (λ _. tt) (plain-if no_more refl) who (session h who) done
-    (gives-map AnyReply AnyReply (may_leave k who) is_no_write (λ reply any. any) (plain-if k quiet who) done (gives-form who (database_of h) (shown_in h) now stmt))).1 told
+    (given-settled AnyReply is_no_write (λ _. tt) (plain-if of_any refl) who (session h who) done
+    (gives-map AnyReply AnyReply (may_leave k (session h who) who) is_no_write (λ reply any. any) (plain-if k quiet (session h who) who) done (gives-form who (database_of h) (shown_in h) now stmt))).1 told
 
-form-told : (h : History) → AllTold h → (now : ℤ) (who : ℕ) (stmt : Stmt) → AllTold (marked h (or_refused who (session h who) (form (database_of h) (shown_in h) now who stmt)).marks)
+-- a statement on queues writes no key
+writes-none : (stmt : QueueStmt) → (permit_of_queue stmt).leaves.writes ≡ false
+writes-none (InsertEvent queue ev_type ev_data extra) = refl
+writes-none _ = refl
+
+form-told : (h : History) → AllTold h → (now : ℤ) (who : ℕ) (stmt : DbStmt) → AllTold (marked h (or_refused who (session h who) (form (database_of h) (shown_in h) now who stmt)).marks)
 form-told h told now who (Row stmt) =
     by_commit (λ s. AllTold (marked h (or_refused who (session h who) (form (database_of h) (shown_in h) now who (Row s))).marks)) (form-plain h told now who (Row Commit) refl)
     (λ s still. subst (λ c. AllTold (marked h (or_refused who (session h who) c).marks)) (sym (none-first (database_of h) now who s _ still)) (tells-told h told now who (session h who) (row_form (part_of h) (rows_in h) who s))) stmt
-form-told h told now who stmt = form-plain h told now who stmt refl
+form-told h told now who (Queue stmt) = form-plain h told now who (Queue stmt) (writes-none stmt)
 
-runs-told : (h : History) → AllTold h → (now : ℤ) (who : ℕ) (stmt : Stmt) (may : Checked (Unit {0})) → AllTold (marked h (runs_if (making database_by_history now who stmt) (where_of stmt) who h may).marks)
+runs-told : (h : History) → AllTold h → (now : ℤ) (who : ℕ) (stmt : DbStmt) (may : Checked (Unit {0})) → AllTold (marked h (runs_if (making database_by_history now who stmt) (where_of stmt) who h may).marks)
 runs-told h told now who stmt (Err refusal) = plain-told h (abort who (session h who).block (session h who).txid refusal) (plain-abort who (session h who).block (session h who).txid refusal) told
 runs-told h told now who stmt (Ok _) =
     cond_both (takes_sight (where_of stmt) (session h who).sight) (looking who (or_refused who (session (sight_taken who ∷ h) who) (form (database_of (sight_taken who ∷ h)) (shown_in (sight_taken who ∷ h)) now who stmt))) _ (λ o. AllTold (marked h o.marks))
     (λ _. form-told (sight_taken who ∷ h) (plain-told h (sight_taken who ∷ []) tt told) now who stmt) (λ _. form-told h told now who stmt)
 
-statement-told : (h : History) → AllTold h → (now : ℤ) (who : ℕ) (stmt : Stmt) → AllTold (marked h (statement database_by_history h now who stmt).marks)
+statement-told : (h : History) → AllTold h → (now : ℤ) (who : ℕ) (stmt : DbStmt) → AllTold (marked h (statement database_by_history h now who stmt).marks)
 statement-told h told now who stmt = runs-told h told now who stmt (allowed (is_waiting who (waiting h)) (has_open who h) (block who h) (where_of stmt))
 
 -- ---- what it unblocks
@@ -209,7 +217,7 @@ does-told h told (worked part now) =
     plain-told h (daemon_does database_by_history h part now).marks (each-daemon_does is_no_write now (λ mark _. refl) (λ r. refl) (λ t. refl) (λ t. refl) database_by_history h part) told
 does-told h told (served call) = nodes-told h (marks_of (node_does (database_of h) call)) (each-node is_for_nodes (λ mark is. is) (database_of h) call) told
 does-told h told (failed_call who now) =
-    with_settling-told now h (failing (part_of h) who) (plain-told h (failure who (own_txid who h) (block who h)) (each-failure AnyReply is_no_write (λ _. tt) (plain-if no_more refl) who (own_txid who h) (block who h)) told)
+    with_settling-told now h (failing (part_of h) who) (plain-told h (failure who (own_txid who h) (block who h)) (each-failure AnyReply is_no_write (λ _. tt) (plain-if of_any refl) who (own_txid who h) (block who h)) told)
 
 told_calls : (calls : List DatabaseCall) → AllTold (after_all database_part calls)
 told_calls [] = none-told []

@@ -1,21 +1,29 @@
 -- What a call does: a statement of a session, with all that it causes.
-use Rattle.std.specs.Prelude.{ℕ, ℤ, Bool, true, false, List, [], ◌∷◌, ◌++◌, map, Option, Some, None, not, ◌&&◌, Ok, Err, is_ok, is_some, nat_le, length, if◌then◌else◌}
+use Rattle.std.specs.Prelude.{ℕ, ℤ, Bool, true, false, List, [], ◌∷◌, map, Option, Some, None, not, Ok, Err, nat_le, length, if◌then◌else◌}
 use Rattle.sky_model.specs.declared.stmt.Stmt.{Stmt}
 use Rattle.sky_model.specs.declared.stmt.RowStmt.{RowStmt}
 use Rattle.sky_model.specs.declared.stmt.RowStmt.TheVariants.{OpenDb, Close, Cancel, Begin, BeginRepeatableRead, Commit, Rollback, TxidCurrent, TxidCurrentSnapshot, TxidVisibleInSnapshot, CreateTable, Insert, Update, Delete, Get, Scan}
-use Rattle.sky_model.specs.declared.stmt.Stmt.TheVariants.{Row, CreateQueue, DropQueue, SetQueueConfig, QueueInfo, InsertEvent, Ticker, ForceTick, RegisterConsumer, RegisterConsumerAt, UnregisterConsumer, NextBatch, GetBatchEvents, GetBatchInfo, EventRetry, FinishBatch, MaintRetryEvents, MaintRotateStep1, MaintRotateStep2, ConsumerInfo, AddTrigger, CreateRoot, Node, Clock, PgqdOn, PgqdOff}
+use Rattle.sky_model.specs.declared.stmt.Stmt.TheVariants.{Db, Node, World as OnWorld}
+use Rattle.sky_model.specs.declared.stmt.DbStmt.{DbStmt}
+use Rattle.sky_model.specs.declared.stmt.DbStmt.TheVariants.{Row, Queue}
+use Rattle.sky_model.specs.declared.stmt.QueueStmt.{QueueStmt}
+use Rattle.sky_model.specs.declared.stmt.QueueStmt.TheVariants.{CreateQueue, DropQueue, SetQueueConfig, QueueInfo, InsertEvent, AddTrigger, Ticker, ForceTick, RegisterConsumer, RegisterConsumerAt, UnregisterConsumer, NextBatch, GetBatchEvents, GetBatchInfo, EventRetry, FinishBatch, MaintRetryEvents, MaintRotateStep1, MaintRotateStep2, ConsumerInfo}
+use Rattle.sky_model.specs.declared.stmt.WorldStmt.{WorldStmt}
+use Rattle.sky_model.specs.declared.stmt.WorldStmt.TheVariants.{Clock, PgqdOn, PgqdOff}
 use Rattle.sky_model.specs.declared.stmt.NodeStmt.{NodeStmt}
 use Rattle.sky_model.specs.declared.reply.Reply.{Reply}
 use Rattle.sky_model.specs.declared.reply.Reply.TheVariants.{Done, NotWaiting, Refused}
 use Rattle.sky_model.specs.declared.reply.Limit.TheVariants.{Sessions, Databases}
-use Rattle.sky_model.specs.declared.reply.Refusal.TheVariants.{TooMany, NodeExists, NotOpen}
+use Rattle.sky_model.specs.declared.reply.Refusal.{Refusal}
+use Rattle.sky_model.specs.declared.reply.Refusal.TheVariants.{TooMany, NotOpen}
+use Rattle.sky_model.specs.declared.stmt.Where.TheVariants.{WhenOutside}
 use Rattle.sky_keys.specs.Waits.{is_waiting}
 use Rattle.sky_names.specs.Places.{place_of}
 use Rattle.sky_model.specs.Limits.{most_of}
-use Rattle.sky_model.specs.History.{Mark, Fact, entered, left, daemon_on, daemon_off, node_made, Past}
-use Rattle.sky_model.specs.State.{RowPart, Database, after_marks}
+use Rattle.sky_model.specs.History.{Mark, Fact, entered, left, daemon_on, daemon_off, Past}
+use Rattle.sky_model.specs.State.{RowPart, Database}
 use Rattle.sky_model.specs.ShownRows.{RowsShown}
-use Rattle.sky_model.specs.Outcome.{Outcome, Checked, answers, after_marks_of}
+use Rattle.sky_model.specs.Outcome.{Outcome, Checked, after_marks_of, aborts}
 use Rattle.sky_model.specs.Allowed.{where_of_row, where_of, allowed}
 use Rattle.sky_model.specs.Clock.{deed_in, clock, waits_at}
 use Rattle.sky_model.specs.Made.{Making, made_by}
@@ -27,12 +35,12 @@ use Rattle.sky_model.specs.Telling.{tells}
 use Rattle.sky_model.specs.StepConsumer.{register_consumer, register_consumer_at, unregister_consumer, next_batch, get_batch_events, get_batch_info, finish_batch, consumer_info}
 use Rattle.sky_model.specs.StepRetry.{event_retry, maint_retry_events}
 use Rattle.sky_model.specs.StepRotation.{maint_rotate_step1, maint_rotate_step2, committed_by, switches_of}
-use Rattle.sky_model.specs.StepNode.{create_root}
-use Rattle.sky_model.specs.NodesOfWorld.{WorldOutcome, node_called}
+use Rattle.sky_model.specs.NodesOfWorld.{WorldOutcome}
 use Rattle.sky_model.specs.WorkersOfWorld.{node_form}
 use Rattle.sky_model.specs.World.{World, world_of, on_top}
 use Rattle.sky_model.specs.Reader.{Shown, PartReader, DatabaseReader, Reader, within_part, within_database, by_past, Deed, answers_with, refuses, appears, founds, followed}
-use Rattle.sky_model.specs.Settling.{Turn, turn_of, with_settling}
+use Rattle.sky_model.specs.Settling.{Turn, turn_of, rests, with_rest, with_settling}
+use Rattle.sky_model.specs.SessionMarks.{failing}
 use Rattle.sky_model.specs.Promises.{Part, after_all}
 
 -- what a statement on sessions, transactions, tables and rows does, if its session may make it
@@ -60,35 +68,33 @@ abbrev pub switches_first : Database → ℤ → ℕ → RowStmt → List Mark
 switches_first d now who Commit = switches_of d now (committed_by (d.part.session who).block (d.part.session who).txid)
 switches_first d now who stmt = []
 
--- what a statement does, if its session may make it; the clock, the daemons and the nodes' names are the world's, so what statements on those do is
--- defined below
-abbrev pub form : Database → Shown → ℤ → ℕ → Stmt → Checked Outcome
+-- what a statement on queues does, if its session may make it
+abbrev pub queue_form : Database → Shown → ℤ → ℕ → QueueStmt → Checked Outcome
+queue_form d shown now who (CreateQueue queue) = create_queue d now who queue
+queue_form d shown now who (DropQueue queue) = drop_queue d queue
+queue_form d shown now who (SetQueueConfig queue param value) = set_queue_config d queue param value
+queue_form d shown now who (QueueInfo queue) = queue_info d queue
+queue_form d shown now who (InsertEvent queue ev_type ev_data extra) = insert_event d now who queue ev_type ev_data extra
+queue_form d shown now who (AddTrigger name table queue backup ignored) = add_trigger d name table queue backup ignored
+queue_form d shown now who (Ticker queue) = ticker d now queue
+queue_form d shown now who (ForceTick queue) = force_tick d queue
+queue_form d shown now who (RegisterConsumer queue consumer) = register_consumer d queue consumer
+queue_form d shown now who (RegisterConsumerAt queue consumer tick) = register_consumer_at d queue consumer tick
+queue_form d shown now who (UnregisterConsumer queue consumer) = unregister_consumer d queue consumer
+queue_form d shown now who (NextBatch queue consumer) = next_batch d queue consumer
+queue_form d shown now who (GetBatchEvents batch) = get_batch_events shown.events batch
+queue_form d shown now who (GetBatchInfo batch) = get_batch_info d batch
+queue_form d shown now who (EventRetry batch event seconds) = event_retry d shown.events now batch event seconds
+queue_form d shown now who (FinishBatch batch) = finish_batch d batch
+queue_form d shown now who MaintRetryEvents = maint_retry_events d now
+queue_form d shown now who (MaintRotateStep1 queue) = maint_rotate_step1 d now who queue
+queue_form d shown now who MaintRotateStep2 = maint_rotate_step2 d
+queue_form d shown now who (ConsumerInfo queue consumer) = consumer_info d queue consumer
+
+-- what a statement does that a database runs by itself, if its session may make it
+abbrev pub form : Database → Shown → ℤ → ℕ → DbStmt → Checked Outcome
 form d shown now who (Row stmt) = after_marks_of (switches_first d now who stmt) (tells d now (row_form d.part shown.rows who stmt))
-form d shown now who (CreateQueue queue) = create_queue d now who queue
-form d shown now who (DropQueue queue) = drop_queue d queue
-form d shown now who (SetQueueConfig queue param value) = set_queue_config d queue param value
-form d shown now who (QueueInfo queue) = queue_info d queue
-form d shown now who (InsertEvent queue ev_type ev_data extra) = insert_event d now who queue ev_type ev_data extra
-form d shown now who (Ticker queue) = ticker d now queue
-form d shown now who (ForceTick queue) = force_tick d queue
-form d shown now who (RegisterConsumer queue consumer) = register_consumer d queue consumer
-form d shown now who (RegisterConsumerAt queue consumer tick) = register_consumer_at d queue consumer tick
-form d shown now who (UnregisterConsumer queue consumer) = unregister_consumer d queue consumer
-form d shown now who (NextBatch queue consumer) = next_batch d queue consumer
-form d shown now who (GetBatchEvents batch) = get_batch_events shown.events batch
-form d shown now who (GetBatchInfo batch) = get_batch_info d batch
-form d shown now who (EventRetry batch event seconds) = event_retry d shown.events now batch event seconds
-form d shown now who (FinishBatch batch) = finish_batch d batch
-form d shown now who MaintRetryEvents = maint_retry_events d now
-form d shown now who (MaintRotateStep1 queue) = maint_rotate_step1 d now who queue
-form d shown now who MaintRotateStep2 = maint_rotate_step2 d
-form d shown now who (ConsumerInfo queue consumer) = consumer_info d queue consumer
-form d shown now who (AddTrigger name table queue backup ignored) = add_trigger d name table queue backup ignored
-form d shown now who (CreateRoot name queue) = create_root d now who name queue
-form d shown now who (Node stmt) = answers Done
-form d shown now who (Clock time) = answers Done
-form d shown now who PgqdOn = answers Done
-form d shown now who PgqdOff = answers Done
+form d shown now who (Queue stmt) = queue_form d shown now who stmt
 
 -- a statement on rows, at a place of its database's row part
 abbrev pub row_making : {P : Type 0} → PartReader P → ℕ → RowStmt → Making P
@@ -107,7 +113,7 @@ abbrev pub row_turn : {P : Type 0} → PartReader P → P → ℕ → RowStmt �
 row_turn r p who stmt = with_settling r p (turn_of who (row_statement r p who stmt))
 
 -- a statement of a session, at a place of a database
-abbrev pub making : {P : Type 0} → DatabaseReader P → ℤ → ℕ → Stmt → Making P
+abbrev pub making : {P : Type 0} → DatabaseReader P → ℤ → ℕ → DbStmt → Making P
 making r now who stmt = record {
   session = λ p. (r.database p).part.session who;
   waits = λ p. is_waiting who (r.database p).part.waiting;
@@ -115,41 +121,43 @@ making r now who stmt = record {
   behind = r.behind;
 }
 
-abbrev pub statement : {P : Type 0} → DatabaseReader P → P → ℤ → ℕ → Stmt → Outcome
+abbrev pub statement : {P : Type 0} → DatabaseReader P → P → ℤ → ℕ → DbStmt → Outcome
 statement r p now who stmt = made_by (making r now who stmt) (where_of stmt) who p
 
 -- with those that it unblocks
-abbrev pub database_turn : {P : Type 0} → DatabaseReader P → P → ℤ → ℕ → Stmt → Turn
+abbrev pub database_turn : {P : Type 0} → DatabaseReader P → P → ℤ → ℕ → DbStmt → Turn
 database_turn r p now who stmt = with_settling (within_part r now) p (turn_of who (statement r p now who stmt))
 
+-- ---- a statement that its session's database runs
+
 -- the name of the database that a statement is to open
-abbrev pub opening : Stmt → Option (List ℕ)
+abbrev pub opening : DbStmt → Option (List ℕ)
 opening (Row (OpenDb name)) = Some name
 opening _ = None
 
 -- the answer to a statement that opens none, of a session that has none open
-abbrev pub unopened : Stmt → Reply
+abbrev pub unopened : DbStmt → Reply
 unopened (Row Cancel) = NotWaiting
 unopened _ = Refused NotOpen
 
 -- `open` of a session that has none open, in this database
-abbrev pub opens_in : {P : Type 0} → Reader P → ℕ → Stmt → ℕ → P → Deed
+abbrev pub opens_in : {P : Type 0} → Reader P → ℕ → DbStmt → ℕ → P → Deed
 opens_in r who stmt d p = deed_in d (entered who d ∷ []) (database_turn (within_database r d) p (r.world p).now who stmt)
 
 -- in the one of this name, which is made if it is new
-abbrev pub opens : {P : Type 0} → Reader P → P → ℕ → Stmt → List ℕ → Option ℕ → Deed
+abbrev pub opens : {P : Type 0} → Reader P → P → ℕ → DbStmt → List ℕ → Option ℕ → Deed
 opens r p who stmt name (Some d) = opens_in r who stmt d p
 opens r p who stmt name None =
     if nat_le (most_of Databases) (length (r.world p).databases) then refuses who (TooMany Databases)
     else followed r p (opens_in r who stmt (length (r.world p).databases)) (founds name)
 
 -- a statement of a session that has none open, by the name of the one that it is to open
-abbrev pub outside_does : {P : Type 0} → Reader P → P → ℕ → Stmt → Option (List ℕ) → Deed
+abbrev pub outside_does : {P : Type 0} → Reader P → P → ℕ → DbStmt → Option (List ℕ) → Deed
 outside_does r p who stmt None = answers_with who (unopened stmt) []
 outside_does r p who stmt (Some name) = opens r p who stmt name (place_of name (r.world p).databases)
 
 -- whether a session that waits, or doesn't, leaves its database: it does by `close`, which is refused while it waits
-abbrev pub is_leaving : Bool → Stmt → Bool
+abbrev pub is_leaving : Bool → DbStmt → Bool
 is_leaving waits (Row Close) = not waits
 is_leaving waits _ = false
 
@@ -158,67 +166,72 @@ abbrev pub left_if : ℕ → Bool → List Fact
 left_if who true = left who ∷ []
 left_if who false = []
 
--- whether a session may make a statement in its state
-abbrev pub may_make : Database → ℕ → Stmt → Bool
-may_make d who stmt = is_ok (allowed (is_waiting who d.part.waiting) (d.part.session who).is_open (d.part.session who).block (where_of stmt))
+-- by the database that the session has open, if any
+abbrev pub db_stmt_does : {P : Type 0} → Reader P → P → ℕ → DbStmt → Option ℕ → Deed
+db_stmt_does r p who stmt None = outside_does r p who stmt (opening stmt)
+db_stmt_does r p who stmt (Some d) =
+    deed_in d (left_if who (is_leaving (is_waiting who ((r.world p).database d).part.waiting) stmt))
+    (database_turn (within_database r d) p (r.world p).now who stmt)
 
--- the daemon of a database, which has been on since a moment or is off, is switched on or off by a statement that its session may make
-abbrev pub of_daemon_if : Bool → ℕ → Option ℤ → Stmt → List Fact
-of_daemon_if true d None PgqdOn = daemon_on d ∷ []
-of_daemon_if true d start PgqdOff = daemon_off d ∷ []
-of_daemon_if _ d start stmt = []
+-- ---- a statement on nodes or on the daemon, which is allowed outside blocks
 
--- what a statement changes in the world besides its database
-abbrev pub beside : World → ℕ → Stmt → ℕ → List Fact
-beside w who stmt d =
-    left_if who (is_leaving (is_waiting who (w.database d).part.waiting) stmt)
-    ++ of_daemon_if (may_make (w.database d) who stmt) d (w.daemons d) stmt
+-- whether a session may make such a statement in its database, or why not
+abbrev pub allowed_outside : Database → ℕ → Checked (Unit {0})
+allowed_outside d who = allowed (is_waiting who d.part.waiting) (d.part.session who).is_open (d.part.session who).block WhenOutside
+
+-- the block of a session is rolled back if the refusal of a statement aborts it, with those that this unblocks
+abbrev pub fails_if : {P : Type 0} → DatabaseReader P → P → ℤ → ℕ → Bool → Turn
+fails_if r p now who true = with_settling (within_part r now) p (failing (r.database p).part who)
+fails_if r p now who false = rests
+
+-- a statement is refused in its session's database
+abbrev pub refused_in : {P : Type 0} → Reader P → P → ℕ → ℕ → Refusal → Deed
+refused_in r p who d refusal =
+    deed_in d [] (with_rest (record { answers = (who, Refused refusal) ∷ []; marks = [] }) (fails_if (within_database r d) p (r.world p).now who (aborts refusal)))
+
+-- a statement does this, unless its session may not make it in its database
+abbrev pub if_allowed : {P : Type 0} → Reader P → P → ℕ → ℕ → Checked (Unit {0}) → Deed → Deed
+if_allowed r p who d (Ok _) deed = deed
+if_allowed r p who d (Err refusal) deed = refused_in r p who d refusal
 
 -- what a statement on nodes does in the world, or why it is refused
 abbrev pub world_does : ℕ → Checked WorldOutcome → Deed
 world_does who (Ok outcome) = record { answers = map (λ reply. (who, reply)) outcome.replies; facts = outcome.facts }
 world_does who (Err refusal) = refuses who refusal
 
--- a statement on nodes of a session, by the database that it has open; if the session may not make it, this database refuses it
-abbrev pub node_stmt_does : {P : Type 0} → Reader P → P → ℕ → NodeStmt → ℕ → Deed
-node_stmt_does r p who stmt d =
-    if may_make ((r.world p).database d) who (Node stmt) then world_does who (node_form (r.world p) d stmt)
-    else deed_in d [] (database_turn (within_database r d) p (r.world p).now who (Node stmt))
+-- by the database that the session has open, if any
+abbrev pub node_stmt_does : {P : Type 0} → Reader P → P → ℕ → NodeStmt → Option ℕ → Deed
+node_stmt_does r p who stmt None = refuses who NotOpen
+node_stmt_does r p who stmt (Some d) =
+    if_allowed r p who d (allowed_outside ((r.world p).database d) who) (world_does who (node_form (r.world p) d stmt))
 
--- whether a database that had no node has one after a turn
-abbrev pub gets_node : Database → Turn → Bool
-gets_node d turn = not (is_some d.node) && is_some (after_marks d turn.marks).node
+-- a daemon is switched on, unless it has been on since a moment
+abbrev pub on_unless : ℕ → Option ℤ → List Fact
+on_unless d None = daemon_on d ∷ []
+on_unless d (Some start) = []
 
--- it got its node, or didn't
-abbrev pub node_if : Bool → ℕ → List Fact
-node_if true d = node_made d ∷ []
-node_if false d = []
+-- by the database that the session has open, if any: its daemon is switched
+abbrev pub switches_daemon : {P : Type 0} → Reader P → P → ℕ → (ℕ → List Fact) → Option ℕ → Deed
+switches_daemon r p who facts None = refuses who NotOpen
+switches_daemon r p who facts (Some d) =
+    if_allowed r p who d (allowed_outside ((r.world p).database d) who) (answers_with who Done (facts d))
 
--- `create_root` of a session, by the database that it has open
-abbrev pub roots_in : ℕ → Database → Turn → Deed
-roots_in d old turn = deed_in d (node_if (gets_node old turn) d) turn
+abbrev pub world_stmt_does : {P : Type 0} → Reader P → P → ℕ → WorldStmt → Option ℕ → Deed
+world_stmt_does r p who (Clock time) home = clock r p who time (waits_at (r.world p) who home)
+world_stmt_does r p who PgqdOn home = switches_daemon r p who (λ d. on_unless d ((r.world p).daemons d)) home
+world_stmt_does r p who PgqdOff home = switches_daemon r p who (λ d. daemon_off d ∷ []) home
 
--- refused if the session may make it and there is a node of the name in any database
-abbrev pub root_does : {P : Type 0} → Reader P → P → ℕ → (name queue : List ℕ) → ℕ → Deed
-root_does r p who name queue d =
-    if may_make ((r.world p).database d) who (CreateRoot name queue) && is_some (node_called (r.world p) name) then refuses who (NodeExists name)
-    else roots_in d ((r.world p).database d) (database_turn (within_database r d) p (r.world p).now who (CreateRoot name queue))
+-- ---- any statement
 
--- a statement of a session, by the database that it has open
-abbrev pub does_at : {P : Type 0} → Reader P → P → ℕ → Stmt → ℕ → Deed
-does_at r p who (Node stmt) d = node_stmt_does r p who stmt d
-does_at r p who (CreateRoot name queue) d = root_does r p who name queue d
-does_at r p who stmt d = deed_in d (beside (r.world p) who stmt d) (database_turn (within_database r d) p (r.world p).now who stmt)
-
--- by the database that it has open, if any
-abbrev pub session_does : {P : Type 0} → Reader P → P → ℕ → Stmt → Option ℕ → Deed
-session_does r p who stmt None = outside_does r p who stmt (opening stmt)
-session_does r p who stmt (Some d) = does_at r p who stmt d
+-- by the database that the session has open, if any
+abbrev pub stmt_does : {P : Type 0} → Reader P → P → ℕ → Stmt → Option ℕ → Deed
+stmt_does r p who (Db stmt) home = db_stmt_does r p who stmt home
+stmt_does r p who (Node stmt) home = node_stmt_does r p who stmt home
+stmt_does r p who (OnWorld stmt) home = world_stmt_does r p who stmt home
 
 -- a turn: what a statement of a session does at a place
 abbrev pub turn : {P : Type 0} → Reader P → ℕ → Stmt → P → Deed
-turn r who (Clock time) p = clock r p who time (waits_at (r.world p) who ((r.world p).homes who))
-turn r who stmt p = session_does r p who stmt ((r.world p).homes who)
+turn r who stmt p = stmt_does r p who stmt ((r.world p).homes who)
 
 -- a statement, and the name of the session that makes it
 pub record Call : Type 0 where

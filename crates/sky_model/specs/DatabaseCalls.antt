@@ -1,8 +1,8 @@
 -- The calls that change a database, and what each does.
 use Rattle.std.specs.Prelude.{ℕ, ℤ, Bool, [], ⊤}
-use Rattle.sky_model.specs.declared.stmt.Stmt.{Stmt}
+use Rattle.sky_model.specs.declared.stmt.DbStmt.{DbStmt}
 use Rattle.sky_model.specs.declared.daemon.DaemonPart.{DaemonPart}
-use Rattle.sky_model.specs.InForm.{IsInForm}
+use Rattle.sky_model.specs.InForm.{IsDbInForm}
 use Rattle.sky_model.specs.History.{History}
 use Rattle.sky_model.specs.State.{Database, database_of}
 use Rattle.sky_model.specs.Reader.{DatabaseReader, database_by_history, within_part}
@@ -15,7 +15,7 @@ use Rattle.sky_model.specs.Promises.{Part}
 
 pub data DatabaseCall : Type 0 where
   -- a session made a statement, at a time
-  stepped : (who : ℕ) (stmt : Stmt) (now : ℤ) → DatabaseCall
+  stepped : (who : ℕ) (stmt : DbStmt) (now : ℤ) → DatabaseCall
   -- something is to be done in a session's name, which is allowed only outside blocks, or inside too
   entered : (who : ℕ) (outside : Bool) → DatabaseCall
   -- it failed, at a time
@@ -27,7 +27,7 @@ pub data DatabaseCall : Type 0 where
 
 -- its statement is in form
 abbrev pub IsDatabaseCallInForm : DatabaseCall → Type 0
-IsDatabaseCallInForm (stepped who stmt now) = IsInForm stmt
+IsDatabaseCallInForm (stepped who stmt now) = IsDbInForm stmt
 IsDatabaseCallInForm (entered who outside) = ⊤
 IsDatabaseCallInForm (failed who now) = ⊤
 IsDatabaseCallInForm (worked part now) = ⊤

@@ -1,7 +1,12 @@
 -- The statement forms as a table, and what a line says by it.
 use Rattle.std.specs.Prelude.{ℕ, Bool, true, false, ◌+◌, ◌-◌, ◌^◌, ◌==◌, if◌then◌else◌, List, [], ◌∷◌, ◌++◌, length, take, drop, Option, Some, None, Result, Ok, Err, bytes_eq, codes}
 use Rattle.sky_model.specs.declared.stmt.RowStmt.TheVariants as row
+use Rattle.sky_model.specs.declared.stmt.RowStmt.{RowStmt}
+use Rattle.sky_model.specs.declared.stmt.QueueStmt.{QueueStmt}
+use Rattle.sky_model.specs.declared.stmt.QueueStmt.TheVariants as queues
 use Rattle.sky_model.specs.declared.stmt.NodeStmt.TheVariants as node
+use Rattle.sky_model.specs.declared.stmt.WorldStmt.TheVariants as world
+use Rattle.sky_model.specs.declared.stmt.DbStmt.TheVariants as db
 use Rattle.sky_model.specs.declared.stmt.Stmt.{Stmt}
 use Rattle.sky_model.specs.declared.stmt.Stmt.TheVariants as stmt
 use Rattle.sky_model.specs.declared.line.Line.{Line}
@@ -52,49 +57,56 @@ text_of fixed.Backup = codes "backup"
 text_of fixed.On = codes "on"
 text_of fixed.Off = codes "off"
 
+-- a statement on rows; one on queues
+abbrev pub on_rows : RowStmt → Stmt
+on_rows s = stmt.Db (db.Row s)
+
+abbrev pub on_queues : QueueStmt → Stmt
+on_queues s = stmt.Db (db.Queue s)
+
 -- ---- the statement forms: for each its first word, and what follows it
 
 -- on sessions and transactions
 abbrev pub session_forms : List (List ℕ × GrammarRow)
 session_forms =
-    (codes "open", last Name (λ name. stmt.Row (row.OpenDb name)))
-    ∷ (codes "close", stop (stmt.Row row.Close))
-    ∷ (codes "cancel", stop (stmt.Row row.Cancel))
-    ∷ (codes "begin", either (stop (stmt.Row row.Begin)) (literal fixed.Repeatable (literal fixed.Read (stop (stmt.Row row.BeginRepeatableRead)))))
-    ∷ (codes "commit", stop (stmt.Row row.Commit))
-    ∷ (codes "rollback", stop (stmt.Row row.Rollback))
-    ∷ (codes "txid_current", stop (stmt.Row row.TxidCurrent))
-    ∷ (codes "txid_current_snapshot", stop (stmt.Row row.TxidCurrentSnapshot))
-    ∷ (codes "txid_visible_in_snapshot", one (Number (2 ^ 64 - 1)) (λ txid. last Raw (λ snapshot. stmt.Row (row.TxidVisibleInSnapshot txid snapshot))))
+    (codes "open", last Name (λ name. on_rows (row.OpenDb name)))
+    ∷ (codes "close", stop (on_rows row.Close))
+    ∷ (codes "cancel", stop (on_rows row.Cancel))
+    ∷ (codes "begin", either (stop (on_rows row.Begin)) (literal fixed.Repeatable (literal fixed.Read (stop (on_rows row.BeginRepeatableRead)))))
+    ∷ (codes "commit", stop (on_rows row.Commit))
+    ∷ (codes "rollback", stop (on_rows row.Rollback))
+    ∷ (codes "txid_current", stop (on_rows row.TxidCurrent))
+    ∷ (codes "txid_current_snapshot", stop (on_rows row.TxidCurrentSnapshot))
+    ∷ (codes "txid_visible_in_snapshot", one (Number (2 ^ 64 - 1)) (λ txid. last Raw (λ snapshot. on_rows (row.TxidVisibleInSnapshot txid snapshot))))
     ∷ []
 
 -- on tables and rows
 abbrev pub row_forms : List (List ℕ × GrammarRow)
 row_forms =
-    (codes "create", literal fixed.Table (one Dotted (λ table. some_last Column (λ columns. stmt.Row (row.CreateTable table columns)))))
-    ∷ (codes "insert", one Dotted (λ table. some_last Value (λ values. stmt.Row (row.Insert table values))))
-    ∷ (codes "update", one Dotted (λ table. some_until fixed.Set Value (λ key. some_last Set (λ sets. stmt.Row (row.Update table key sets)))))
-    ∷ (codes "delete", one Dotted (λ table. some_last Value (λ key. stmt.Row (row.Delete table key))))
-    ∷ (codes "get", one Dotted (λ table. some_last Value (λ key. stmt.Row (row.Get table key))))
-    ∷ (codes "scan", last Dotted (λ table. stmt.Row (row.Scan table)))
+    (codes "create", literal fixed.Table (one Dotted (λ table. some_last Column (λ columns. on_rows (row.CreateTable table columns)))))
+    ∷ (codes "insert", one Dotted (λ table. some_last Value (λ values. on_rows (row.Insert table values))))
+    ∷ (codes "update", one Dotted (λ table. some_until fixed.Set Value (λ key. some_last Set (λ sets. on_rows (row.Update table key sets)))))
+    ∷ (codes "delete", one Dotted (λ table. some_last Value (λ key. on_rows (row.Delete table key))))
+    ∷ (codes "get", one Dotted (λ table. some_last Value (λ key. on_rows (row.Get table key))))
+    ∷ (codes "scan", last Dotted (λ table. on_rows (row.Scan table)))
     ∷ []
 
 -- the four further texts of an event, to the line's end
 abbrev pub extra_row : (queue : List ℕ) (ev_type ev_data : Option (List ℕ)) → GrammarRow
 extra_row queue ev_type ev_data =
     one OptText (λ extra1. one OptText (λ extra2. one OptText (λ extra3. last OptText (λ extra4.
-    stmt.InsertEvent queue ev_type ev_data (Some (record { ev_extra1 = extra1; ev_extra2 = extra2; ev_extra3 = extra3; ev_extra4 = extra4 }))))))
+    on_queues (queues.InsertEvent queue ev_type ev_data (Some (record { ev_extra1 = extra1; ev_extra2 = extra2; ev_extra3 = extra3; ev_extra4 = extra4 })))))))
 
 -- an event's queue, type and data, and then none or four further texts
 abbrev pub insert_event : GrammarRow
 insert_event =
     one Name (λ queue. one OptText (λ ev_type. one OptText (λ ev_data.
-    either (stop (stmt.InsertEvent queue ev_type ev_data None)) (extra_row queue ev_type ev_data))))
+    either (stop (on_queues (queues.InsertEvent queue ev_type ev_data None))) (extra_row queue ev_type ev_data))))
 
 -- the columns to ignore at the end of a trigger's line, or none
 abbrev pub ignore_row : (name table queue : List ℕ) → Bool → GrammarRow
 ignore_row name table queue backup =
-    either (stop (stmt.AddTrigger name table queue backup [])) (last Ignore (λ columns. stmt.AddTrigger name table queue backup columns))
+    either (stop (on_queues (queues.AddTrigger name table queue backup []))) (last Ignore (λ columns. on_queues (queues.AddTrigger name table queue backup columns)))
 
 -- a trigger's name, its table and its queue, and then none, one or both of `backup` and columns to ignore
 abbrev pub add_trigger : GrammarRow
@@ -104,32 +116,32 @@ add_trigger =
 -- on queues
 abbrev pub queue_forms : List (List ℕ × GrammarRow)
 queue_forms =
-    (codes "create_queue", last Name (λ queue. stmt.CreateQueue queue))
-    ∷ (codes "drop_queue", last Name (λ queue. stmt.DropQueue queue))
-    ∷ (codes "set_queue_config", one Name (λ queue. one Raw (λ param. last Raw (λ value. stmt.SetQueueConfig queue param value))))
-    ∷ (codes "queue_info", last Name (λ queue. stmt.QueueInfo queue))
+    (codes "create_queue", last Name (λ queue. on_queues (queues.CreateQueue queue)))
+    ∷ (codes "drop_queue", last Name (λ queue. on_queues (queues.DropQueue queue)))
+    ∷ (codes "set_queue_config", one Name (λ queue. one Raw (λ param. last Raw (λ value. on_queues (queues.SetQueueConfig queue param value)))))
+    ∷ (codes "queue_info", last Name (λ queue. on_queues (queues.QueueInfo queue)))
     ∷ (codes "insert_event", insert_event)
     ∷ (codes "add_trigger", add_trigger)
-    ∷ (codes "ticker", last Name (λ queue. stmt.Ticker queue))
-    ∷ (codes "force_tick", last Name (λ queue. stmt.ForceTick queue))
-    ∷ (codes "register_consumer", one Name (λ queue. last Dotted (λ consumer. stmt.RegisterConsumer queue consumer)))
-    ∷ (codes "register_consumer_at", one Name (λ queue. one Dotted (λ consumer. last (Number (2 ^ 64 - 1)) (λ tick. stmt.RegisterConsumerAt queue consumer tick))))
-    ∷ (codes "unregister_consumer", one Name (λ queue. last Dotted (λ consumer. stmt.UnregisterConsumer queue consumer)))
-    ∷ (codes "next_batch", one Name (λ queue. last Dotted (λ consumer. stmt.NextBatch queue consumer)))
-    ∷ (codes "get_batch_events", last (Number (2 ^ 64 - 1)) (λ batch. stmt.GetBatchEvents batch))
-    ∷ (codes "get_batch_info", last (Number (2 ^ 64 - 1)) (λ batch. stmt.GetBatchInfo batch))
-    ∷ (codes "event_retry", one (Number (2 ^ 64 - 1)) (λ batch. one (Number (2 ^ 64 - 1)) (λ event. last (Number 1_000_000_000) (λ seconds. stmt.EventRetry batch event seconds))))
-    ∷ (codes "finish_batch", last (Number (2 ^ 64 - 1)) (λ batch. stmt.FinishBatch batch))
-    ∷ (codes "maint_retry_events", stop stmt.MaintRetryEvents)
-    ∷ (codes "maint_rotate_step1", last Name (λ queue. stmt.MaintRotateStep1 queue))
-    ∷ (codes "maint_rotate_step2", stop stmt.MaintRotateStep2)
-    ∷ (codes "consumer_info", one Name (λ queue. last Dotted (λ consumer. stmt.ConsumerInfo queue consumer)))
+    ∷ (codes "ticker", last Name (λ queue. on_queues (queues.Ticker queue)))
+    ∷ (codes "force_tick", last Name (λ queue. on_queues (queues.ForceTick queue)))
+    ∷ (codes "register_consumer", one Name (λ queue. last Dotted (λ consumer. on_queues (queues.RegisterConsumer queue consumer))))
+    ∷ (codes "register_consumer_at", one Name (λ queue. one Dotted (λ consumer. last (Number (2 ^ 64 - 1)) (λ tick. on_queues (queues.RegisterConsumerAt queue consumer tick)))))
+    ∷ (codes "unregister_consumer", one Name (λ queue. last Dotted (λ consumer. on_queues (queues.UnregisterConsumer queue consumer))))
+    ∷ (codes "next_batch", one Name (λ queue. last Dotted (λ consumer. on_queues (queues.NextBatch queue consumer))))
+    ∷ (codes "get_batch_events", last (Number (2 ^ 64 - 1)) (λ batch. on_queues (queues.GetBatchEvents batch)))
+    ∷ (codes "get_batch_info", last (Number (2 ^ 64 - 1)) (λ batch. on_queues (queues.GetBatchInfo batch)))
+    ∷ (codes "event_retry", one (Number (2 ^ 64 - 1)) (λ batch. one (Number (2 ^ 64 - 1)) (λ event. last (Number 1_000_000_000) (λ seconds. on_queues (queues.EventRetry batch event seconds)))))
+    ∷ (codes "finish_batch", last (Number (2 ^ 64 - 1)) (λ batch. on_queues (queues.FinishBatch batch)))
+    ∷ (codes "maint_retry_events", stop (on_queues queues.MaintRetryEvents))
+    ∷ (codes "maint_rotate_step1", last Name (λ queue. on_queues (queues.MaintRotateStep1 queue)))
+    ∷ (codes "maint_rotate_step2", stop (on_queues queues.MaintRotateStep2))
+    ∷ (codes "consumer_info", one Name (λ queue. last Dotted (λ consumer. on_queues (queues.ConsumerInfo queue consumer))))
     ∷ []
 
 -- on nodes
 abbrev pub node_forms : List (List ℕ × GrammarRow)
 node_forms =
-    (codes "create_root", one Name (λ name. last Name (λ queue. stmt.CreateRoot name queue)))
+    (codes "create_root", one Name (λ name. last Name (λ queue. stmt.Node (node.CreateRoot name queue))))
     ∷ (codes "create_leaf", one Name (λ name. last Name (λ provider. stmt.Node (node.CreateLeaf name provider))))
     ∷ (codes "add_table", one Name (λ name. last Dotted (λ table. stmt.Node (node.AddTable name table))))
     ∷ (codes "remove_table", one Name (λ name. last Dotted (λ table. stmt.Node (node.RemoveTable name table))))
@@ -142,8 +154,8 @@ node_forms =
 -- on the clock and the daemon
 abbrev pub clock_forms : List (List ℕ × GrammarRow)
 clock_forms =
-    (codes "clock", last Advance (λ time. stmt.Clock time))
-    ∷ (codes "pgqd", either (literal fixed.On (stop stmt.PgqdOn)) (literal fixed.Off (stop stmt.PgqdOff)))
+    (codes "clock", last Advance (λ time. stmt.World (world.Clock time)))
+    ∷ (codes "pgqd", either (literal fixed.On (stop (stmt.World world.PgqdOn))) (literal fixed.Off (stop (stmt.World world.PgqdOff))))
     ∷ []
 
 -- every form

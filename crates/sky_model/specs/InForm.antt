@@ -8,8 +8,14 @@ use Rattle.sky_model.specs.declared.stmt.Change.TheVariants.{To, Add}
 use Rattle.sky_model.specs.declared.stmt.Extra.{Extra}
 use Rattle.sky_model.specs.declared.stmt.RowStmt.{RowStmt}
 use Rattle.sky_model.specs.declared.stmt.RowStmt.TheVariants as row
+use Rattle.sky_model.specs.declared.stmt.QueueStmt.{QueueStmt}
+use Rattle.sky_model.specs.declared.stmt.QueueStmt.TheVariants as queues
+use Rattle.sky_model.specs.declared.stmt.DbStmt.{DbStmt}
+use Rattle.sky_model.specs.declared.stmt.DbStmt.TheVariants as db
 use Rattle.sky_model.specs.declared.stmt.NodeStmt.{NodeStmt}
 use Rattle.sky_model.specs.declared.stmt.NodeStmt.TheVariants as node
+use Rattle.sky_model.specs.declared.stmt.WorldStmt.{WorldStmt}
+use Rattle.sky_model.specs.declared.stmt.WorldStmt.TheVariants as world
 use Rattle.sky_model.specs.declared.stmt.Stmt.{Stmt}
 use Rattle.sky_model.specs.declared.stmt.Stmt.TheVariants as stmt
 use Rattle.sky_model.specs.declared.line.Line.{Line}
@@ -82,8 +88,37 @@ abbrev pub IsOptExtra : Option Extra → Type 0
 IsOptExtra None = ⊤
 IsOptExtra (Some extra) = IsOf OptText extra.ev_extra1 × IsOf OptText extra.ev_extra2 × IsOf OptText extra.ev_extra3 × IsOf OptText extra.ev_extra4
 
+-- on queues
+abbrev pub IsQueueInForm : QueueStmt → Type 0
+IsQueueInForm (queues.CreateQueue queue) = IsOf Name queue
+IsQueueInForm (queues.DropQueue queue) = IsOf Name queue
+IsQueueInForm (queues.SetQueueConfig queue param value) = IsOf Name queue × IsOf Raw param × IsOf Raw value
+IsQueueInForm (queues.QueueInfo queue) = IsOf Name queue
+IsQueueInForm (queues.InsertEvent queue ev_type ev_data extra) = IsOf Name queue × IsOf OptText ev_type × IsOf OptText ev_data × IsOptExtra extra
+IsQueueInForm (queues.AddTrigger name table queue backup ignored) = IsOf Name name × IsOf Dotted table × IsOf Name queue × All (IsOf Name) ignored
+IsQueueInForm (queues.Ticker queue) = IsOf Name queue
+IsQueueInForm (queues.ForceTick queue) = IsOf Name queue
+IsQueueInForm (queues.RegisterConsumer queue consumer) = IsOf Name queue × IsOf Dotted consumer
+IsQueueInForm (queues.RegisterConsumerAt queue consumer tick) = IsOf Name queue × IsOf Dotted consumer × IsOf (Number (2 ^ 64 - 1)) tick
+IsQueueInForm (queues.UnregisterConsumer queue consumer) = IsOf Name queue × IsOf Dotted consumer
+IsQueueInForm (queues.NextBatch queue consumer) = IsOf Name queue × IsOf Dotted consumer
+IsQueueInForm (queues.GetBatchEvents batch) = IsOf (Number (2 ^ 64 - 1)) batch
+IsQueueInForm (queues.GetBatchInfo batch) = IsOf (Number (2 ^ 64 - 1)) batch
+IsQueueInForm (queues.EventRetry batch event seconds) = IsOf (Number (2 ^ 64 - 1)) batch × IsOf (Number (2 ^ 64 - 1)) event × IsOf (Number 1_000_000_000) seconds
+IsQueueInForm (queues.FinishBatch batch) = IsOf (Number (2 ^ 64 - 1)) batch
+IsQueueInForm queues.MaintRetryEvents = ⊤
+IsQueueInForm (queues.MaintRotateStep1 queue) = IsOf Name queue
+IsQueueInForm queues.MaintRotateStep2 = ⊤
+IsQueueInForm (queues.ConsumerInfo queue consumer) = IsOf Name queue × IsOf Dotted consumer
+
+-- those that a database runs by itself
+abbrev pub IsDbInForm : DbStmt → Type 0
+IsDbInForm (db.Row stmt) = IsRowInForm stmt
+IsDbInForm (db.Queue stmt) = IsQueueInForm stmt
+
 -- on nodes
 abbrev pub IsNodeInForm : NodeStmt → Type 0
+IsNodeInForm (node.CreateRoot name queue) = IsOf Name name × IsOf Name queue
 IsNodeInForm (node.CreateLeaf name provider) = IsOf Name name × IsOf Name provider
 IsNodeInForm (node.AddTable name table) = IsOf Name name × IsOf Dotted table
 IsNodeInForm (node.RemoveTable name table) = IsOf Name name × IsOf Dotted table
@@ -93,34 +128,17 @@ IsNodeInForm (node.Restart name) = IsOf Name name
 IsNodeInForm (node.RestartTable name table) = IsOf Name name × IsOf Dotted table
 IsNodeInForm (node.LondisteStep name) = IsOf Name name
 
+-- on the clock and the daemon
+abbrev pub IsWorldInForm : WorldStmt → Type 0
+IsWorldInForm (world.Clock time) = IsOf Advance time
+IsWorldInForm world.PgqdOn = ⊤
+IsWorldInForm world.PgqdOff = ⊤
+
 -- any
 abbrev pub IsInForm : Stmt → Type 0
-IsInForm (stmt.Row stmt) = IsRowInForm stmt
-IsInForm (stmt.CreateQueue queue) = IsOf Name queue
-IsInForm (stmt.DropQueue queue) = IsOf Name queue
-IsInForm (stmt.SetQueueConfig queue param value) = IsOf Name queue × IsOf Raw param × IsOf Raw value
-IsInForm (stmt.QueueInfo queue) = IsOf Name queue
-IsInForm (stmt.InsertEvent queue ev_type ev_data extra) = IsOf Name queue × IsOf OptText ev_type × IsOf OptText ev_data × IsOptExtra extra
-IsInForm (stmt.Ticker queue) = IsOf Name queue
-IsInForm (stmt.ForceTick queue) = IsOf Name queue
-IsInForm (stmt.RegisterConsumer queue consumer) = IsOf Name queue × IsOf Dotted consumer
-IsInForm (stmt.RegisterConsumerAt queue consumer tick) = IsOf Name queue × IsOf Dotted consumer × IsOf (Number (2 ^ 64 - 1)) tick
-IsInForm (stmt.UnregisterConsumer queue consumer) = IsOf Name queue × IsOf Dotted consumer
-IsInForm (stmt.NextBatch queue consumer) = IsOf Name queue × IsOf Dotted consumer
-IsInForm (stmt.GetBatchEvents batch) = IsOf (Number (2 ^ 64 - 1)) batch
-IsInForm (stmt.GetBatchInfo batch) = IsOf (Number (2 ^ 64 - 1)) batch
-IsInForm (stmt.EventRetry batch event seconds) = IsOf (Number (2 ^ 64 - 1)) batch × IsOf (Number (2 ^ 64 - 1)) event × IsOf (Number 1_000_000_000) seconds
-IsInForm (stmt.FinishBatch batch) = IsOf (Number (2 ^ 64 - 1)) batch
-IsInForm stmt.MaintRetryEvents = ⊤
-IsInForm (stmt.MaintRotateStep1 queue) = IsOf Name queue
-IsInForm stmt.MaintRotateStep2 = ⊤
-IsInForm (stmt.ConsumerInfo queue consumer) = IsOf Name queue × IsOf Dotted consumer
-IsInForm (stmt.AddTrigger name table queue backup ignored) = IsOf Name name × IsOf Dotted table × IsOf Name queue × All (IsOf Name) ignored
-IsInForm (stmt.CreateRoot name queue) = IsOf Name name × IsOf Name queue
+IsInForm (stmt.Db stmt) = IsDbInForm stmt
 IsInForm (stmt.Node stmt) = IsNodeInForm stmt
-IsInForm (stmt.Clock time) = IsOf Advance time
-IsInForm stmt.PgqdOn = ⊤
-IsInForm stmt.PgqdOff = ⊤
+IsInForm (stmt.World stmt) = IsWorldInForm stmt
 
 -- a line: it says nothing, or names a session by a name and has a statement in form
 abbrev pub IsLineInForm : Line → Type 0

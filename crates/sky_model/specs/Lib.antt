@@ -24,6 +24,7 @@ pub mod State
 pub mod ShownRows
 pub mod Outcome
 pub mod Stops
+pub mod Permits
 pub mod Allowed
 pub mod Made
 pub mod OwnTransaction

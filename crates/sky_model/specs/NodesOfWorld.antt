@@ -15,7 +15,7 @@ use Rattle.sky_model.specs.State.{Database}
 use Rattle.sky_model.specs.Outcome.{Outcome, Checked, ◌>>=◌, ◌>>◌, refused_if, found_or}
 use Rattle.sky_model.specs.StepRows.{table_called}
 use Rattle.sky_model.specs.StepQueue.{newest_id}
-use Rattle.sky_model.specs.StepNode.{set_queue, joins, lists, adds}
+use Rattle.sky_model.specs.StepNode.{makes_root, set_queue, joins, lists, adds}
 use Rattle.sky_model.specs.World.{World}
 
 -- the answers, and what happened in the world, in order
@@ -46,6 +46,17 @@ node_called w name = node_among (λ d. (w.database d).node) name w.nodes
 abbrev pub done_in : ℕ → Reply → Checked Outcome → Checked WorldOutcome
 done_in d reply (Ok outcome) = Ok (record { replies = reply ∷ []; facts = map (within d) outcome.marks })
 done_in d reply (Err refusal) = Err refusal
+
+-- a root, which its database has made
+abbrev pub root_of : ℕ → Checked Outcome → Checked WorldOutcome
+root_of d (Ok making) = Ok (record { replies = Done ∷ []; facts = map (within d) making.marks ++ node_made d ∷ [] })
+root_of d (Err refusal) = Err refusal
+
+-- `create_root NAME NAME`: a root in the session's database, with the set's queue
+abbrev pub create_root : World → ℕ → (name queue : List ℕ) → Checked WorldOutcome
+create_root w d name queue = do
+  refused_if (is_some (node_called w name) || is_some (w.database d).node) (NodeExists name)
+  root_of d (makes_root (w.database d) w.now name queue)
 
 -- a leaf of a provider, in whose database its consumer has joined the set's queue
 abbrev pub leaf_of : ℕ → (provider : ℕ) → (name provider_name : List ℕ) → (tick : ℕ) → Checked Outcome → Checked WorldOutcome

@@ -11,9 +11,9 @@ use Rattle.londiste_state.specs.Moves.{is_allowed}
 use Rattle.londiste_state.specs.Nodes.{Node, of_root, of_leaf, is_among, table_of}
 use Rattle.sky_model.specs.declared.reply.Reply.TheVariants.{Done, Number, Null}
 use Rattle.sky_model.specs.declared.reply.Limit.TheVariants.{Consumers, Queues, Triggers}
-use Rattle.sky_model.specs.declared.reply.Refusal.TheVariants.{ConsumerExists, NodeExists, QueueExists, TableBusy, TooMany}
+use Rattle.sky_model.specs.declared.reply.Refusal.TheVariants.{ConsumerExists, QueueExists, TableBusy, TooMany}
 use Rattle.sky_model.specs.Limits.{most_of}
-use Rattle.sky_model.specs.History.{Batch, Pick, tabled, read_only, queued, made, unregistered, closed, traced, untraced, noded, root_made, set_added, set_removed, joined, parted, leaf_made, leaf_added, leaf_removed, state_set}
+use Rattle.sky_model.specs.History.{Batch, Pick, of_worker, began, ended, tabled, read_only, queued, made, unregistered, closed, traced, untraced, noded, root_made, set_added, set_removed, joined, parted, leaf_made, leaf_added, leaf_removed, state_set}
 use Rattle.sky_model.specs.Queues.{queue_number, Tick, tick}
 use Rattle.sky_model.specs.Nodes.{is_root, is_leaf, set_tables, leaf_tables}
 use Rattle.sky_model.specs.Triggers.{triggers_of}
@@ -21,21 +21,20 @@ use Rattle.sky_model.specs.Copies.{copy_txid}
 use Rattle.sky_model.specs.Consumers.{Subscription}
 use Rattle.sky_model.specs.State.{Database}
 use Rattle.sky_model.specs.ShownRows.{least_writer}
-use Rattle.sky_model.specs.OwnTransaction.{txid_for, in_own}
+use Rattle.sky_model.specs.OwnTransaction.{next_id}
 use Rattle.sky_model.specs.Outcome.{Outcome, Checked, ◌>>=◌, ◌>>◌, refused_if, refused_by, answers, does_marks}
 use Rattle.sky_model.specs.StepQueue.{newest_id}
 use Rattle.sky_model.specs.StepConsumer.{registers, takes_batch}
 use Rattle.sky_model.specs.StepCopy.{begins_copy, copies_rows, ends_copy, given_up, holds_snapshot, lets_go}
 use Rattle.sky_model.specs.StepApply.{may_apply, applies_batch}
 
--- `create_root NAME NAME`: the root of a set, with the set's queue
-abbrev pub create_root : Database → ℤ → ℕ → (name queue : List ℕ) → Checked Outcome
-create_root d now who name queue = do
-  refused_if (is_some d.node) (NodeExists name)
+-- the root of a set is made, with the set's queue, by a worker's transaction, which takes an id and ends at once
+abbrev pub makes_root : Database → ℤ → (name queue : List ℕ) → Checked Outcome
+makes_root d now name queue = do
   refused_if (is_some (queue_number queue d.queues)) (QueueExists queue)
   refused_if (nat_le (most_of Queues) (length d.queues)) (TooMany Queues)
-  t ← txid_for d.part who
-  does_marks Done (in_own who t (d.part.session who) [] ++ queued (made queue t now) ∷ noded (root_made name queue) ∷ [])
+  t ← next_id d.part
+  does_marks Done (began of_worker t ∷ ended of_worker t true ∷ queued (made queue t now) ∷ noded (root_made name queue) ∷ [])
 
 -- the queue of a node's set, if it is a root
 abbrev pub set_queue_of : Database → Option Node → Option ℕ
@@ -108,7 +107,8 @@ pub data NodeCall : Type 0 where
   -- it takes its next batch; one is finished
   fetching : (consumer : List ℕ) → NodeCall
   finishing : (batch : ℕ) → NodeCall
-  -- the database gets a leaf
+  -- the database gets a root, with its queue, at a time; it gets a leaf
+  making_root : (name queue : List ℕ) (now : ℤ) → NodeCall
   making_leaf : (name provider : List ℕ) (tick : ℕ) → NodeCall
   -- a table joins the leaf; it leaves; it goes into a state. A copy of it that runs is given up when it leaves, or goes into a state
   adding : (table : List ℕ) → NodeCall
@@ -156,10 +156,11 @@ abbrev pub may_copy : List ℕ → Option Node → Bool
 may_copy table (Some (of_leaf l)) = unwrap_or (option_map (λ t. is_in_copy t.state) (table_of table l)) false
 may_copy table n = false
 
--- whether a call is one for a database whose node is this: it gets a leaf if it has no node; a table joins a set or a leaf that doesn't have it yet,
+-- whether a call is one for a database whose node is this: it gets a root or a leaf if it has no node; a table joins a set or a leaf that doesn't have it yet,
 -- leaves one that has it, goes only into a state that its own allows, and is copied only in the state for it; a leaf applies a batch, to one table only if
 -- that was copied; any other call is one for each database
 abbrev pub may_serve : NodeCall → Option Node → Bool
+may_serve (making_root name queue now) n = is_none n
 may_serve (making_leaf name provider tick) n = is_none n
 may_serve (adding table) n = is_leaf n && not (is_among table (leaf_tables n))
 may_serve (removing table) n = is_among table (leaf_tables n)
@@ -180,6 +181,7 @@ call_form d (parting consumer) = if_there (set_queue d) (λ queue. parts queue c
 call_form d (fetching consumer) =
     if_there (set_queue d) (λ queue. if_there ((d.queue queue).sub consumer) (λ sub. takes_batch d queue consumer sub sub.active))
 call_form d (finishing batch) = if_there (d.batch batch) closes
+call_form d (making_root name queue now) = makes_root d now name queue
 call_form d (making_leaf name provider tick) = does_marks Done (noded (leaf_made name provider tick) ∷ [])
 call_form d (adding name) = if_there (table_number d name) (λ table. adds d table name)
 call_form d (removing name) = if_there (table_number d name) (λ table. removes d table name)

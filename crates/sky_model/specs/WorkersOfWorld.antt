@@ -16,7 +16,7 @@ use Rattle.sky_model.specs.StepNode.{NodeCall, parting, removing, node_does, set
 use Rattle.sky_model.specs.WorkerMoves.{Move}
 use Rattle.sky_model.specs.CopyMoves.{copy_consumer, copy_move, lets_go_for, gives_up_in}
 use Rattle.sky_model.specs.ReplayMoves.{is_on_way, replay_move}
-use Rattle.sky_model.specs.NodesOfWorld.{WorldOutcome, node_called, provides, are_columns, columns_called, first_user, done_in, create_leaf, add_table, table_state}
+use Rattle.sky_model.specs.NodesOfWorld.{WorldOutcome, node_called, provides, are_columns, columns_called, first_user, done_in, create_root, create_leaf, add_table, table_state}
 use Rattle.sky_model.specs.World.{World, after_facts}
 
 -- ---- what calls leave in the world
@@ -153,6 +153,7 @@ remove_table w name table_name = do
 
 -- ---- what a statement on nodes does, if its session may make it
 abbrev pub node_form : World → ℕ → NodeStmt → Checked WorldOutcome
+node_form w d (node.CreateRoot name queue) = create_root w d name queue
 node_form w d (node.CreateLeaf name provider) = create_leaf w d name provider
 node_form w d (node.AddTable name table) = add_table w name table
 node_form w d (node.RemoveTable name table) = remove_table w name table

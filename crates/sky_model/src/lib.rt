@@ -1,6 +1,6 @@
 //! What a script says and what it is answered, and every definition that a contract cites.
 //!
-//! `Stmt` and `RowStmt` have one variant for each statement form and `Reply` one for each answer form. The definitions
+//! `Stmt` is a tree of the statement forms, by what runs them, and `Reply` has one variant for each answer form. The definitions
 //! are in `specs/`: what happened, as one list of facts; what each reading of it is; what a statement does; and what a
 //! script prints. `docs/DEFINITIONS.md` puts them in plain words. What a program runs of this crate is the small code
 //! of its types: they are made, read, copied and appended to, and a refusal says whether it aborts a block. No
@@ -24,7 +24,7 @@ pub use reply::{
     Refusal, Replies, Reply, Rows, Waiters,
 };
 pub use stmt::{
-    Attempt, BoxedExtra, Change, ColumnNames, Columns, Extra, NodeStmt, RowStmt, Set, Sets, Stmt,
-    Where,
+    Attempt, BoxedExtra, Change, ColumnNames, Columns, DbStmt, Extra, NodeStmt, QueueStmt, RowStmt,
+    Set, Sets, Stmt, Where, WorldStmt,
 };
 pub use stop::Stop;

@@ -272,51 +272,9 @@ impl Drop for RowStmt {
     }
 }
 
-/// A statement on the node of a name, which may be another database's than its session's.
+/// A statement on queues, their consumers and triggers, with the words of its line in their order.
 #[derive(Debug)]
-pub enum NodeStmt {
-    /// `create_leaf NAME NAME`: a node and its provider
-    CreateLeaf { name: Text, provider: Text },
-    /// `add_table NAME TABLE`: a node and a table
-    AddTable { name: Text, table: Text },
-    /// `remove_table NAME TABLE`
-    RemoveTable { name: Text, table: Text },
-    /// `table_state NAME TABLE`
-    TableState { name: Text, table: Text },
-    /// `copy_step NAME TABLE`
-    CopyStep { name: Text, table: Text },
-    /// `restart NAME`
-    Restart { name: Text },
-    /// `restart NAME TABLE`
-    RestartTable { name: Text, table: Text },
-    /// `londiste_step NAME`
-    LondisteStep { name: Text },
-}
-
-// By hand, as for the statements on rows.
-impl Drop for NodeStmt {
-    fn drop(self) {
-        match self {
-            NodeStmt::CreateLeaf {
-                name: _,
-                provider: _,
-            } => {}
-            NodeStmt::AddTable { name: _, table: _ } => {}
-            NodeStmt::RemoveTable { name: _, table: _ } => {}
-            NodeStmt::TableState { name: _, table: _ } => {}
-            NodeStmt::CopyStep { name: _, table: _ } => {}
-            NodeStmt::Restart { name: _ } => {}
-            NodeStmt::RestartTable { name: _, table: _ } => {}
-            NodeStmt::LondisteStep { name: _ } => {}
-        }
-    }
-}
-
-/// A statement, with the words of its line in their order.
-#[derive(Debug)]
-pub enum Stmt {
-    /// one on sessions, transactions, tables and rows
-    Row(RowStmt),
+pub enum QueueStmt {
     /// `create_queue NAME`
     CreateQueue {
         queue: Text,
@@ -341,6 +299,14 @@ pub enum Stmt {
         ev_type: Option<Text>,
         ev_data: Option<Text>,
         extra: Option<BoxedExtra>,
+    },
+    /// `add_trigger NAME TABLE NAME`, then `backup` or not, then `ignore=` and names or not
+    AddTrigger {
+        name: Text,
+        table: Text,
+        queue: Text,
+        backup: bool,
+        ignored: ColumnNames,
     },
     /// `ticker NAME`
     Ticker {
@@ -389,11 +355,6 @@ pub enum Stmt {
     FinishBatch {
         batch: u64,
     },
-    /// `consumer_info NAME CONSUMER`
-    ConsumerInfo {
-        queue: Text,
-        consumer: Text,
-    },
     /// `maint_retry_events`
     MaintRetryEvents,
     /// `maint_rotate_step1 NAME`
@@ -402,96 +363,167 @@ pub enum Stmt {
     },
     /// `maint_rotate_step2`
     MaintRotateStep2,
-    /// `add_trigger NAME TABLE NAME`, then `backup` or not, then `ignore=` and names or not
-    AddTrigger {
-        name: Text,
-        table: Text,
+    /// `consumer_info NAME CONSUMER`
+    ConsumerInfo {
         queue: Text,
-        backup: bool,
-        ignored: ColumnNames,
+        consumer: Text,
     },
-    /// `create_root NAME NAME`: a node and its queue
-    CreateRoot {
-        name: Text,
-        queue: Text,
-    },
-    /// one on nodes of other databases too
-    Node(NodeStmt),
-    /// `clock +INTERVAL`, with the interval in microseconds
-    Clock {
-        time: i64,
-    },
-    /// `pgqd on`
-    PgqdOn,
-    /// `pgqd off`
-    PgqdOff,
 }
 
 // By hand, as for the statements on rows.
-impl Drop for Stmt {
+impl Drop for QueueStmt {
     fn drop(self) {
         match self {
-            Stmt::Row(_) => {}
-            Stmt::CreateQueue { queue: _ } => {}
-            Stmt::DropQueue { queue: _ } => {}
-            Stmt::SetQueueConfig {
+            QueueStmt::CreateQueue { queue: _ } => {}
+            QueueStmt::DropQueue { queue: _ } => {}
+            QueueStmt::SetQueueConfig {
                 queue: _,
                 param: _,
                 value: _,
             } => {}
-            Stmt::QueueInfo { queue: _ } => {}
-            Stmt::InsertEvent {
+            QueueStmt::QueueInfo { queue: _ } => {}
+            QueueStmt::InsertEvent {
                 queue: _,
                 ev_type: _,
                 ev_data: _,
                 extra: _,
             } => {}
-            Stmt::Ticker { queue: _ } => {}
-            Stmt::ForceTick { queue: _ } => {}
-            Stmt::RegisterConsumer {
-                queue: _,
-                consumer: _,
-            } => {}
-            Stmt::RegisterConsumerAt {
-                queue: _,
-                consumer: _,
-                tick: _,
-            } => {}
-            Stmt::UnregisterConsumer {
-                queue: _,
-                consumer: _,
-            } => {}
-            Stmt::NextBatch {
-                queue: _,
-                consumer: _,
-            } => {}
-            Stmt::GetBatchEvents { batch: _ } => {}
-            Stmt::GetBatchInfo { batch: _ } => {}
-            Stmt::EventRetry {
-                batch: _,
-                event: _,
-                seconds: _,
-            } => {}
-            Stmt::FinishBatch { batch: _ } => {}
-            Stmt::ConsumerInfo {
-                queue: _,
-                consumer: _,
-            } => {}
-            Stmt::MaintRetryEvents => {}
-            Stmt::MaintRotateStep1 { queue: _ } => {}
-            Stmt::MaintRotateStep2 => {}
-            Stmt::AddTrigger {
+            QueueStmt::AddTrigger {
                 name: _,
                 table: _,
                 queue: _,
                 backup: _,
                 ignored: _,
             } => {}
-            Stmt::CreateRoot { name: _, queue: _ } => {}
+            QueueStmt::Ticker { queue: _ } => {}
+            QueueStmt::ForceTick { queue: _ } => {}
+            QueueStmt::RegisterConsumer {
+                queue: _,
+                consumer: _,
+            } => {}
+            QueueStmt::RegisterConsumerAt {
+                queue: _,
+                consumer: _,
+                tick: _,
+            } => {}
+            QueueStmt::UnregisterConsumer {
+                queue: _,
+                consumer: _,
+            } => {}
+            QueueStmt::NextBatch {
+                queue: _,
+                consumer: _,
+            } => {}
+            QueueStmt::GetBatchEvents { batch: _ } => {}
+            QueueStmt::GetBatchInfo { batch: _ } => {}
+            QueueStmt::EventRetry {
+                batch: _,
+                event: _,
+                seconds: _,
+            } => {}
+            QueueStmt::FinishBatch { batch: _ } => {}
+            QueueStmt::MaintRetryEvents => {}
+            QueueStmt::MaintRotateStep1 { queue: _ } => {}
+            QueueStmt::MaintRotateStep2 => {}
+            QueueStmt::ConsumerInfo {
+                queue: _,
+                consumer: _,
+            } => {}
+        }
+    }
+}
+
+/// A statement that a database runs by itself.
+#[derive(Debug)]
+pub enum DbStmt {
+    /// one on sessions, transactions, tables and rows
+    Row(RowStmt),
+    /// one on queues
+    Queue(QueueStmt),
+}
+
+// By hand, as for the statements on rows.
+impl Drop for DbStmt {
+    fn drop(self) {
+        match self {
+            DbStmt::Row(_) => {}
+            DbStmt::Queue(_) => {}
+        }
+    }
+}
+
+/// A statement on the node of a name, which all databases know; the node may be another database's than its session's.
+#[derive(Debug)]
+pub enum NodeStmt {
+    /// `create_root NAME NAME`: a node and its queue
+    CreateRoot { name: Text, queue: Text },
+    /// `create_leaf NAME NAME`: a node and its provider
+    CreateLeaf { name: Text, provider: Text },
+    /// `add_table NAME TABLE`: a node and a table
+    AddTable { name: Text, table: Text },
+    /// `remove_table NAME TABLE`
+    RemoveTable { name: Text, table: Text },
+    /// `table_state NAME TABLE`
+    TableState { name: Text, table: Text },
+    /// `copy_step NAME TABLE`
+    CopyStep { name: Text, table: Text },
+    /// `restart NAME`
+    Restart { name: Text },
+    /// `restart NAME TABLE`
+    RestartTable { name: Text, table: Text },
+    /// `londiste_step NAME`
+    LondisteStep { name: Text },
+}
+
+// By hand, as for the statements on rows.
+impl Drop for NodeStmt {
+    fn drop(self) {
+        match self {
+            NodeStmt::CreateRoot { name: _, queue: _ } => {}
+            NodeStmt::CreateLeaf {
+                name: _,
+                provider: _,
+            } => {}
+            NodeStmt::AddTable { name: _, table: _ } => {}
+            NodeStmt::RemoveTable { name: _, table: _ } => {}
+            NodeStmt::TableState { name: _, table: _ } => {}
+            NodeStmt::CopyStep { name: _, table: _ } => {}
+            NodeStmt::Restart { name: _ } => {}
+            NodeStmt::RestartTable { name: _, table: _ } => {}
+            NodeStmt::LondisteStep { name: _ } => {}
+        }
+    }
+}
+
+/// A statement on what belongs to no database: the clock, and whether a database's daemon is on.
+#[derive(Clone, Copy, Debug, PartialEq, Eq)]
+pub enum WorldStmt {
+    /// `clock +INTERVAL`, with the interval in microseconds
+    Clock { time: i64 },
+    /// `pgqd on`
+    PgqdOn,
+    /// `pgqd off`
+    PgqdOff,
+}
+
+/// A statement, by what runs it.
+#[derive(Debug)]
+pub enum Stmt {
+    /// the database that its session has open
+    Db(DbStmt),
+    /// databases that are found by their nodes
+    Node(NodeStmt),
+    /// the world
+    World(WorldStmt),
+}
+
+// By hand, as for the statements on rows.
+impl Drop for Stmt {
+    fn drop(self) {
+        match self {
+            Stmt::Db(_) => {}
             Stmt::Node(_) => {}
-            Stmt::Clock { time: _ } => {}
-            Stmt::PgqdOn => {}
-            Stmt::PgqdOff => {}
+            Stmt::World(_) => {}
         }
     }
 }

@@ -1,5 +1,5 @@
 -- The pasts that calls for nodes leave, one after another, and the marks of calls for the own copy.
-use Rattle.std.proofs.Common.{◌≡◌, ℕ, ◌==◌, ◌^◌, nat_le, List, [], ◌∷◌, ◌++◌, Bool, true, false, ◌&&◌, Option, Some, None, Ok, map, bytes_eq, append_assoc, append-nil, refl, sym, ap, subst, ◌∙◌, if◌then◌else◌}
+use Rattle.std.proofs.Common.{◌≡◌, ◌||◌, ℕ, ◌==◌, ◌^◌, nat_le, List, [], ◌∷◌, ◌++◌, Bool, true, false, ◌&&◌, Option, Some, None, Ok, map, bytes_eq, append_assoc, append-nil, refl, sym, ap, subst, ◌∙◌, if◌then◌else◌, not, arith, ◌||◌}
 use Rattle.std.specs.List.{list_any}
 use Rattle.sky_val.specs.declared.val.Val.{Val}
 use Rattle.sky_names.specs.Places.{place_of}
@@ -8,7 +8,7 @@ use Rattle.sky_txid.specs.Snapshot.{SnapshotView}
 use Rattle.londiste_state.specs.Nodes.{is_among}
 use Rattle.sky_model.specs.declared.reply.Reply.TheVariants.{Done, Null}
 use Rattle.sky_model.specs.declared.reply.Refusal.TheVariants.{TxidsSpent}
-use Rattle.sky_model.specs.History.{Mark, of_copy, began, ended, tabled, read_only, noded, leaf_removed, state_set, copied, restarted, hold_begun, hold_ended, History, Fact, within, Past}
+use Rattle.sky_model.specs.History.{Mark, of_copy, began, ended, tabled, read_only, noded, leaf_removed, state_set, copied, restarted, hold_begun, hold_ended, History, Fact, within, Past, wrote}
 use Rattle.sky_model.specs.Transactions.{next_txid}
 use Rattle.sky_model.specs.Copies.{copies, copy_txid, Hold, holds}
 use Rattle.sky_model.specs.Rows.{Write, table_names, columns_of, writes as writes_of}
@@ -24,9 +24,9 @@ use Rattle.sky_model.specs.World.{world_of, after_facts, history_in, on_top}
 use Rattle.sky_histories.proofs.Marks.{world_of-facts}
 use Rattle.sky_histories.proofs.PastHistories.{on_top-append, history-marks}
 use Rattle.sky_histories.proofs.Good.{same-session}
-use Rattle.sky_histories.proofs.NodeCalls.{is_for_consumers, is_consumers, gives-consumers}
-use Rattle.sky_histories.proofs.StatementMarks.{EachMark, When, gives-map, AnyReply, Gives}
+use Rattle.sky_histories.proofs.StatementMarks.{EachMark, When, AnyReply, Gives}
 use Rattle.sky_model.proofs.Cases.{by_test}
+use Rattle.sky_replicas.proofs.CallMarks.{CallKinds, may_be, kinds_of, gives-call}
 use Rattle.sky_replicas.proofs.Keeping.{Kept, is_quiet}
 use Rattle.sky_replicas.proofs.Others.{other_than, KeptFree, kept-alone, is_own, ends-hold}
 
@@ -79,21 +79,25 @@ pub histories-elsewhere : (past : Past) (d : ℕ) (calls : List NodeCall) (e : �
 histories-elsewhere past d [] e other = refl
 histories-elsewhere past d (call ∷ calls) e other = histories-elsewhere (called past d call) d calls e other ∙ history-elsewhere past d call e other
 
--- ---- the marks of calls for consumers
+-- ---- the marks of calls that aren't for copies
 
-quiet-if : (mark : Mark) → is_for_consumers mark ≡ true → is_quiet mark ≡ true
-quiet-if (began (of_copy n) t) e = absurd (cc)
-quiet-if (ended (of_copy n) t c) e = absurd (cc)
-quiet-if (tabled mark) e = absurd (cc)
-quiet-if (noded (copied name under tick)) e = absurd (cc)
-quiet-if (noded (hold_begun hold)) e = absurd (cc)
-quiet-if (noded (hold_ended hold)) e = absurd (cc)
-quiet-if (noded (leaf_removed name)) e = absurd (cc)
-quiet-if (noded (state_set name state)) e = absurd (cc)
-quiet-if _ e = refl
+abbrev pub are_quiet : CallKinds → Bool
+are_quiet k = not (k.removes || k.moves || k.begins_copy || k.copies_row || k.ends_copy || k.gives_up || k.holds || k.lets_go)
 
-pub quiet-consumer : (d : Database) (call : NodeCall) → is_consumers call ≡ true → Gives AnyReply is_quiet (call_form d call)
-quiet-consumer d call e = gives-map AnyReply AnyReply is_for_consumers is_quiet (λ reply any. any) quiet-if (call_form d call) (gives-consumers d call e)
+quiet-if : (k : CallKinds) → are_quiet k ≡ true → (mark : Mark) → may_be k mark ≡ true → is_quiet mark ≡ true
+quiet-if k quiet (began (of_copy n) t) e = absurd (grind (arith, quiet, e))
+quiet-if k quiet (ended (of_copy n) t true) e = absurd (grind (arith, quiet, e))
+quiet-if k quiet (ended (of_copy n) t false) e = absurd (grind (arith, quiet, e))
+quiet-if k quiet (tabled (wrote (of_copy n) t table key old new)) e = absurd (grind (arith, quiet, e))
+quiet-if k quiet (noded (copied name under tick)) e = absurd (grind (arith, quiet, e))
+quiet-if k quiet (noded (hold_begun hold)) e = absurd (grind (arith, quiet, e))
+quiet-if k quiet (noded (hold_ended hold)) e = absurd (grind (arith, quiet, e))
+quiet-if k quiet (noded (leaf_removed name)) e = absurd (grind (arith, quiet, e))
+quiet-if k quiet (noded (state_set name state)) e = absurd (grind (arith, quiet, e))
+quiet-if k quiet mark e = refl
+
+pub quiet-call : (d : Database) (call : NodeCall) → are_quiet (kinds_of call) ≡ true → Gives AnyReply is_quiet (call_form d call)
+quiet-call d call quiet = gives-call is_quiet call (quiet-if (kinds_of call) quiet) d
 
 -- ---- the end of a hold
 

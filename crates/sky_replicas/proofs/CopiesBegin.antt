@@ -1,41 +1,28 @@
 -- Where a copy of a table begins, and where it is said that one was copied, the table is being copied in its leaf.
-use Rattle.std.proofs.Common.{◌≡◌, ◌^◌, ℕ, nat_le, List, [], ◌∷◌, ◌++◌, Bool, true, false, Option, Some, None, Ok, subst, refl, if◌then◌else◌}
-use Rattle.sky_keys.specs.Waits.{is_waiting}
+use Rattle.std.proofs.Common.{◌≡◌, ◌||◌, ◌^◌, ℕ, nat_le, List, [], ◌∷◌, ◌++◌, Bool, true, false, Option, Some, None, Ok, subst, refl, if◌then◌else◌, not, arith, ◌||◌}
 use Rattle.sky_names.specs.Places.{place_of}
-use Rattle.sky_val.specs.declared.val.Val.{Val}
 use Rattle.sky_model.specs.declared.reply.Reply.TheVariants.{Done, Null}
 use Rattle.sky_model.specs.declared.reply.Refusal.TheVariants.{TxidsSpent}
-use Rattle.sky_model.specs.History.{Mark, of_copy, began, noded, copied, hold_ended, History}
+use Rattle.sky_model.specs.History.{Mark, of_copy, began, noded, copied, History}
 use Rattle.sky_model.specs.Transactions.{next_txid}
-use Rattle.sky_model.specs.Copies.{copies, copy_txid, Hold}
-use Rattle.sky_model.specs.Sessions.{has_open, block, session}
-use Rattle.sky_model.specs.Locks.{waiting}
+use Rattle.sky_model.specs.Copies.{copies, copy_txid}
 use Rattle.sky_model.specs.Rows.{Write, table_names}
 use Rattle.sky_model.specs.Nodes.{node}
-use Rattle.sky_model.specs.State.{RowPart, part_of, after_part, Database, database_of}
+use Rattle.sky_model.specs.State.{RowPart, part_of, after_part, database_of}
 use Rattle.sky_model.specs.Outcome.{Checked, Outcome, ◌>>=◌, ◌>>◌, refused_if, answers, does_marks, marks_of}
-use Rattle.sky_model.specs.Allowed.{allowed}
-use Rattle.sky_model.specs.Made.{takes_sight}
 use Rattle.sky_model.specs.Reader.{database_by_history}
 use Rattle.sky_model.specs.Settling.{marked}
-use Rattle.sky_model.specs.SessionMarks.{entry_place}
-use Rattle.sky_model.specs.StepCopy.{copy_write, copy_writes, deletions, insertions, rows_now, begins_copy, all_fit, copies_rows, given_up}
-use Rattle.sky_model.specs.StepNode.{NodeCall, joining, parting, fetching, finishing, making_leaf, adding, removing, moving, listing, unlisting, beginning_copy, copying_rows, ending_copy, giving_up_copy, applying, holding, letting_go, if_there, set_queue, table_number, may_copy, may_serve, call_form, node_does}
+use Rattle.sky_model.specs.StepCopy.{copy_write, copy_writes, deletions, rows_now, begins_copy}
+use Rattle.sky_model.specs.StepNode.{NodeCall, beginning_copy, ending_copy, if_there, may_copy, may_serve, call_form, node_does}
 use Rattle.sky_model.specs.Promises.{after_all}
-use Rattle.sky_model.specs.DatabaseCalls.{DatabaseCall, stepped, entered, failed, worked, served, database_does, database_part}
+use Rattle.sky_model.specs.DatabaseCalls.{DatabaseCall, served, database_does, database_part}
 use Rattle.sky_model.specs.World.{history_in}
-use Rattle.sky_model.specs.Daemon.{daemon_does}
-use Rattle.sky_model.specs.Calls.{database_turn, Call, past_of}
-use Rattle.sky_model.specs.StepApply.{applies_batch}
+use Rattle.sky_model.specs.Calls.{Call, past_of}
 use Rattle.sky_histories.proofs.Histories.{histories_are_made_by_own_calls}
-use Rattle.sky_histories.proofs.ApplyCalls.{is_for_applying, gives-applies}
-use Rattle.sky_histories.proofs.NodeCalls.{is_for_consumers, is_consumers, gives-consumers}
-use Rattle.sky_histories.proofs.CopyCalls.{gives-there}
-use Rattle.sky_histories.proofs.StatementMarks.{EachMark, each-map, each-rest, each-given, when-true, Gives, gives-map, AnyReply, after, either}
+use Rattle.sky_histories.proofs.StatementMarks.{EachMark, each-map, each-rest, each-given, when-true, AnyReply}
 use Rattle.sky_model.proofs.Cases.{by_test}
-use Rattle.std.specs.List.{list_any}
-use Rattle.std.proofs.Common.{◌==◌}
-use Rattle.sky_replicas.proofs.SessionsMarks.{is_sessions, sessions-turn, sessions-enters, sessions-fails, sessions-daemon}
+use Rattle.sky_replicas.proofs.CallMarks.{CallKinds, may_be, kinds_of, gives-call}
+use Rattle.sky_replicas.proofs.SessionsMarks.{is_sessions, sessions-does}
 
 -- the table of a number has a name by which it is being copied
 pub record IsInCopy (h : History) (table : ℕ) : Type 0 where
@@ -79,16 +66,6 @@ sessions-aside (began (of_copy table) t) e = absurd (cc e)
 sessions-aside (noded (copied name under tick)) e = absurd (cc e)
 sessions-aside mark e = refl
 
-consumers-aside : (mark : Mark) → is_for_consumers mark ≡ true → is_aside mark ≡ true
-consumers-aside (began (of_copy table) t) e = absurd (cc e)
-consumers-aside (noded (copied name under tick)) e = absurd (cc e)
-consumers-aside mark e = refl
-
-applying-aside : (mark : Mark) → is_for_applying mark ≡ true → is_aside mark ≡ true
-applying-aside (began (of_copy table) t) e = absurd (cc e)
-applying-aside (noded (copied name under tick)) e = absurd (cc e)
-applying-aside mark e = refl
-
 after-sessions : (h : History) (marks : List Mark) → EachMark is_sessions marks → AllInCopy h → AllInCopy (marked h marks)
 after-sessions h marks each all = aside-marks h marks (each-map is_sessions is_aside sessions-aside marks each) all
 
@@ -98,52 +75,14 @@ aside-written : (d : RowPart) (table t : ℕ) (ws : List Write) → EachMark is_
 aside-written d table t [] = tt
 aside-written d table t (w ∷ ws) = aside-written (after_part d (copy_write d table t w)) table t ws
 
-abbrev Aside : Checked Outcome → Type 0
-Aside c = Gives AnyReply is_aside c
+-- kinds of such marks: a copy neither begins nor ends
+abbrev are_aside : CallKinds → Bool
+are_aside k = not (k.begins_copy || k.ends_copy)
 
-aside-rows : (d : Database) (table t : ℕ) (rows : List (List Val)) → Aside (copies_rows d table t rows)
-aside-rows d table t rows =
-    either AnyReply is_aside (all_fit (d.part.columns table) rows) (does_marks Done (copy_writes d.part table t (insertions (d.part.columns table) rows))) (answers Null)
-    (tt, aside-written d.part table t (insertions (d.part.columns table) rows)) (tt, tt)
-
-aside-given_up : (table : ℕ) (name : List ℕ) (o : Option ℕ) → EachMark is_aside (given_up table name o)
-aside-given_up table name None = tt
-aside-given_up table name (Some t) = tt
-
--- once a copy is given up
-aside-then : (table : ℕ) (name : List ℕ) (o : Option ℕ) (marks : List Mark) → EachMark is_aside marks → EachMark is_aside (given_up table name o ++ marks)
-aside-then table name None marks each = each
-aside-then table name (Some t) marks each = each
-
--- whether a copy begins or ends by a call
-abbrev is_copying : NodeCall → Bool
-is_copying (beginning_copy name) = true
-is_copying (ending_copy name under tick) = true
-is_copying call = false
-
-aside-consumer : (d : Database) (call : NodeCall) → is_consumers call ≡ true → Aside (call_form d call)
-aside-consumer d call e = gives-map AnyReply AnyReply is_for_consumers is_aside (λ reply any. any) consumers-aside (call_form d call) (gives-consumers d call e)
-
-aside-call : (d : Database) (call : NodeCall) → is_copying call ≡ false → Aside (call_form d call)
-aside-call d (joining consumer) e = aside-consumer d (joining consumer) refl
-aside-call d (parting consumer) e = aside-consumer d (parting consumer) refl
-aside-call d (fetching consumer) e = aside-consumer d (fetching consumer) refl
-aside-call d (finishing batch) e = aside-consumer d (finishing batch) refl
-aside-call d (making_leaf name provider tick) e = (tt, tt)
-aside-call d (adding name) e = gives-there is_aside (table_number d name) _ (λ table. search (after))
-aside-call d (removing name) e = gives-there is_aside (table_number d name) _ (λ table. (tt, aside-then table name (copy_txid table d.copies) _ tt))
-aside-call d (moving name state) e = gives-there is_aside (table_number d name) _ (λ table. (tt, aside-then table name (copy_txid table d.copies) _ tt))
-aside-call d (listing name) e = gives-there is_aside (set_queue d) _ (λ queue. gives-there is_aside (table_number d name) _ (λ table. search (after)))
-aside-call d (unlisting name) e = gives-there is_aside (table_number d name) _ (λ table. (tt, tt))
-aside-call d (copying_rows name rows) e = gives-there is_aside (table_number d name) _ (λ table. gives-there is_aside (copy_txid table d.copies) _ (λ t. aside-rows d table t rows))
-aside-call d (giving_up_copy name) e = gives-there is_aside (table_number d name) _ (λ table. (tt, aside-given_up table name (copy_txid table d.copies)))
-aside-call d holding e = (tt, tt)
-aside-call d (letting_go hold) e =
-    either AnyReply is_aside (list_any (λ (x : Hold). x.number == hold) d.holds) (does_marks Done (noded (hold_ended hold) ∷ [])) (answers Null) (tt, tt) (tt, tt)
-aside-call d (applying events pick tick) e =
-    gives-map AnyReply AnyReply is_for_applying is_aside (λ reply any. any) applying-aside (applies_batch d pick tick events) (gives-applies d pick tick events)
-aside-call d (beginning_copy name) e = absurd (cc e)
-aside-call d (ending_copy name under tick) e = absurd (cc e)
+aside-if : (k : CallKinds) → are_aside k ≡ true → (mark : Mark) → may_be k mark ≡ true → is_aside mark ≡ true
+aside-if k aside (began (of_copy table) t) e = absurd (grind (arith, aside, e))
+aside-if k aside (noded (copied name under tick)) e = absurd (grind (arith, aside, e))
+aside-if k aside mark e = refl
 
 after-begins : (h : History) (table : ℕ) (o : Option ℕ) → IsInCopy h table → AllInCopy h → AllInCopy (marked h (marks_of (begins_copy (database_of h) table o)))
 after-begins h table (Some t) is all = all
@@ -161,7 +100,7 @@ after-there : {A : Type 0} (h : History) (o : Option A) (f : A → Checked Outco
 after-there h None f all also = all
 after-there h (Some a) f all also = also a refl
 
-after-copying : (h : History) (call : NodeCall) → may_serve call (node h) ≡ true → is_copying call ≡ true → AllInCopy h → AllInCopy (marked h (marks_of (call_form (database_of h) call)))
+after-copying : (h : History) (call : NodeCall) → may_serve call (node h) ≡ true → are_aside (kinds_of call) ≡ false → AllInCopy h → AllInCopy (marked h (marks_of (call_form (database_of h) call)))
 after-copying h (beginning_copy name) may e all =
     after-there h (place_of name (table_names h)) _ all (λ table there. after-begins h table (copy_txid table (copies h)) (record { name = name; there = there; may = may }) all)
 after-copying h (ending_copy name under tick) may e all = after-there h (place_of name (table_names h)) _ all (λ table _. after-there h (copy_txid table (copies h)) _ all (λ t _. (may, (tt, all))))
@@ -169,8 +108,9 @@ after-copying h _ may e all = absurd (cc e)
 
 after-call : (h : History) (call : NodeCall) → may_serve call (node h) ≡ true → AllInCopy h → AllInCopy (marked h (marks_of (call_form (database_of h) call)))
 after-call h call may all =
-    by_test (λ b. is_copying call ≡ b → AllInCopy (marked h (marks_of (call_form (database_of h) call)))) (is_copying call) (λ _ is. after-copying h call may is all)
-    (λ _ isnt. aside-marks h (marks_of (call_form (database_of h) call)) (each-given AnyReply is_aside (call_form (database_of h) call) (aside-call (database_of h) call isnt)) all) refl
+    by_test (λ b. are_aside (kinds_of call) ≡ b → AllInCopy (marked h (marks_of (call_form (database_of h) call)))) (are_aside (kinds_of call))
+    (λ _ aside. aside-marks h (marks_of (call_form (database_of h) call)) (each-given AnyReply is_aside (call_form (database_of h) call) (gives-call is_aside call (aside-if (kinds_of call) aside) (database_of h))) all)
+    (λ _ copies. after-copying h call may copies all) refl
 
 after-node : (h : History) (call : NodeCall) → AllInCopy h → AllInCopy (marked h (marks_of (node_does (database_of h) call)))
 after-node h call all =
@@ -179,13 +119,8 @@ after-node h call all =
 -- ---- all calls
 
 after-does : (h : History) (call : DatabaseCall) → AllInCopy h → AllInCopy (marked h (database_does database_by_history h call).marks)
-after-does h (stepped who stmt now) all = after-sessions h (database_turn database_by_history h now who stmt).marks (sessions-turn h now who stmt) all
-after-does h (entered who alone) all =
-    after-sessions h (database_does database_by_history h (entered who alone)).marks
-    (sessions-enters who (takes_sight (entry_place alone) (session h who).sight) (allowed (is_waiting who (waiting h)) (has_open who h) (block who h) (entry_place alone))) all
-after-does h (failed who now) all = after-sessions h (database_does database_by_history h (failed who now)).marks (sessions-fails h now who) all
-after-does h (worked part now) all = after-sessions h (daemon_does database_by_history h part now).marks (sessions-daemon h part now) all
 after-does h (served call) all = after-node h call all
+after-does h call all = after-sessions h (database_does database_by_history h call).marks (sessions-does h call refl) all
 
 in-copy-calls : (calls : List DatabaseCall) → AllInCopy (after_all database_part calls)
 in-copy-calls [] = tt

@@ -9,18 +9,16 @@ use Rattle.sky_txid.specs.Snapshot.{SnapshotView}
 use Rattle.sky_model.specs.declared.reply.Reply.TheVariants.{Done, Null}
 use Rattle.sky_model.specs.declared.reply.Refusal.TheVariants.{IdsSpent, TooMany, TxidsSpent}
 use Rattle.sky_model.specs.declared.reply.Limit.TheVariants.{Consumers}
-use Rattle.sky_model.specs.History.{Mark, of_copy, began, tabled, read_only, noded, leaf_removed, hold_begun, hold_ended, History, Fact, within, node_made, in_hand, Past}
+use Rattle.sky_model.specs.History.{Mark, of_copy, noded, hold_begun, hold_ended, History, Fact, within, node_made, in_hand, Past}
 use Rattle.sky_model.specs.Hands.{CopyHand, of_copy}
 use Rattle.sky_model.specs.Transactions.{next_txid, snapshot}
 use Rattle.sky_model.specs.Copies.{copies, copy_txid, Hold, holds, without_hold, least_free}
-use Rattle.sky_model.specs.Rows.{Write}
 use Rattle.sky_model.specs.Nodes.{node}
-use Rattle.sky_model.specs.State.{RowPart, part_of, after_part, Database, database_of}
+use Rattle.sky_model.specs.State.{part_of, Database, database_of}
 use Rattle.sky_model.specs.ShownRows.{snapshot_now}
-use Rattle.sky_model.specs.Outcome.{Checked, Outcome, ◌>>=◌, ◌>>◌, refused_if, answers, does_marks, marks_of}
-use Rattle.sky_model.specs.StepCopy.{copy_write, copy_writes, deletions, insertions, rows_now, begins_copy, all_fit, copies_rows, given_up}
+use Rattle.sky_model.specs.Outcome.{Checked, ◌>>=◌, ◌>>◌, refused_if, answers, does_marks, marks_of}
 use Rattle.sky_model.specs.StepConsumer.{sub_ids_spent}
-use Rattle.sky_model.specs.StepNode.{NodeCall, joining, parting, removing, beginning_copy, copying_rows, ending_copy, giving_up_copy, holding, letting_go, table_number, is_full, may_copy, may_serve, call_form, node_does}
+use Rattle.sky_model.specs.StepNode.{NodeCall, joining, parting, beginning_copy, copying_rows, ending_copy, holding, letting_go, is_full, may_copy, node_does}
 use Rattle.sky_model.specs.WorkerMoves.{Move, behind_calls}
 use Rattle.sky_model.specs.CopyMoves.{piece_size, held_snapshot, rows_from, rows_of, last_key, copies_piece, next_piece, copy_consumer, first_hand, starts_copy, copy_running, under_way, continues, starts_or_continues, lets_go_for}
 use Rattle.sky_model.specs.WorkersOfWorld.{move_facts}
@@ -28,9 +26,7 @@ use Rattle.sky_model.specs.Settling.{marked}
 use Rattle.sky_model.specs.World.{world_of, history_in, on_top}
 use Rattle.sky_histories.proofs.Legal.{Fine}
 use Rattle.sky_histories.proofs.Histories.{AllLegal}
-use Rattle.sky_histories.proofs.NodeCalls.{is_for_consumers, is_consumers, gives-consumers}
-use Rattle.sky_histories.proofs.CopyCalls.{gives-there}
-use Rattle.sky_histories.proofs.StatementMarks.{EachMark, each-rest, each-given, when-true, Gives, gives-map, AnyReply, either}
+use Rattle.sky_histories.proofs.StatementMarks.{EachMark, each-rest, when-true}
 use Rattle.sky_model.proofs.Cases.{by_test, by_same}
 use Rattle.sky_replicas.specs.LawsOfReplicas.{copy_in_hand}
 use Rattle.sky_replicas.proofs.NodeNames.{source_of}
@@ -38,6 +34,7 @@ use Rattle.sky_replicas.proofs.HandsAt.{is_at, AreOne, one-at, at-itself, hand-i
 use Rattle.sky_replicas.proofs.Copying.{copy-found}
 use Rattle.sky_replicas.proofs.Keeping.{legal-before, fine-within, Noded, noded-within, source-within, source-made, Copying, Keeps, Kept, is_quiet, FactFits, FactsFit, made-noded, handed-same}
 use Rattle.sky_replicas.proofs.Others.{each_table, other_than, legal-under}
+use Rattle.sky_replicas.proofs.CallMarks.{CallKinds, may_be, kinds_of, each-does}
 use Rattle.sky_replicas.proofs.CallPasts.{call_marks, called, after_calls, on-move, history-called}
 use Rattle.sky_replicas.proofs.Sources.{IsAlike}
 use Rattle.sky_replicas.proofs.CopySteps.{StillFrom, copy_handed, copy-again}
@@ -135,64 +132,18 @@ held-steps past (fact ∷ facts) fit kept = held-steps (fact ∷ past) facts fit
 
 -- ---- calls for nodes
 
-holds-consumer : (mark : Mark) → is_for_consumers mark ≡ true → holds_no_more mark ≡ true
-holds-consumer (noded (hold_begun number)) e = absurd (cc e)
-holds-consumer mark e = refl
+none-if : (k : CallKinds) → k.holds ≡ false → (mark : Mark) → may_be k mark ≡ true → holds_no_more mark ≡ true
+none-if k none (noded (hold_begun number)) e = absurd (cc (sym none ∙ e))
+none-if k none mark e = refl
 
-abbrev HoldsNone : Checked Outcome → Type 0
-HoldsNone c = Gives AnyReply holds_no_more c
-
-none-written : (d : RowPart) (table t : ℕ) (ws : List Write) → EachMark holds_no_more (copy_writes d table t ws)
-none-written d table t [] = tt
-none-written d table t (w ∷ ws) = none-written (after_part d (copy_write d table t w)) table t ws
-
-none-given_up : (table : ℕ) (name : List ℕ) (o : Option ℕ) → EachMark holds_no_more (given_up table name o)
-none-given_up table name None = tt
-none-given_up table name (Some t) = tt
-
-none-removed : (table : ℕ) (name : List ℕ) (o : Option ℕ) → EachMark holds_no_more (given_up table name o ++ noded (leaf_removed name) ∷ tabled (read_only table false) ∷ [])
-none-removed table name None = tt
-none-removed table name (Some t) = tt
-
-none-begun : (d : Database) (table : ℕ) (o : Option ℕ) → HoldsNone (begins_copy d table o)
-none-begun d table (Some t) = (tt, tt)
-none-begun d table None = of (nat_le (2 ^ 62) d.part.next)
-  where
-    of : (spent : Bool) → HoldsNone ((refused_if spent TxidsSpent >> Ok d.part.next)
-        >>= (λ t. does_marks Done (began (of_copy table) t ∷ copy_writes (after_part d.part (began (of_copy table) t)) table t (deletions (rows_now d.part table)))))
-    of true = tt
-    of false = (tt, none-written (after_part d.part (began (of_copy table) d.part.next)) table d.part.next (deletions (rows_now d.part table)))
-
-none-rows : (d : Database) (table t : ℕ) (rows : List (List Val)) → HoldsNone (copies_rows d table t rows)
-none-rows d table t rows =
-    either AnyReply holds_no_more (all_fit (d.part.columns table) rows) (does_marks Done (copy_writes d.part table t (insertions (d.part.columns table) rows))) (answers Null)
-    (tt, none-written d.part table t (insertions (d.part.columns table) rows)) (tt, tt)
-
-none-consumer : (d : Database) (call : NodeCall) → is_consumers call ≡ true → HoldsNone (call_form d call)
-none-consumer d call e = gives-map AnyReply AnyReply is_for_consumers holds_no_more (λ reply any. any) holds-consumer (call_form d call) (gives-consumers d call e)
-
--- the other calls of a move
+-- the calls of a move but the one by which a snapshot is held
 abbrev pub IsOther : NodeCall → Type 0
-IsOther (joining consumer) = Unit {0}
-IsOther (parting consumer) = Unit {0}
-IsOther (removing name) = Unit {0}
-IsOther (beginning_copy name) = Unit {0}
-IsOther (copying_rows name rows) = Unit {0}
-IsOther (ending_copy name under tick) = Unit {0}
-IsOther (giving_up_copy name) = Unit {0}
-IsOther (letting_go hold) = Unit {0}
-IsOther call = ⊥
+IsOther holding = ⊥
+IsOther call = Unit {0}
 
-none-form : (d : Database) (call : NodeCall) → IsOther call → HoldsNone (call_form d call)
-none-form d (joining consumer) is = none-consumer d (joining consumer) refl
-none-form d (parting consumer) is = none-consumer d (parting consumer) refl
-none-form d (removing name) is = gives-there holds_no_more (table_number d name) _ (λ table. (tt, none-removed table name (copy_txid table d.copies)))
-none-form d (beginning_copy name) is = gives-there holds_no_more (table_number d name) _ (λ table. none-begun d table (copy_txid table d.copies))
-none-form d (copying_rows name rows) is = gives-there holds_no_more (table_number d name) _ (λ table. gives-there holds_no_more (copy_txid table d.copies) _ (λ t. none-rows d table t rows))
-none-form d (ending_copy name under tick) is = gives-there holds_no_more (table_number d name) _ (λ table. gives-there holds_no_more (copy_txid table d.copies) _ (λ t. (tt, tt)))
-none-form d (giving_up_copy name) is = gives-there holds_no_more (table_number d name) _ (λ table. (tt, none-given_up table name (copy_txid table d.copies)))
-none-form d (letting_go hold) is = either AnyReply holds_no_more (is_held hold d.holds) (does_marks Done (noded (hold_ended hold) ∷ [])) (answers Null) (tt, tt) (tt, tt)
-none-form d call is = absurd is
+none-does : (d : Database) (call : NodeCall) → IsOther call → EachMark holds_no_more (marks_of (node_does d call))
+none-does d holding is = absurd is
+none-does d call is = each-does holds_no_more call (none-if (kinds_of call) refl) d
 
 abbrev pub AreOther : List NodeCall → Type 0
 AreOther [] = Unit {0}
@@ -201,9 +152,7 @@ AreOther (call ∷ calls) = IsOther call × AreOther calls
 module _ (among : ℕ → List ℕ → Bool) (p : ℕ) (own : Option ℕ) where
   held-call : (past : Past) (e : ℕ) (call : NodeCall) → IsOther call → KeptHeld among p own past → KeptHeld among p own (called past e call)
   held-call past e call is kept =
-      let d : Database = database_of (history_in past e) in
-      held-marks among p own past e (call_marks (history_in past e) call)
-      (each-given AnyReply holds_no_more (node_does d call) (either AnyReply holds_no_more (may_serve call d.node) (call_form d call) (answers Null) (none-form d call is) (tt, tt))) kept
+      held-marks among p own past e (call_marks (history_in past e) call) (none-does (database_of (history_in past e)) call is) kept
 
   held-calls : (past : Past) (e : ℕ) (calls : List NodeCall) → AreOther calls → KeptHeld among p own past → KeptHeld among p own (after_calls past e calls)
   held-calls past e [] are kept = kept

@@ -1,31 +1,24 @@
 -- What holds of all copies in hand, and of all tables that have been copied, is kept by each call of the world.
-use Rattle.std.proofs.Common.{◌≡◌, ℕ, ℤ, List, [], ◌∷◌, ◌++◌, map, length, nat_le, Bool, true, false, not, ◌&&◌, ◌||◌, Option, Some, None, Ok, Err, IfOk, is_some, option_map, refl, sym, ap, subst, ◌∙◌, if◌then◌else◌}
-use Rattle.std.proofs.lemmas.Bool.{and_parts}
+use Rattle.std.proofs.Common.{◌≡◌, ℕ, List, [], ◌∷◌, ◌++◌, map, Bool, true, false, not, ◌||◌, Option, Some, None, Ok, Err, IfOk, is_some, option_map, refl, sym, ap, subst, ◌∙◌, if◌then◌else◌}
+use Rattle.std.proofs.lemmas.Bool.{not-false}
 use Rattle.sky_names.specs.Places.{place_of}
 use Rattle.londiste_state.specs.declared.state.TableState.{TableState}
 use Rattle.londiste_state.specs.declared.state.TableState.TheVariants.{InCopy, CatchingUp, DoSync, Synced}
 use Rattle.londiste_state.specs.Nodes.{Node, of_root, of_leaf, Leaf, LeafTable, is_among, table_of, tables_of}
-use Rattle.sky_model.specs.declared.stmt.Stmt.{Stmt}
-use Rattle.sky_model.specs.declared.stmt.Stmt.TheVariants.{CreateRoot, Node as OnNodes, Clock, PgqdOn, PgqdOff}
 use Rattle.sky_model.specs.declared.stmt.NodeStmt.{NodeStmt}
-use Rattle.sky_model.specs.declared.stmt.NodeStmt.TheVariants.{CreateLeaf, AddTable, RemoveTable, TableState as ShowState, CopyStep, Restart, RestartTable, LondisteStep}
-use Rattle.sky_model.specs.declared.daemon.DaemonPart.{DaemonPart}
+use Rattle.sky_model.specs.declared.stmt.NodeStmt.TheVariants.{CreateRoot, CreateLeaf, AddTable, RemoveTable, TableState as ShowState, CopyStep, Restart, RestartTable, LondisteStep}
 use Rattle.sky_model.specs.declared.reply.Reply.{Reply}
 use Rattle.sky_model.specs.declared.reply.Reply.TheVariants.{Done, AwaitsTable}
-use Rattle.sky_model.specs.declared.reply.Refusal.{Refusal}
 use Rattle.sky_model.specs.declared.reply.Refusal.TheVariants.{AlreadyInSet, NodeExists, NoNode, NoTable, NotInSet, NotProvider, SchemaDiffers, TableInUse}
-use Rattle.sky_model.specs.History.{Mark, of_copy, ended, tabled, read_only, noded, leaf_made, leaf_removed, copied, History, Fact, appeared, founded, entered, within, clock_at, node_made, in_hand, batch_in_hand, Past}
+use Rattle.sky_model.specs.History.{Mark, of_copy, ended, tabled, read_only, noded, leaf_made, leaf_removed, copied, History, Fact, within, node_made, in_hand, batch_in_hand, Past, began, wrote}
 use Rattle.sky_model.specs.Hands.{CopyHand, BatchHand, of_copy, of_batch, copy_in, batch_in}
 use Rattle.sky_model.specs.Transactions.{snapshot}
 use Rattle.sky_model.specs.Copies.{copies, copy_txid}
 use Rattle.sky_model.specs.Rows.{table_names, writes as writes_of, put_all, rows}
 use Rattle.sky_model.specs.Nodes.{node, leaf_tables}
-use Rattle.sky_model.specs.State.{Database, database_of, after_marks}
-use Rattle.sky_model.specs.Outcome.{Outcome, Checked, ◌>>=◌, ◌>>◌, refused_if, refused_by, found_or}
-use Rattle.sky_model.specs.Reader.{by_past, within_database, Deed, appears}
-use Rattle.sky_model.specs.Settling.{Turn, marked}
-use Rattle.sky_model.specs.Daemon.{daemon_does}
-use Rattle.sky_model.specs.Clock.{deed_in, waits_at}
+use Rattle.sky_model.specs.State.{Database, database_of}
+use Rattle.sky_model.specs.Outcome.{Outcome, Checked, ◌>>◌, refused_if}
+use Rattle.sky_model.specs.Settling.{marked}
 use Rattle.sky_model.specs.StepQueue.{newest_id}
 use Rattle.sky_model.specs.StepCopy.{given_up}
 use Rattle.sky_model.specs.StepNode.{NodeCall, joining, parting, removing, letting_go, giving_up_copy, if_there, set_queue, joins, lists, adds, unlists, is_in_copy, may_copy, node_does}
@@ -34,34 +27,34 @@ use Rattle.sky_model.specs.CopyMoves.{newest_of, copy_move, copy_consumer, lets_
 use Rattle.sky_model.specs.ReplayMoves.{is_on_way, replay_move}
 use Rattle.sky_model.specs.NodesOfWorld.{WorldOutcome, node_called, done_in, leaf_of, create_leaf, provides, are_columns, columns_called, adds_to, first_user, shows_state, Located}
 use Rattle.sky_model.specs.WorkersOfWorld.{move_facts, moves, source, source_alike, leaf_table, restarts, restarting, provider_of as providers_database, leaf_steps, parts_for, leaves_leaf, removes_from, node_form}
-use Rattle.sky_model.specs.World.{World, world_of, session_names, database_names, home, history_in, hands, on_top, nodes}
-use Rattle.sky_model.specs.Calls.{opening, opens, outside_does, left_if, is_leaving, may_make, of_daemon_if, beside, database_turn, gets_node, node_if, world_does, does_at, session_does, turn, Call, called as call_does, past_of}
-use Rattle.sky_keys.specs.Waits.{is_waiting}
+use Rattle.sky_model.specs.World.{World, world_of, history_in, hands, on_top, nodes}
+use Rattle.sky_model.specs.Calls.{Call, past_of}
+use Rattle.sky_model.specs.DatabaseCalls.{DatabaseCall}
 use Rattle.sky_model.specs.LawsOfCopies.{HasCopied}
-use Rattle.sky_histories.proofs.Histories.{AllLegal, same-turn-within, same-daemon-within, world_place, legal_past}
-use Rattle.sky_histories.proofs.PastHistories.{on_top-append, history-marks}
-use Rattle.sky_histories.proofs.ClockSteps.{after-clock}
+use Rattle.sky_histories.proofs.Histories.{AllLegal, world_place, legal_past}
 use Rattle.sky_histories.proofs.NodeDeeds.{called-there}
-use Rattle.sky_histories.proofs.Marks.{database_of-marks}
 use Rattle.sky_histories.proofs.Good.{same-session}
 use Rattle.sky_histories.proofs.CopyLaws.{copies_leave_their_rows}
-use Rattle.sky_histories.proofs.StatementMarks.{EachMark, each-rest, each-given, when-true, Gives, AnyReply, after}
-use Rattle.sky_model.proofs.Cases.{by_test}
+use Rattle.sky_histories.proofs.StatementMarks.{EachMark, each-rest, each-given, when-true, Gives, AnyReply, after, each-map}
+use Rattle.sky_model.proofs.Cases.{by_test, ok-then}
 use Rattle.sky_replicas.specs.LawsOfReplicas.{CopyBegan, copy_in_hand, CopiedTablesHaveProvidersRows}
 use Rattle.sky_replicas.proofs.HandsAt.{hands-marks}
 use Rattle.sky_replicas.proofs.InCopyTables.{table-named, may-as}
 use Rattle.std.specs.Option.{option_and_then}
 use Rattle.sky_replicas.proofs.NodeNames.{provider_of, database_among, names_in, source_of, called-database}
 use Rattle.sky_replicas.proofs.RunningCopies.{Uncopied}
-use Rattle.sky_replicas.proofs.QuietStatements.{quiet-turn, quiet-daemon}
+use Rattle.sky_replicas.proofs.SessionsMarks.{is_sessions, is_served, sessions-does}
+use Rattle.sky_replicas.proofs.EachCall.{is_beside, marks_in, after-calls}
+use Rattle.sky_replicas.proofs.UnlessRefused.{if-test, if-refused, if-found, root_marks, if-root}
 use Rattle.sky_replicas.proofs.Keeping.{CopiedFrom, Copying, Keeps, Kept, is_quiet, FactFits, FactsFit, fits-step, fits-steps}
 use Rattle.sky_replicas.proofs.Others.{each_table, other_than, legal-under, by-before, fewer, idle-hand, own-free, own-marks, quiet-marks, puts-down}
-use Rattle.sky_replicas.proofs.CallPasts.{call_marks, called, after_calls, on-move, history-called, history-elsewhere, histories-elsewhere, quiet-consumer, lets-go, own-call, removing-marks}
+use Rattle.sky_replicas.proofs.CallPasts.{call_marks, called, after_calls, on-move, history-called, history-elsewhere, histories-elsewhere, quiet-call, lets-go, own-call, removing-marks}
 use Rattle.sky_replicas.proofs.Sources.{IsSource, source-is, IsAlike, alike-is}
 use Rattle.sky_replicas.proofs.CopySteps.{copy_handed, MoveKept, move-kept, uncopied-removed, nothing-given_up, uncopied-given_up}
 use Rattle.sky_replicas.proofs.KeptMoves.{copy-kept}
 use Rattle.sky_replicas.proofs.HoldsInHand.{AllHeld, held-steps, AreOther, MoveHeld, move-held, down-held, copy-held}
-use Rattle.sky_replicas.proofs.QuietMoves.{CopiesOnlyInCopy, IsQuietCall, AllQuiet, IsQuietMove, QuietIfOk, quiet-catches_up, quiet-hands_over, quiet-replay}
+use Rattle.sky_replicas.proofs.QuietMoves.{CopiesOnlyInCopy, quiet-batches}
+use Rattle.sky_replicas.proofs.WorkersCalls.{is_of_batches, AllCalls, Makes, BatchesIfOk, batches-catches_up, batches-hands_over, batches-replay}
 
 -- ---- what is kept
 
@@ -84,6 +77,19 @@ all-before past facts so kept = (
 
 -- ---- facts that fit
 
+sessions-quiet : (mark : Mark) → is_sessions mark ≡ true → is_quiet mark ≡ true
+sessions-quiet (began (of_copy n) t) e = absurd (cc)
+sessions-quiet (ended (of_copy n) t c) e = absurd (cc)
+sessions-quiet (tabled (wrote (of_copy n) t table key old new)) e = absurd (cc)
+sessions-quiet (noded mark) e = absurd (cc)
+sessions-quiet _ e = refl
+
+fit-aside : (past : Past) (fact : Fact) → is_beside fact ≡ true → FactFits past fact
+fit-aside past (within d mark) e = absurd (cc)
+fit-aside past (node_made d) e = absurd (cc)
+fit-aside past (in_hand d table hand) e = absurd (cc)
+fit-aside past _ e = tt
+
 fit-marks : (past : Past) (e : ℕ) (marks : List Mark) → EachMark is_quiet marks → FactsFit past (map (within e) marks)
 fit-marks past e [] each = tt
 fit-marks past e (mark ∷ marks) each = (when-true (EachMark is_quiet marks) (is_quiet mark) each, fit-marks (within e mark ∷ past) e marks (each-rest is_quiet mark marks each))
@@ -91,24 +97,6 @@ fit-marks past e (mark ∷ marks) each = (when-true (EachMark is_quiet marks) (i
 fit-append : (past : Past) (xs ys : List Fact) → FactsFit past xs → FactsFit (on_top past xs) ys → FactsFit past (xs ++ ys)
 fit-append past [] ys fit also = also
 fit-append past (x ∷ xs) ys fit also = (fit.0, fit-append (x ∷ past) xs ys fit.1 also)
-
-fit-left : (past : Past) (who : ℕ) (leaving : Bool) → FactsFit past (left_if who leaving)
-fit-left past who true = (tt, tt)
-fit-left past who false = tt
-
-fit-daemon : (past : Past) (may : Bool) (d : ℕ) (start : Option ℤ) (stmt : Stmt) → FactsFit past (of_daemon_if may d start stmt)
-fit-daemon past true d None PgqdOn = (tt, tt)
-fit-daemon past true d (Some moment) PgqdOn = tt
-fit-daemon past true d None PgqdOff = (tt, tt)
-fit-daemon past true d (Some moment) PgqdOff = (tt, tt)
-fit-daemon past true d start _ = tt
-fit-daemon past false d start stmt = tt
-
-fit-beside : (past : Past) (w : World) (who : ℕ) (stmt : Stmt) (d : ℕ) → FactsFit past (beside w who stmt d)
-fit-beside past w who stmt d =
-    let leaves : List Fact = left_if who (is_leaving (is_waiting who (w.database d).part.waiting) stmt) in
-    fit-append past leaves (of_daemon_if (may_make (w.database d) who stmt) d (w.daemons d) stmt) (fit-left past who (is_leaving (is_waiting who (w.database d).part.waiting) stmt))
-    (fit-daemon (on_top past leaves) (may_make (w.database d) who stmt) d (w.daemons d) stmt)
 
 -- ---- moves that leave such facts
 
@@ -123,14 +111,14 @@ no-copy past d name k isnt = of (copy_in_hand past d name) refl
 only-in-copy : (past : Past) (d : ℕ) → Keeps each_table past → CopiesOnlyInCopy (history_in past d)
 only-in-copy past d k name isnt = idle-hand past d name k (no-copy past d name k isnt)
 
-quiet-called : (past : Past) (e : ℕ) (call : NodeCall) → IsQuietCall call → AllKept past → AllKept (called past e call)
+quiet-called : (past : Past) (e : ℕ) (call : NodeCall) → is_of_batches call ≡ true → AllKept past → AllKept (called past e call)
 quiet-called past e call quiet kept =
     let h : History = history_in past e in
     let marks : List Mark = call_marks h call in
     all-before past (map (within e) marks)
-    (λ _ k. all-steps past (map (within e) marks) (fit-marks past e marks (each-given AnyReply is_quiet (node_does (database_of h) call) (quiet h (only-in-copy past e k)))) kept) kept
+    (λ _ k. all-steps past (map (within e) marks) (fit-marks past e marks (each-given AnyReply is_quiet (node_does (database_of h) call) (quiet-batches call quiet h (only-in-copy past e k)))) kept) kept
 
-quiet-calls : (past : Past) (e : ℕ) (calls : List NodeCall) → AllQuiet calls → AllKept past → AllKept (after_calls past e calls)
+quiet-calls : (past : Past) (e : ℕ) (calls : List NodeCall) → AllCalls is_of_batches calls → AllKept past → AllKept (after_calls past e calls)
 quiet-calls past e [] quiet kept = kept
 quiet-calls past e (call ∷ calls) quiet kept = quiet-calls (called past e call) e calls quiet.1 (quiet-called past e call quiet.0 kept)
 
@@ -138,7 +126,7 @@ pub hands-calls : (past : Past) (e : ℕ) (calls : List NodeCall) → hands (aft
 hands-calls past e [] = refl
 hands-calls past e (call ∷ calls) = hands-calls (called past e call) e calls ∙ hands-marks past e (call_marks (history_in past e) call)
 
-quiet-move : {H : Type 0} (past : Past) (p d : ℕ) (handed : Option H → Fact) (move : Move H) → IsQuietMove move
+quiet-move : {H : Type 0} (past : Past) (p d : ℕ) (handed : Option H → Fact) (move : Move H) → Makes is_of_batches move
     → FactFits (after_calls (after_calls past p move.provider) d move.replica) (handed move.hand) → AllKept past → AllKept (on_top past (move_facts (world_of past) p d handed move))
 quiet-move past p d handed move quiet fits kept =
     subst AllKept (sym (on-move past p d handed move))
@@ -148,33 +136,6 @@ quiet-move past p d handed move quiet fits kept =
 no-copy-in : (o : Option BatchHand) → copy_in (option_map of_batch o) ≡ None
 no-copy-in None = refl
 no-copy-in (Some batch) = refl
-
--- ---- statements of sessions
-
-kept-if : (past : Past) (b : Bool) (x y : Deed) → AllKept (on_top past x.facts) → AllKept (on_top past y.facts) → AllKept (on_top past (if b then x else y).facts)
-kept-if past true x y kept also = kept
-kept-if past false x y kept also = also
-
-quiet-within : (past : Past) (d : ℕ) (now : ℤ) (who : ℕ) (stmt : Stmt) → EachMark is_quiet (database_turn (within_database by_past d) past now who stmt).marks
-quiet-within past d now who stmt = subst (λ (x : Turn). EachMark is_quiet x.marks) (sym (same-turn-within past d now who stmt)) (quiet-turn (history_in past d) now who stmt)
-
-kept-deed : (past : Past) (d who : ℕ) (stmt : Stmt) (outside : List Fact)
-    → FactsFit (on_top past (map (within d) (database_turn (within_database by_past d) past (world_of past).now who stmt).marks)) outside → AllKept past
-    → AllKept (on_top past (deed_in d outside (database_turn (within_database by_past d) past (world_of past).now who stmt)).facts)
-kept-deed past d who stmt outside fit kept =
-    let turn_within : Turn = database_turn (within_database by_past d) past (world_of past).now who stmt in
-    all-steps past (map (within d) turn_within.marks ++ outside)
-    (fit-append past (map (within d) turn_within.marks) outside (fit-marks past d turn_within.marks (quiet-within past d (world_of past).now who stmt)) fit) kept
-
-kept-opens : (past : Past) (who : ℕ) (stmt : Stmt) (name : List ℕ) (found : Option ℕ) → AllKept past → AllKept (on_top past (opens by_past past who stmt name found).facts)
-kept-opens past who stmt name (Some d) kept = kept-deed past d who stmt (entered who d ∷ []) (tt, tt) kept
-kept-opens past who stmt name None kept =
-    let d : ℕ = length (database_names past) in
-    kept-if past (nat_le 16 d) _ _ kept (kept-deed (founded name ∷ past) d who stmt (entered who d ∷ []) (tt, tt) (all-step past (founded name) tt kept))
-
-kept-outside : (past : Past) (who : ℕ) (stmt : Stmt) (name : Option (List ℕ)) → AllKept past → AllKept (on_top past (outside_does by_past past who stmt name).facts)
-kept-outside past who stmt None kept = kept
-kept-outside past who stmt (Some name) kept = kept-opens past who stmt name (place_of name (database_names past)) kept
 
 -- ---- statements on nodes
 
@@ -195,26 +156,6 @@ module _ (past : Past) (kept : AllKept past) where
   abbrev KeptIfOk : Checked WorldOutcome → Type 0
   KeptIfOk c = IfOk c (λ o. AllKept (on_top past o.facts))
 
-  if-test : (b : Bool) (refusal : Refusal) (c : Checked WorldOutcome) → KeptIfOk c → KeptIfOk (refused_if b refusal >> c)
-  if-test true refusal c holds = tt
-  if-test false refusal c holds = holds
-
-  if-not : (b : Bool) (refusal : Refusal) (c : Checked WorldOutcome) → (b ≡ true → KeptIfOk c) → KeptIfOk (refused_if (not b) refusal >> c)
-  if-not true refusal c holds = holds refl
-  if-not false refusal c holds = tt
-
-  if-refused : (o : Option Refusal) (c : Checked WorldOutcome) → KeptIfOk c → KeptIfOk (refused_by o >> c)
-  if-refused None c holds = holds
-  if-refused (Some refusal) c holds = tt
-
-  if-found : {A : Type 0} (o : Option A) (refusal : Refusal) (next : A → Checked WorldOutcome) → ((a : A) → o ≡ Some a → KeptIfOk (next a)) → KeptIfOk (found_or o refusal >>= next)
-  if-found None refusal next holds = tt
-  if-found (Some a) refusal next holds = holds a refl
-
-  if-checked : {A : Type 0} (c : Checked A) (next : A → Checked WorldOutcome) → ((a : A) → c ≡ Ok a → KeptIfOk (next a)) → KeptIfOk (c >>= next)
-  if-checked (Ok a) next holds = holds a refl
-  if-checked (Err refusal) next holds = tt
-
   kept-done : (d : ℕ) (reply : Reply) (c : Checked Outcome) → Gives AnyReply is_quiet c → KeptIfOk (done_in d reply c)
   kept-done d reply (Ok o) given = all-steps past (map (within d) o.marks) (fit-marks past d o.marks given.1) kept
   kept-done d reply (Err refusal) given = tt
@@ -229,11 +170,11 @@ module _ (past : Past) (kept : AllKept past) where
 
   kept-create_leaf : (d : ℕ) (name provider : List ℕ) → KeptIfOk (create_leaf w d name provider)
   kept-create_leaf d name provider =
-      if-test (is_some (node_called w name) || is_some (w.database d).node) (NodeExists name) _
-      (if-found (node_called w provider) (NoNode provider) _ (λ p _.
-      if-found (set_queue (w.database p.database)) (NotProvider provider) _ (λ queue is.
+      if-test _ (is_some (node_called w name) || is_some (w.database d).node) (NodeExists name) _ (λ _.
+      if-found _ (node_called w provider) (NoNode provider) _ (λ p _.
+      if-found _ (set_queue (w.database p.database)) (NotProvider provider) _ (λ queue is.
       kept-leaf d p.database name provider (newest_id ((w.database p.database).queue queue)) (joins (w.database p.database) queue name)
-      (subst (λ o. Gives AnyReply is_quiet (if_there o (λ q. joins (w.database p.database) q name))) is (quiet-consumer (w.database p.database) (joining name) refl)))))
+      (subst (λ o. Gives AnyReply is_quiet (if_there o (λ q. joins (w.database p.database) q name))) is (quiet-call (w.database p.database) (joining name) refl)))))
 
   quiet-lists : (d : Database) (queue table : ℕ) (name : List ℕ) → Gives AnyReply is_quiet (lists d queue table name)
   quiet-lists d queue table name = search (after)
@@ -243,11 +184,11 @@ module _ (past : Past) (kept : AllKept past) where
 
   kept-adds : (d table : ℕ) (name : List ℕ) (n : Node) → KeptIfOk (adds_to w d table name n)
   kept-adds d table name (of_root r) =
-      if-found (set_queue (w.database d)) (NotProvider r.name) _ (λ queue _. kept-done d Done (lists (w.database d) queue table name) (quiet-lists (w.database d) queue table name))
+      if-found _ (set_queue (w.database d)) (NotProvider r.name) _ (λ queue _. kept-done d Done (lists (w.database d) queue table name) (quiet-lists (w.database d) queue table name))
   kept-adds d table name (of_leaf l) =
-      if-found (provides name (node_called w l.provider)) (NotInSet name) _ (λ p _.
-      if-test (not (are_columns ((w.database d).part.columns table) (columns_called name (w.database p)))) (SchemaDiffers name) _
-      (kept-done d Done (adds (w.database d) table name) (quiet-adds (w.database d) table name)))
+      if-found _ (provides name (node_called w l.provider)) (NotInSet name) _ (λ p _.
+      if-test _ (not (are_columns ((w.database d).part.columns table) (columns_called name (w.database p)))) (SchemaDiffers name) _ (λ _.
+      kept-done d Done (adds (w.database d) table name) (quiet-adds (w.database d) table name)))
 
   -- the worker's hold is let go
   kept-lets : (d p : ℕ) (name : List ℕ) (hand : Option CopyHand) → AllLegal past → Keeps each_table past → copy_in_hand past d name ≡ hand → IsSource past d p → Kept (other_than d name) (after_calls past p (lets_go_for hand))
@@ -259,7 +200,7 @@ module _ (past : Past) (kept : AllKept past) where
   kept-parts q d p name n (Some state) holds =
       by_test (λ b. Kept (other_than d name) (after_calls q p (if b then parting (copy_consumer n) ∷ [] else []))) (is_on_way state)
       (λ _. quiet-marks q p d name (call_marks (history_in q p) (parting (copy_consumer n)))
-      (each-given AnyReply is_quiet (node_does (database_of (history_in q p)) (parting (copy_consumer n))) (quiet-consumer (database_of (history_in q p)) (parting (copy_consumer n)) refl)) holds) (λ _. holds)
+      (each-given AnyReply is_quiet (node_does (database_of (history_in q p)) (parting (copy_consumer n))) (quiet-call (database_of (history_in q p)) (parting (copy_consumer n)) refl)) holds) (λ _. holds)
 
   kept-remove : (d p table : ℕ) (name : List ℕ) (l : Leaf) → node (history_in past d) ≡ Some (of_leaf l) → is_among name (tables_of (of_leaf l)) ≡ true
       → place_of name (table_names (history_in past d)) ≡ Some table → IsSource past d p → MoveKept past p d (in_hand d name) (leaves_leaf l name (hands past d name))
@@ -333,27 +274,27 @@ module _ (past : Past) (kept : AllKept past) where
   kept-removes : (d table : ℕ) (name : List ℕ) (n : Node) → (w.database d).node ≡ Some n → is_among name (tables_of n) ≡ true → place_of name (w.database d).part.tables ≡ Some table
       → KeptIfOk (removes_from w d table name n)
   kept-removes d table name (of_root r) stands among there =
-      if-refused (option_map TableInUse (first_user w r.name name)) _ (kept-done d Done (unlists table name) (tt, tt))
+      if-refused _ (option_map TableInUse (first_user w r.name name)) _ (λ _. kept-done d Done (unlists table name) (tt, tt))
   kept-removes d table name (of_leaf l) stands among there =
-      if-checked (source w l name) _ (λ p is. let s : IsSource past d p = source-is past d p l name stands is in (kept-remove d p table name l stands among there s, held-remove d p name l s))
+      ok-then _ (source w l name) _ (λ p is. let s : IsSource past d p = source-is past d p l name stands is in (kept-remove d p table name l stands among there s, held-remove d p name l s))
 
   kept-state : (name table : List ℕ) (n : Node) → KeptIfOk (shows_state name table n)
   kept-state name table (of_root r) = tt
-  kept-state name table (of_leaf l) = if-found (table_of table l) (NotInSet table) _ (λ t _. kept)
+  kept-state name table (of_leaf l) = if-found _ (table_of table l) (NotInSet table) _ (λ t _. kept)
 
   kept-restarts : (d : ℕ) (name : List ℕ) (n : Node) → KeptIfOk (restarts d name n)
   kept-restarts d name (of_root r) = tt
   kept-restarts d name (of_leaf l) = all-step past (batch_in_hand d None) tt kept
 
   -- a move of a leaf's worker
-  kept-replay : (p d : ℕ) (c : Checked (Move BatchHand)) → QuietIfOk c → KeptIfOk (moves w p d (batch_in_hand d) c)
+  kept-replay : (p d : ℕ) (c : Checked (Move BatchHand)) → BatchesIfOk c → KeptIfOk (moves w p d (batch_in_hand d) c)
   kept-replay p d (Ok move) quiet = quiet-move past p d (batch_in_hand d) move quiet tt kept
   kept-replay p d (Err refusal) quiet = tt
 
   kept-steps : (d : ℕ) (name : List ℕ) (n : Node) → KeptIfOk (leaf_steps w d name n)
   kept-steps d name (of_root r) = tt
   kept-steps d name (of_leaf l) =
-      if-checked (providers_database w l) _ (λ p _. kept-replay p d (replay_move (w.database p) (w.database d) l (w.batches d)) (quiet-replay (w.database p) (w.database d) l (w.batches d)))
+      ok-then _ (providers_database w l) _ (λ p _. kept-replay p d (replay_move (w.database p) (w.database d) l (w.batches d)) (batches-replay (w.database p) (w.database d) l (w.batches d)))
 
   -- one of a table's worker: it copies, or goes through batches, or waits
   kept-copies : (p d : ℕ) (name : List ℕ) (c : Checked (Move CopyHand)) → IfOk c (λ move. MoveKept past p d (copy_handed d name) move) → IfOk c (λ move. MoveHeld past p d (copy_handed d name) move)
@@ -361,7 +302,7 @@ module _ (past : Past) (kept : AllKept past) where
   kept-copies p d name (Ok move) holds also = (holds, also)
   kept-copies p d name (Err refusal) holds also = tt
 
-  kept-batches : (p d : ℕ) (name : List ℕ) (c : Checked (Move BatchHand)) → QuietIfOk c → may_copy name (node (history_in past d)) ≡ false → KeptIfOk (moves w p d (in_hand d name) (handing of_batch c))
+  kept-batches : (p d : ℕ) (name : List ℕ) (c : Checked (Move BatchHand)) → BatchesIfOk c → may_copy name (node (history_in past d)) ≡ false → KeptIfOk (moves w p d (in_hand d name) (handing of_batch c))
   kept-batches p d name (Ok move) quiet isnt =
       all-before past (move_facts w p d (λ batch. in_hand d name (option_map of_batch batch)) move)
       (λ legal k. quiet-move past p d (λ batch. in_hand d name (option_map of_batch batch)) move quiet
@@ -392,11 +333,11 @@ module _ (past : Past) (kept : AllKept past) where
       in-state t there CatchingUp is =
           copied-or t _
           (kept-batches p d name (goes_through_or (w.database p) (w.database d) t (batch_in (hands past d name)) (catches_up (w.database p) (w.database d) t))
-          (quiet-catches_up (w.database p) (w.database d) t (batch_in (hands past d name))) (may-as name (node (history_in past d)) t there ∙ ap is_in_copy is))
+          (batches-catches_up (w.database p) (w.database d) t (batch_in (hands past d name))) (may-as name (node (history_in past d)) t there ∙ ap is_in_copy is))
       in-state t there (DoSync tick) is =
           copied-or t _
           (kept-batches p d name (goes_through_or (w.database p) (w.database d) t (batch_in (hands past d name)) (hands_over (w.database p) (w.database d) tick t))
-          (quiet-hands_over (w.database p) (w.database d) tick t (batch_in (hands past d name))) (may-as name (node (history_in past d)) t there ∙ ap is_in_copy is))
+          (batches-hands_over (w.database p) (w.database d) tick t (batch_in (hands past d name))) (may-as name (node (history_in past d)) t there ∙ ap is_in_copy is))
       in-state t there Synced is = prints
       in-state t there state is = prints
 
@@ -405,83 +346,40 @@ module _ (past : Past) (kept : AllKept past) where
       of (Some t) there = in-state t there t.state refl
 
   kept-form : (d : ℕ) (s : NodeStmt) → KeptIfOk (node_form w d s)
+  kept-form d (CreateRoot name queue) =
+      if-root AllKept past d name queue (λ _ t there. all-steps past (map (within d) (root_marks t name queue w.now) ++ node_made d ∷ []) (refl, (refl, (refl, (refl, (there, tt))))) kept)
   kept-form d (CreateLeaf name provider) = kept-create_leaf d name provider
   kept-form d (AddTable name table_name) =
-      if-found (node_called w name) (NoNode name) _ (λ n found.
-      if-found (place_of table_name (w.database n.database).part.tables) (NoTable table_name) _ (λ table there.
-      if-test (is_among table_name (tables_of n.node)) (AlreadyInSet table_name) _ (kept-adds n.database table table_name n.node)))
+      if-found _ (node_called w name) (NoNode name) _ (λ n found.
+      if-found _ (place_of table_name (w.database n.database).part.tables) (NoTable table_name) _ (λ table there.
+      if-test _ (is_among table_name (tables_of n.node)) (AlreadyInSet table_name) _ (λ _. kept-adds n.database table table_name n.node)))
   kept-form d (RemoveTable name table_name) =
-      if-found (node_called w name) (NoNode name) _ (λ n found.
-      if-not (is_among table_name (tables_of n.node)) (NotInSet table_name) _ (λ among.
-      if-found (place_of table_name (w.database n.database).part.tables) (NoTable table_name) _ (λ table there.
-      kept-removes n.database table table_name n.node (called-there w name n found) among there)))
-  kept-form d (ShowState name table) = if-found (node_called w name) (NoNode name) _ (λ n _. kept-state name table n.node)
+      if-found _ (node_called w name) (NoNode name) _ (λ n found.
+      if-test _ (not (is_among table_name (tables_of n.node))) (NotInSet table_name) _ (λ among.
+      if-found _ (place_of table_name (w.database n.database).part.tables) (NoTable table_name) _ (λ table there.
+      kept-removes n.database table table_name n.node (called-there w name n found) (not-false (is_among table_name (tables_of n.node)) among) there)))
+  kept-form d (ShowState name table) = if-found _ (node_called w name) (NoNode name) _ (λ n _. kept-state name table n.node)
   kept-form d (CopyStep name table) =
-      if-found (node_called w name) (NoNode name) _ (λ n found.
-      if-checked (leaf_table name table n.node) _ (λ l leaf.
-      if-checked (source_alike w n.database l table) _ (λ p alike.
+      if-found _ (node_called w name) (NoNode name) _ (λ n found.
+      ok-then _ (leaf_table name table n.node) _ (λ l leaf.
+      ok-then _ (source_alike w n.database l table) _ (λ p alike.
       let both : IsAlike past n.database p table = alike-is past n.database p l table (called-there w name n found ∙ ap Some (leaf-is name table n.node l leaf)) alike in
       kept-table p n.database table both)))
-  kept-form d (Restart name) = if-found (node_called w name) (NoNode name) _ (λ n _. kept-restarts n.database name n.node)
+  kept-form d (Restart name) = if-found _ (node_called w name) (NoNode name) _ (λ n _. kept-restarts n.database name n.node)
   kept-form d (RestartTable name table) =
-      if-found (node_called w name) (NoNode name) _ (λ n found.
-      if-checked (leaf_table name table n.node) _ (λ l leaf.
-      if-checked (source w l table) _ (λ p is.
+      if-found _ (node_called w name) (NoNode name) _ (λ n found.
+      ok-then _ (leaf_table name table n.node) _ (λ l leaf.
+      ok-then _ (source w l table) _ (λ p is.
       let s : IsSource past n.database p = source-is past n.database p l table (called-there w name n found ∙ ap Some (leaf-is name table n.node l leaf)) is in
       (kept-restart n.database p table s, held-restart n.database p table s))))
-  kept-form d (LondisteStep name) = if-found (node_called w name) (NoNode name) _ (λ n _. kept-steps n.database name n.node)
+  kept-form d (LondisteStep name) = if-found _ (node_called w name) (NoNode name) _ (λ n _. kept-steps n.database name n.node)
 
-  kept-does : (who : ℕ) (c : Checked WorldOutcome) → KeptIfOk c → AllKept (on_top past (world_does who c).facts)
-  kept-does who (Ok o) holds = holds
-  kept-does who (Err refusal) holds = kept
+-- ---- any call
 
--- ---- any statement
-
--- a database that gets its node has one
-fit-node : (past : Past) (d : ℕ) (old : Database) (marks : List Mark) (deed : Turn) → old ≡ database_of (history_in past d) → deed.marks ≡ marks → (got : Bool) → gets_node old deed ≡ got
-    → FactsFit (on_top past (map (within d) marks)) (node_if got d)
-fit-node past d old marks deed is same false got = tt
-fit-node past d old marks deed is same true got = (
-  ap (λ g. is_some (node g)) (history-marks past d marks d ∙ ap (λ b. if b then marked (history_in past d) marks else history_in past d) (same-session d))
-      ∙ ap (λ (x : Database). is_some x.node) (database_of-marks (history_in past d) marks)
-      ∙ ap (λ (x : Database). is_some (after_marks x marks).node) (sym is) ∙ ap (λ ms. is_some (after_marks old ms).node) (sym same) ∙ has,
-  tt,
-)
-  where
-    has : is_some (after_marks old deed.marks).node ≡ true
-    has = (and_parts (not (is_some old.node)) (is_some (after_marks old deed.marks).node) got).1
-
-kept-at : (past : Past) (who : ℕ) (stmt : Stmt) (d : ℕ) → AllKept past → AllKept (on_top past (does_at by_past past who stmt d).facts)
-kept-at past who (OnNodes s) d kept =
-    kept-if past (may_make ((world_of past).database d) who (OnNodes s)) _ _ (kept-does past kept who (node_form (world_of past) d s) (kept-form past kept d s)) (kept-deed past d who (OnNodes s) [] tt kept)
-kept-at past who (CreateRoot name queue) d kept =
-    let turn_within : Turn = database_turn (within_database by_past d) past (world_of past).now who (CreateRoot name queue) in
-    let got : Bool = gets_node ((world_of past).database d) turn_within in
-    kept-if past (may_make ((world_of past).database d) who (CreateRoot name queue) && is_some (node_called (world_of past) name)) _ _ kept
-    (kept-deed past d who (CreateRoot name queue) (node_if got d) (fit-node past d ((world_of past).database d) turn_within.marks turn_within refl refl got refl) kept)
-kept-at past who stmt d kept = kept-deed past d who stmt (beside (world_of past) who stmt d) (fit-beside (on_top past (map (within d) (database_turn (within_database by_past d) past (world_of past).now who stmt).marks)) (world_of past) who stmt d) kept
-
-kept-session : (past : Past) (who : ℕ) (stmt : Stmt) (at : Option ℕ) → AllKept past → AllKept (on_top past (session_does by_past past who stmt at).facts)
-kept-session past who stmt None kept = kept-outside past who stmt (opening stmt) kept
-kept-session past who stmt (Some d) kept = kept-at past who stmt d kept
-
-kept-works : (past : Past) (d : ℕ) (part : DaemonPart) (now : ℤ) → AllKept past → AllKept (on_top past (map (within d) (daemon_does (within_database by_past d) past part now).marks))
-kept-works past d part now kept =
-    let deed : Turn = daemon_does (within_database by_past d) past part now in
-    all-steps past (map (within d) deed.marks)
-    (fit-marks past d deed.marks (subst (λ (x : Turn). EachMark is_quiet x.marks) (sym (same-daemon-within past d part now)) (quiet-daemon (history_in past d) part now))) kept
-
-kept-statement : (past : Past) (who : ℕ) (stmt : Stmt) → AllKept past → AllKept (on_top past (turn by_past who stmt past).facts)
-kept-statement past who (Clock time) kept =
-    after-clock AllKept (λ p moment holds. all-step p (clock_at moment) tt holds) kept-works past who time (waits_at (world_of past) who (home past who)) kept
-kept-statement past who stmt kept = kept-session past who stmt (home past who) kept
-
-kept-called : (past : Past) (call : Call) (found : Option ℕ) → AllKept past → AllKept (on_top past (call_does by_past past call found).facts)
-kept-called past call (Some who) kept = kept-statement past who call.stmt kept
-kept-called past call None kept =
-    kept-if past (nat_le 256 (length (session_names past))) _ _ kept
-    (subst AllKept (sym (on_top-append past (appears call.who).facts (turn by_past (length (session_names past)) call.stmt (appeared call.who ∷ past)).facts))
-    (kept-statement (appeared call.who ∷ past) (length (session_names past)) call.stmt (all-step past (appeared call.who) tt kept)))
+kept-does : (past : Past) (d : ℕ) (call : DatabaseCall) → is_served call ≡ false → AllKept past → AllKept (on_top past (map (within d) (marks_in past d call)))
+kept-does past d call own kept =
+    all-steps past (map (within d) (marks_in past d call))
+    (fit-marks past d (marks_in past d call) (each-map is_sessions is_quiet sessions-quiet (marks_in past d call) (sessions-does (history_in past d) call own))) kept
 
 kept-none : Kept each_table []
 kept-none legal = record {
@@ -497,8 +395,12 @@ kept-none legal = record {
     nothing (x ∷ later) p mark is = absurd (cc is)
 
 all-past : (calls : List Call) → AllKept (past_of calls)
-all-past [] = (kept-none, λ legal. record { all_noded = λ d there. absurd (cc there); holders = λ r number is. absurd (cc is) })
-all-past (call ∷ calls) = kept-called (past_of calls) call (place_of call.who (session_names (past_of calls))) (all-past calls)
+all-past =
+    after-calls AllKept (record {
+      does = kept-does;
+      nodes = λ past d s kept. kept-form past kept d s;
+      aside = λ past fact beside kept. all-step past fact (fit-aside past fact beside) kept;
+    }) (kept-none, λ legal. record { all_noded = λ d there. absurd (cc there); holders = λ r number is. absurd (cc is) })
 
 pub kept-past : (calls : List Call) → Kept each_table (past_of calls)
 kept-past calls = (all-past calls).0

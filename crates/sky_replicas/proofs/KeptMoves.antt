@@ -46,7 +46,7 @@ use Rattle.sky_replicas.proofs.Sources.{IsAlike}
 use Rattle.sky_replicas.proofs.Copying.{Holds, held_at}
 use Rattle.sky_replicas.proofs.Keeping.{began-under, Copying, Keeps, Kept, is_quiet}
 use Rattle.sky_replicas.proofs.Others.{each_table, other_than, by-before, legal-under, fewer, Free, own-free, KeptFree, is_own, own-marks, own-marks-free, quiet-marks, begins-hold}
-use Rattle.sky_replicas.proofs.CallPasts.{call_marks, called, history-called, history-elsewhere, quiet-consumer, lets-go, own-call, beginning-marks}
+use Rattle.sky_replicas.proofs.CallPasts.{call_marks, called, history-called, history-elsewhere, quiet-call, lets-go, own-call, beginning-marks}
 use Rattle.sky_replicas.proofs.CopySteps.{StillFrom, still-marks, copy_handed, MoveKept, move-kept, prints-kept, AtCopy, at-copy, Begins, begins, Source, ends, goes}
 
 -- the first rows of some, and the others
@@ -274,9 +274,9 @@ module _ (past : Past) (d p : ℕ) (name consumer : List ℕ) (legal : AllLegal 
   kept-second : Kept (other_than d name) second
   kept-second =
       quiet-marks first p d name (call_marks (history_in first p) (joining consumer))
-      (each-given AnyReply is_quiet (node_does (database_of (history_in first p)) (joining consumer)) (quiet-consumer (database_of (history_in first p)) (joining consumer) refl))
+      (each-given AnyReply is_quiet (node_does (database_of (history_in first p)) (joining consumer)) (quiet-call (database_of (history_in first p)) (joining consumer) refl))
       (quiet-marks past p d name (call_marks (history_in past p) (parting consumer))
-      (each-given AnyReply is_quiet (node_does (database_of (history_in past p)) (parting consumer)) (quiet-consumer (database_of (history_in past p)) (parting consumer) refl)) (fewer d name past k))
+      (each-given AnyReply is_quiet (node_does (database_of (history_in past p)) (parting consumer)) (quiet-call (database_of (history_in past p)) (parting consumer) refl)) (fewer d name past k))
 
   -- the number of the hold is new
   pub number-is : least_free (map Hold.number (holds (history_in second p))) ≡ hand.hold

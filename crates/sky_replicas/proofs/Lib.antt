@@ -6,7 +6,9 @@ pub mod HandsAt
 pub mod RunningCopies
 pub mod Keeping
 pub mod Others
-pub mod QuietStatements
+pub mod UnlessRefused
+pub mod CallMarks
+pub mod WorkersCalls
 pub mod FittingRows
 pub mod CallPasts
 pub mod HeldRows

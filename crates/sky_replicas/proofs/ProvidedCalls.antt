@@ -1,62 +1,48 @@
 -- The tables of leaves are in the sets of their providers, with the same columns, whatever is called.
-use Rattle.std.proofs.Common.{◌≡◌, ℕ, ◌==◌, List, [], ◌∷◌, ◌++◌, map, find, length, nat_lt, Bool, true, false, not, ◌&&◌, ◌||◌, Option, Some, None, Ok, Err, IfOk, is_some, option_map, bytes_eq, refl, sym, ap, subst, ◌∙◌, if◌then◌else◌}
+use Rattle.std.proofs.Common.{◌≡◌, ℕ, ◌==◌, List, [], ◌∷◌, ◌++◌, map, find, Bool, true, false, not, ◌&&◌, ◌||◌, Option, Some, None, Ok, Err, IfOk, is_some, option_map, bytes_eq, refl, sym, ap, subst, ◌∙◌, if◌then◌else◌, arith}
 use Rattle.std.specs.Option.{option_and_then}
 use Rattle.std.proofs.lemmas.Bool.{not-false, false_from_ne_true, eqb-true}
-use Rattle.sky_val.specs.Entries.{Entries}
-use Rattle.sky_val.specs.declared.val.Val.{Val}
 use Rattle.sky_names.specs.Places.{place_of}
 use Rattle.sky_names.proofs.PlaceLemmas.{bytes_eq_refl}
 use Rattle.sky_txid.specs.Ids.{contains}
-use Rattle.sky_txid.specs.Snapshot.{SnapshotView}
-use Rattle.londiste_state.specs.declared.state.TableState.{TableState}
-use Rattle.londiste_state.specs.declared.state.TableState.TheVariants.{InCopy, CatchingUp, DoSync, Synced}
 use Rattle.londiste_state.specs.Nodes.{Node, of_root, of_leaf, Leaf, LeafTable, node_name, is_among, table_of, tables_of}
 use Rattle.sky_model.specs.declared.stmt.NodeStmt.{NodeStmt}
-use Rattle.sky_model.specs.declared.stmt.NodeStmt.TheVariants.{CreateLeaf, AddTable, RemoveTable, TableState as ShowState, CopyStep, Restart, RestartTable, LondisteStep}
+use Rattle.sky_model.specs.declared.stmt.NodeStmt.TheVariants.{CreateRoot, CreateLeaf, AddTable, RemoveTable, TableState as ShowState, CopyStep, Restart, RestartTable, LondisteStep}
 use Rattle.sky_model.specs.declared.reply.Reply.{Reply}
-use Rattle.sky_model.specs.declared.reply.Reply.TheVariants.{Done, Null}
-use Rattle.sky_model.specs.declared.reply.Refusal.{Refusal}
-use Rattle.sky_model.specs.declared.reply.Limit.TheVariants.{Consumers}
-use Rattle.sky_model.specs.declared.reply.Refusal.TheVariants.{AlreadyInSet, IdsSpent, NodeExists, NoNode, NoTable, NotInSet, NotProvider, SchemaDiffers, TableBusy, TableInUse, TooMany}
-use Rattle.sky_val.specs.declared.event.Event.{Event}
-use Rattle.sky_model.specs.History.{Mark, noded, leaf_made, leaf_added, set_removed, root_made, tabled, read_only, Batch, Pick, Fact, within, node_made, in_hand, batch_in_hand, Past}
-use Rattle.sky_model.specs.Hands.{CopyHand, BatchHand, Hand, of_copy, of_batch, copy_in, batch_in}
-use Rattle.sky_model.specs.Copies.{copy_txid}
+use Rattle.sky_model.specs.declared.reply.Reply.TheVariants.{Done}
+use Rattle.sky_model.specs.declared.reply.Refusal.TheVariants.{AlreadyInSet, NodeExists, NoNode, NoTable, NotInSet, NotProvider, SchemaDiffers, TableBusy, TableInUse}
+use Rattle.sky_model.specs.History.{Mark, noded, leaf_made, leaf_added, set_removed, tabled, read_only, Fact, within, node_made, in_hand, batch_in_hand, Past}
+use Rattle.sky_model.specs.Hands.{copy_in}
 use Rattle.sky_model.specs.Rows.{table_names, columns_of}
 use Rattle.sky_model.specs.Nodes.{node, is_root, is_leaf, set_tables, leaf_tables}
-use Rattle.sky_model.specs.ShownRows.{least_writer, snapshot_now}
-use Rattle.sky_model.specs.State.{Database, database_of, after_marks}
-use Rattle.sky_model.specs.Outcome.{Outcome, Checked, ◌>>=◌, ◌>>◌, refused_if, refused_by, found_or, answers, does_marks, marks_of}
-use Rattle.sky_model.specs.OwnTransaction.{next_id}
+use Rattle.sky_model.specs.ShownRows.{least_writer}
+use Rattle.sky_model.specs.State.{Database, database_of}
+use Rattle.sky_model.specs.Outcome.{Outcome, Checked, ◌>>=◌, ◌>>◌, refused_if, refused_by, found_or, does_marks, marks_of}
 use Rattle.sky_model.specs.StepQueue.{newest_id}
-use Rattle.sky_model.specs.StepConsumer.{sub_ids_spent}
-use Rattle.sky_model.specs.StepCopy.{given_up}
-use Rattle.sky_model.specs.StepNode.{NodeCall, joining, parting, fetching, finishing, making_leaf, adding, removing, moving, listing, unlisting, beginning_copy, applying, holding, if_there, set_queue, is_full, joins, lists, adds, unlists, table_number, may_serve, call_form, node_does}
-use Rattle.sky_model.specs.WorkerMoves.{Move, behind_calls, handing}
-use Rattle.sky_model.specs.BatchMoves.{Follower, events_of_batch, has_applied, applies_in_hand, skips_in_hand, finishes_in_hand, taken, takes, takes_next, goes_through}
-use Rattle.sky_model.specs.CopyMoves.{piece_size, rows_from, copies_piece, next_piece, copy_consumer, first_hand, starts_copy, under_way, continues, starts_or_continues, moves_in, table_move, table_at, copier, goes_through_or, if_copied, has_caught_up, catches_up, hands_over, copy_running, copy_move, lets_go_for}
-use Rattle.sky_model.specs.ReplayMoves.{replayer, is_on_way, is_handed_over, is_met, first_in, next_to_copy, for_table, replay_move}
+use Rattle.sky_model.specs.StepNode.{NodeCall, joining, making_leaf, adding, unlisting, if_there, set_queue, joins, lists, adds, unlists}
+use Rattle.sky_model.specs.WorkerMoves.{Move}
+use Rattle.sky_model.specs.CopyMoves.{copy_move, lets_go_for}
+use Rattle.sky_model.specs.ReplayMoves.{replay_move}
 use Rattle.sky_model.specs.NodesOfWorld.{WorldOutcome, Located, node_called, done_in, leaf_of, create_leaf, provides, are_columns, columns_called, adds_to, uses, name_in, first_user, shows_state}
 use Rattle.sky_model.specs.WorkersOfWorld.{move_facts, moves, source, source_alike, leaf_table, restarts, restarting, provider_of as providers_database, leaf_steps, parts_for, leaves_leaf, removes_from, node_form}
 use Rattle.sky_model.specs.World.{World, world_of, history_in, nodes, on_top}
 use Rattle.sky_model.specs.Calls.{Call, past_of}
 use Rattle.sky_histories.proofs.Histories.{AllLegal}
-use Rattle.sky_model.specs.StepApply.{picked, bad_event, applies_batch}
-use Rattle.sky_histories.proofs.ApplyCalls.{is_for_applying, gives-applies}
 use Rattle.sky_histories.proofs.NodeDeeds.{called-there}
-use Rattle.sky_histories.proofs.NodeCalls.{is_for_consumers, is_consumers, gives-consumers}
-use Rattle.sky_histories.proofs.CopyCalls.{is_for_copies, is_copies, gives-there, gives-copies}
-use Rattle.sky_histories.proofs.StatementMarks.{EachMark, each-rest, each-given, when-true, Gives, gives-map, AnyReply, after, either}
+use Rattle.sky_histories.proofs.StatementMarks.{EachMark, each-rest, when-true, Gives, AnyReply, after, each-map}
 use Rattle.sky_histories.proofs.Good.{same-session}
-use Rattle.sky_model.proofs.Cases.{by_test}
+use Rattle.sky_model.proofs.Cases.{by_test, ok-then}
 use Rattle.sky_replicas.proofs.NodeNames.{provider_of, database_among, names_in, source_of, called-database, among-there, among-named}
 use Rattle.sky_replicas.proofs.Keeping.{Noded, fine-within, noded-within}
 use Rattle.sky_replicas.proofs.Others.{legal-under}
 use Rattle.sky_replicas.proofs.CallPasts.{call_marks, called, after_calls, on-move}
 use Rattle.sky_replicas.proofs.FittingRows.{same-columns}
 use Rattle.sky_replicas.proofs.Sources.{root-has}
-use Rattle.sky_replicas.proofs.SessionsMarks.{is_sessions}
-use Rattle.sky_replicas.proofs.EachCall.{is_beside, after-calls as each-call}
+use Rattle.sky_replicas.proofs.SessionsMarks.{is_sessions, sessions-does}
+use Rattle.sky_replicas.proofs.EachCall.{is_beside, marks_in, after-calls as each-call}
+use Rattle.sky_replicas.proofs.UnlessRefused.{if-test, if-refused, if-found, root_marks, if-root}
+use Rattle.sky_replicas.proofs.CallMarks.{CallKinds, may_be, kinds_of, gives-call, each-does}
+use Rattle.sky_replicas.proofs.WorkersCalls.{is_workers, AllCalls, calls-append, Makes, WorkersIfOk, workers-replay, workers-move, workers-lets, workers-parts}
 use Rattle.sky_replicas.proofs.ProvidedTables.{IsOffered, HasProvider, AllProvided, IsRootCalled, IsUnused, called-within, MarkSuits, KeptProvided, FactSuits, FactsSuit, suits-step, suits-steps}
 
 -- ---- marks by which no leaf is made, no table joins one, and none leaves a set
@@ -74,7 +60,6 @@ settled-suits past e (noded (set_removed name)) is = absurd (cc is)
 settled-suits past e mark is = tt
 
 sessions-too : (mark : Mark) → is_sessions mark ≡ true → is_settled mark ≡ true
-sessions-too (noded (root_made name queue)) is = refl
 sessions-too (noded mark) is = absurd (cc is)
 sessions-too mark is = refl
 
@@ -95,192 +80,28 @@ kept-marks past e marks each kept = suits-steps past (map (within e) marks) (sui
 abbrev Settled : Checked Outcome → Type 0
 Settled c = Gives AnyReply is_settled c
 
-settled-consumers : (mark : Mark) → is_for_consumers mark ≡ true → is_settled mark ≡ true
-settled-consumers (noded (leaf_made name provider tick)) e = absurd (cc e)
-settled-consumers (noded (leaf_added name)) e = absurd (cc e)
-settled-consumers (noded (set_removed name)) e = absurd (cc e)
-settled-consumers mark e = refl
+-- kinds of such marks
+abbrev are_settled : CallKinds → Bool
+are_settled k = not (k.makes_leaf || k.adds || k.unlists)
 
-settled-copies : (mark : Mark) → is_for_copies mark ≡ true → is_settled mark ≡ true
-settled-copies (noded (leaf_made name provider tick)) e = absurd (cc e)
-settled-copies (noded (leaf_added name)) e = absurd (cc e)
-settled-copies (noded (set_removed name)) e = absurd (cc e)
-settled-copies mark e = refl
+settled-if : (k : CallKinds) → are_settled k ≡ true → (mark : Mark) → may_be k mark ≡ true → is_settled mark ≡ true
+settled-if k settled (noded (leaf_made name provider tick)) e = absurd (grind (arith, settled, e))
+settled-if k settled (noded (leaf_added name)) e = absurd (grind (arith, settled, e))
+settled-if k settled (noded (set_removed name)) e = absurd (grind (arith, settled, e))
+settled-if k settled mark e = refl
 
-settled-applying : (mark : Mark) → is_for_applying mark ≡ true → is_settled mark ≡ true
-settled-applying (noded (leaf_made name provider tick)) e = absurd (cc e)
-settled-applying (noded (leaf_added name)) e = absurd (cc e)
-settled-applying (noded (set_removed name)) e = absurd (cc e)
-settled-applying mark e = refl
+-- calls of workers leave such marks
+workers-settled : (call : NodeCall) → is_workers call ≡ true → are_settled (kinds_of call) ≡ true
+workers-settled (making_leaf name provider tick) e = absurd (cc e)
+workers-settled (adding name) e = absurd (cc e)
+workers-settled (unlisting name) e = absurd (cc e)
+workers-settled call e = refl
 
-settled-consumer : (d : Database) (call : NodeCall) → is_consumers call ≡ true → Settled (call_form d call)
-settled-consumer d call e = gives-map AnyReply AnyReply is_for_consumers is_settled (λ reply any. any) settled-consumers (call_form d call) (gives-consumers d call e)
-
-settled-copy : (d : Database) (call : NodeCall) → is_copies call ≡ true → Settled (call_form d call)
-settled-copy d call e = gives-map AnyReply AnyReply is_for_copies is_settled (λ reply any. any) settled-copies (call_form d call) (gives-copies d call e)
-
--- once a copy is given up
-settled-then : (table : ℕ) (name : List ℕ) (o : Option ℕ) (marks : List Mark) → EachMark is_settled marks → EachMark is_settled (given_up table name o ++ marks)
-settled-then table name None marks each = each
-settled-then table name (Some t) marks each = each
-
--- whether a call is one of a worker, or a table leaves a leaf by it
-abbrev is_workers : NodeCall → Bool
-is_workers (making_leaf name provider tick) = false
-is_workers (adding name) = false
-is_workers (listing name) = false
-is_workers (unlisting name) = false
-is_workers call = true
-
-settled-form : (d : Database) (call : NodeCall) → is_workers call ≡ true → Settled (call_form d call)
-settled-form d (making_leaf name provider tick) e = absurd (cc e)
-settled-form d (adding name) e = absurd (cc e)
-settled-form d (listing name) e = absurd (cc e)
-settled-form d (unlisting name) e = absurd (cc e)
-settled-form d (moving name state) e = gives-there is_settled (table_number d name) _ (λ table. (tt, settled-then table name (copy_txid table d.copies) _ tt))
-settled-form d (removing name) e = gives-there is_settled (table_number d name) _ (λ table. (tt, settled-then table name (copy_txid table d.copies) _ tt))
-settled-form d (joining consumer) e = settled-consumer d (joining consumer) refl
-settled-form d (parting consumer) e = settled-consumer d (parting consumer) refl
-settled-form d (fetching consumer) e = settled-consumer d (fetching consumer) refl
-settled-form d (finishing batch) e = settled-consumer d (finishing batch) refl
-settled-form d (applying events pick tick) e =
-    gives-map AnyReply AnyReply is_for_applying is_settled (λ reply any. any) settled-applying (applies_batch d pick tick events) (gives-applies d pick tick events)
-settled-form d call e = settled-copy d call refl
-
-settled-does : (d : Database) (call : NodeCall) → is_workers call ≡ true → Settled (node_does d call)
-settled-does d call e = either AnyReply is_settled (may_serve call d.node) (call_form d call) (answers Null) (settled-form d call e) (tt, tt)
-
-abbrev AreWorkers : List NodeCall → Type 0
-AreWorkers [] = Unit {0}
-AreWorkers (call ∷ calls) = (is_workers call ≡ true) × AreWorkers calls
-
-workers-append : (xs ys : List NodeCall) → AreWorkers xs → AreWorkers ys → AreWorkers (xs ++ ys)
-workers-append [] ys all also = also
-workers-append (x ∷ xs) ys all also = (all.0, workers-append xs ys all.1 also)
-
-kept-calls : (past : Past) (d : ℕ) (calls : List NodeCall) → AreWorkers calls → KeptProvided past → KeptProvided (after_calls past d calls)
+kept-calls : (past : Past) (d : ℕ) (calls : List NodeCall) → AllCalls is_workers calls → KeptProvided past → KeptProvided (after_calls past d calls)
 kept-calls past d [] all kept = kept
 kept-calls past d (call ∷ calls) all kept =
     kept-calls (called past d call) d calls all.1
-    (kept-marks past d (call_marks (history_in past d) call) (each-given AnyReply is_settled (node_does (database_of (history_in past d)) call) (settled-does (database_of (history_in past d)) call all.0)) kept)
-
--- ---- moves of workers
-
-record IsWorkers {H : Type 0} (move : Move H) : Type 0 where
-  provider : AreWorkers move.provider
-  replica : AreWorkers move.replica
-
-abbrev WorkersIfOk : {H : Type 0} → Checked (Move H) → Type 0
-WorkersIfOk c = IfOk c IsWorkers
-
-either-workers : {H : Type 0} (b : Bool) (x y : Move H) → IsWorkers x → IsWorkers y → IsWorkers (if b then x else y)
-either-workers true x y all also = all
-either-workers false x y all also = also
-
-if-either : {H : Type 0} (b : Bool) (x y : Checked (Move H)) → WorkersIfOk x → WorkersIfOk y → WorkersIfOk (if b then x else y)
-if-either true x y all also = all
-if-either false x y all also = also
-
-if-unrefused : {H : Type 0} (b : Bool) (refusal : Refusal) (c : Checked (Move H)) → WorkersIfOk c → WorkersIfOk (refused_if b refusal >> c)
-if-unrefused true refusal c all = tt
-if-unrefused false refusal c all = all
-
-if-given : {A H : Type 0} (c : Checked A) (next : A → Checked (Move H)) → ((a : A) → WorkersIfOk (next a)) → WorkersIfOk (c >>= next)
-if-given (Ok a) next all = all a
-if-given (Err refusal) next all = tt
-
-if-handing : {H I : Type 0} (kind : H → I) (c : Checked (Move H)) → WorkersIfOk c → WorkersIfOk (handing kind c)
-if-handing kind (Ok move) all = record { provider = all.provider; replica = all.replica }
-if-handing kind (Err refusal) all = tt
-
--- with batches
-workers-takes : (f : Follower) (o : Option Batch) → WorkersIfOk (takes f o)
-workers-takes f None = record { provider = tt; replica = tt }
-workers-takes f (Some batch) = record { provider = (refl, tt); replica = tt }
-
-workers-takes_next : (p : Database) (f : Follower) → WorkersIfOk (takes_next p f)
-workers-takes_next p f = if-given (node_does p (fetching f.consumer)) _ (λ asked. workers-takes f (taken (after_marks p asked.marks) asked.reply))
-
-workers-applied : (events : List Event) (pick : Pick) (tick : ℕ) (batch : BatchHand) (many : ℕ) (bad : Option ℕ) → IsWorkers (has_applied (applying events pick tick) batch many bad)
-workers-applied events pick tick batch many None = record { provider = tt; replica = (refl, tt) }
-workers-applied events pick tick batch many (Some id) = record { provider = tt; replica = (refl, tt) }
-
-workers-through : (p r : Database) (f : Follower) (batch : BatchHand) → WorkersIfOk (goes_through p r f batch)
-workers-through p r f batch =
-    if-either batch.is_done (finishes_in_hand batch) _ (record { provider = (refl, tt); replica = tt })
-    (if-either (nat_lt f.tick batch.cur) (applies_in_hand p r f batch) (skips_in_hand batch) (if-given (next_id r.part) _ (λ t. workers-applied (events_of_batch p batch.id) f.pick batch.cur batch (length (picked r.node f.pick (events_of_batch p batch.id))) (bad_event r f.pick (events_of_batch p batch.id))))
-    (record { provider = tt; replica = tt }))
-
-workers-goes_through_or : (p r : Database) (t : LeafTable) (o : Option BatchHand) (other : Checked (Move BatchHand)) → WorkersIfOk other → WorkersIfOk (goes_through_or p r t o other)
-workers-goes_through_or p r t (Some batch) other all = workers-through p r (copier r.node t) batch
-workers-goes_through_or p r t None other all = all
-
-workers-for_table : (o : Option (List ℕ)) (move : List ℕ → Checked (Move BatchHand)) (other : Checked (Move BatchHand)) → ((table : List ℕ) → WorkersIfOk (move table)) → WorkersIfOk other → WorkersIfOk (for_table o move other)
-workers-for_table None move other all also = also
-workers-for_table (Some table) move other all also = all table
-
-workers-replay : (p r : Database) (l : Leaf) (o : Option BatchHand) → WorkersIfOk (replay_move p r l o)
-workers-replay p r l (Some batch) = workers-through p r (replayer l) batch
-workers-replay p r l None =
-    workers-for_table (first_in is_handed_over l) _ _ (λ table. record { provider = tt; replica = tt })
-    (workers-for_table (first_in (is_met l.tick) l) _ _ (λ table. record { provider = tt; replica = (refl, tt) })
-    (workers-for_table (next_to_copy l) _ _ (λ table. record { provider = tt; replica = (refl, tt) }) (workers-takes_next p (replayer l))))
-
--- with copies
-workers-piece : (table : List ℕ) (snapshot : SnapshotView) (hand : CopyHand) (rows : Entries (List Val)) → IsWorkers (copies_piece table snapshot hand rows)
-workers-piece table snapshot hand rows =
-    either-workers (nat_lt (length rows) piece_size) _ _ (record { provider = (refl, tt); replica = (refl, (refl, tt)) }) (record { provider = tt; replica = (refl, tt) })
-
-workers-next : (p : Database) (table : List ℕ) (snapshot : SnapshotView) (hand : CopyHand) → IsWorkers (next_piece p table snapshot hand)
-workers-next p table snapshot hand = workers-piece table snapshot hand (rows_from p table snapshot hand.last piece_size)
-
-module _ (p r : Database) (table : List ℕ) where
-  abbrev first : Move CopyHand
-  first = next_piece p table (snapshot_now p.part) (first_hand p)
-
-  workers-first : IsWorkers (behind_calls (parting (copy_consumer r.node) ∷ joining (copy_consumer r.node) ∷ holding ∷ []) (beginning_copy table ∷ []) first)
-  workers-first = let rest : IsWorkers first = workers-next p table (snapshot_now p.part) (first_hand p) in record { provider = (refl, (refl, (refl, rest.provider))); replica = (refl, rest.replica) }
-
-  workers-starts : WorkersIfOk (starts_copy p r table)
-  workers-starts =
-      if-unrefused (is_full p (copy_consumer r.node)) (TooMany Consumers) _ (if-unrefused (sub_ids_spent p) IdsSpent _ (if-given (next_id r.part) _ (λ t. workers-first)))
-
-  workers-starts_or_continues : (hand : Option CopyHand) (running : Option ℕ) → WorkersIfOk (starts_or_continues p r table hand running)
-  workers-starts_or_continues hand None = workers-starts
-  workers-starts_or_continues hand (Some t) = of (under_way p hand)
-    where
-      of : (o : Option (CopyHand × SnapshotView)) → WorkersIfOk (continues p table hand o)
-      of None = record { provider = tt; replica = tt }
-      of (Some x) = workers-next p table x.1 x.0
-
-workers-copied : (t : LeafTable) (hand : Option Hand) (c : Checked (Move BatchHand)) → WorkersIfOk c → WorkersIfOk (if_copied t hand c)
-workers-copied t hand c all = if-either (is_some t.snapshot) (handing of_batch c) _ (if-handing of_batch c all) (record { provider = tt; replica = tt })
-
-workers-in : (p r : Database) (t : LeafTable) (state : TableState) (hand : Option Hand) → WorkersIfOk (moves_in state p r t hand)
-workers-in p r t InCopy hand = if-handing of_copy (starts_or_continues p r t.name (copy_in hand) (copy_running r t.name)) (workers-starts_or_continues p r t.name (copy_in hand) (copy_running r t.name))
-workers-in p r t CatchingUp hand =
-    workers-copied t hand (goes_through_or p r t (batch_in hand) (catches_up p r t))
-    (workers-goes_through_or p r t (batch_in hand) (catches_up p r t) (if-either (has_caught_up p t) _ _ (record { provider = tt; replica = (refl, tt) }) (workers-takes_next p (copier r.node t))))
-workers-in p r t (DoSync tick) hand =
-    workers-copied t hand (goes_through_or p r t (batch_in hand) (hands_over p r tick t))
-    (workers-goes_through_or p r t (batch_in hand) (hands_over p r tick t) (if-either (t.tick == tick) _ _ (record { provider = (refl, tt); replica = (refl, tt) }) (workers-takes_next p (copier r.node t))))
-workers-in p r t Synced hand = record { provider = tt; replica = tt }
-workers-in p r t state hand = record { provider = tt; replica = tt }
-
-workers-move : (p r : Database) (table : List ℕ) (hand : Option Hand) → WorkersIfOk (copy_move p r table hand)
-workers-move p r table hand = of (table_at table r.node)
-  where
-    of : (o : Option LeafTable) → WorkersIfOk (table_move p r table o hand)
-    of None = record { provider = tt; replica = tt }
-    of (Some t) = workers-in p r t t.state hand
-
-workers-lets : (hand : Option CopyHand) → AreWorkers (lets_go_for hand)
-workers-lets None = tt
-workers-lets (Some hand) = (refl, tt)
-
-workers-parts : (n : Option Node) (o : Option TableState) → AreWorkers (parts_for n o)
-workers-parts n None = tt
-workers-parts n (Some state) = by_test (λ b. AreWorkers (if b then parting (copy_consumer n) ∷ [] else [])) (is_on_way state) (λ _. (refl, tt)) (λ _. tt)
+    (kept-marks past d (call_marks (history_in past d) call) (each-does is_settled call (settled-if (kinds_of call) (workers-settled call all.0)) (database_of (history_in past d))) kept)
 
 -- ---- statements on nodes
 
@@ -372,22 +193,6 @@ module _ (past : Past) (kept : KeptProvided past) where
   abbrev KeptIfOk : Checked WorldOutcome → Type 0
   KeptIfOk c = IfOk c (λ o. KeptProvided (on_top past o.facts))
 
-  if-test : (b : Bool) (refusal : Refusal) (c : Checked WorldOutcome) → (b ≡ false → KeptIfOk c) → KeptIfOk (refused_if b refusal >> c)
-  if-test true refusal c holds = tt
-  if-test false refusal c holds = holds refl
-
-  if-refused : (o : Option Refusal) (c : Checked WorldOutcome) → (o ≡ None → KeptIfOk c) → KeptIfOk (refused_by o >> c)
-  if-refused None c holds = holds refl
-  if-refused (Some refusal) c holds = tt
-
-  if-found : {A : Type 0} (o : Option A) (refusal : Refusal) (next : A → Checked WorldOutcome) → ((a : A) → o ≡ Some a → KeptIfOk (next a)) → KeptIfOk (found_or o refusal >>= next)
-  if-found None refusal next holds = tt
-  if-found (Some a) refusal next holds = holds a refl
-
-  if-checked : {A : Type 0} (c : Checked A) (next : A → Checked WorldOutcome) → ((a : A) → KeptIfOk (next a)) → KeptIfOk (c >>= next)
-  if-checked (Ok a) next holds = holds a
-  if-checked (Err refusal) next holds = tt
-
   kept-done : (d : ℕ) (reply : Reply) (c : Checked Outcome) → Settled c → KeptIfOk (done_in d reply c)
   kept-done d reply (Ok o) given = kept-marks past d o.marks given.1 kept
   kept-done d reply (Err refusal) given = tt
@@ -404,11 +209,11 @@ module _ (past : Past) (kept : KeptProvided past) where
 
   kept-create_leaf : (d : ℕ) (name provider : List ℕ) → KeptIfOk (create_leaf w d name provider)
   kept-create_leaf d name provider =
-      if-test (is_some (node_called w name) || is_some (w.database d).node) (NodeExists name) _ (λ _.
-      if-found (node_called w provider) (NoNode provider) _ (λ p found.
-      if-found (set_queue (w.database p.database)) (NotProvider provider) _ (λ queue is.
+      if-test _ (is_some (node_called w name) || is_some (w.database d).node) (NodeExists name) _ (λ _.
+      if-found _ (node_called w provider) (NoNode provider) _ (λ p found.
+      if-found _ (set_queue (w.database p.database)) (NotProvider provider) _ (λ queue is.
       kept-leaf d p.database name provider (newest_id ((w.database p.database).queue queue)) (joins (w.database p.database) queue name)
-      (subst (λ o. Settled (if_there o (λ q. joins (w.database p.database) q name))) is (settled-consumer (w.database p.database) (joining name) refl))
+      (subst (λ o. Settled (if_there o (λ q. joins (w.database p.database) q name))) is (gives-call is_settled (joining name) (settled-if (kinds_of (joining name)) refl) (w.database p.database)))
       (λ _. record { p = p.database; found = found-database past provider p found; root = root-has (w.database p.database) (w.database p.database).node queue is }))))
 
   settled-lists : (d : Database) (queue table : ℕ) (name : List ℕ) → Settled (lists d queue table name)
@@ -422,7 +227,7 @@ module _ (past : Past) (kept : KeptProvided past) where
 
   kept-adds : (d table : ℕ) (name : List ℕ) (n : Node) → contains d (nodes past) ≡ true → (w.database d).node ≡ Some n → place_of name (w.database d).part.tables ≡ Some table → KeptIfOk (adds_to w d table name n)
   kept-adds d table name (of_root r) is_listed stands there =
-      if-found (set_queue (w.database d)) (NotProvider r.name) _ (λ queue _. kept-done d Done (lists (w.database d) queue table name) (settled-lists (w.database d) queue table name))
+      if-found _ (set_queue (w.database d)) (NotProvider r.name) _ (λ queue _. kept-done d Done (lists (w.database d) queue table name) (settled-lists (w.database d) queue table name))
   kept-adds d table name (of_leaf l) is_listed stands there = at (node_called w l.provider) refl
     where
       at : (o : Option Located) → node_called w l.provider ≡ o → KeptIfOk (found_or (provides name o) (NotInSet name) >>= (λ p.
@@ -433,12 +238,12 @@ module _ (past : Past) (kept : KeptProvided past) where
           refused_if (not (are_columns ((w.database d).part.columns table) (columns_called name (w.database p)))) (SchemaDiffers name) >> done_in d Done (adds (w.database d) table name))))
           (is_among name (tables_of m.node))
           (λ _ has.
-          if-test (not (are_columns ((w.database d).part.columns table) (columns_called name (w.database m.database)))) (SchemaDiffers name) _ (λ alike.
+          if-test _ (not (are_columns ((w.database d).part.columns table) (columns_called name (w.database m.database)))) (SchemaDiffers name) _ (λ alike.
           kept-added d table name (least_writer (w.database d).part table) (λ a q from.
           offered past d table q name l m a is_listed stands there found has (not-false (are_columns ((w.database d).part.columns table) (columns_called name (w.database m.database))) alike) from)))
           (λ _ _. tt) refl
 
-  kept-move : {H : Type 0} (p d : ℕ) (handed : Option H → Fact) (move : Move H) → IsWorkers move → ((q : Past) → FactSuits q (handed move.hand)) → KeptProvided (on_top past (move_facts w p d handed move))
+  kept-move : {H : Type 0} (p d : ℕ) (handed : Option H → Fact) (move : Move H) → Makes is_workers move → ((q : Past) → FactSuits q (handed move.hand)) → KeptProvided (on_top past (move_facts w p d handed move))
   kept-move p d handed move all suits =
       let after : Past = after_calls (after_calls past p move.provider) d move.replica in
       subst KeptProvided (sym (on-move past p d handed move))
@@ -446,23 +251,23 @@ module _ (past : Past) (kept : KeptProvided past) where
 
   kept-removes : (d table : ℕ) (name : List ℕ) (n : Node) → (w.database d).node ≡ Some n → KeptIfOk (removes_from w d table name n)
   kept-removes d table name (of_root r) stands =
-      if-refused (option_map TableInUse (first_user w r.name name)) _ (λ free.
+      if-refused _ (option_map TableInUse (first_user w r.name name)) _ (λ free.
       suits-steps past (map (within d) (marks_of (unlists table name)))
       (λ _ a. unused past d name r.name a (ap (option_map node_name) stands) (none (name_in w) (find (λ e. uses r.name name (node (history_in past e))) (nodes past)) free), (λ _ _. tt, tt)) kept)
     where
       none : (f : ℕ → List ℕ) (o : Option ℕ) → option_map TableInUse (option_map f o) ≡ None → o ≡ None
       none f None e = refl
       none f (Some e) some = absurd (cc some)
-  kept-removes d table name (of_leaf l) stands = if-checked (source w l name) _ (λ p.
+  kept-removes d table name (of_leaf l) stands = ok-then _ (source w l name) _ (λ p _.
       kept-move p d (in_hand d name) (leaves_leaf l name (w.hands d name)) (record {
-        provider = workers-append (lets_go_for (copy_in (w.hands d name))) (parts_for (Some (of_leaf l)) (option_map LeafTable.state (table_of name l))) (workers-lets (copy_in (w.hands d name)))
+        provider = calls-append is_workers (lets_go_for (copy_in (w.hands d name))) (parts_for (Some (of_leaf l)) (option_map LeafTable.state (table_of name l))) (workers-lets (copy_in (w.hands d name)))
             (workers-parts (Some (of_leaf l)) (option_map LeafTable.state (table_of name l)));
         replica = (refl, tt);
       }) (λ q. tt))
 
   kept-state : (name table : List ℕ) (n : Node) → KeptIfOk (shows_state name table n)
   kept-state name table (of_root r) = tt
-  kept-state name table (of_leaf l) = if-found (table_of table l) (NotInSet table) _ (λ t _. kept)
+  kept-state name table (of_leaf l) = if-found _ (table_of table l) (NotInSet table) _ (λ t _. kept)
 
   kept-restarts : (d : ℕ) (name : List ℕ) (n : Node) → KeptIfOk (restarts d name n)
   kept-restarts d name (of_root r) = tt
@@ -475,35 +280,37 @@ module _ (past : Past) (kept : KeptProvided past) where
   kept-steps : (d : ℕ) (name : List ℕ) (n : Node) → KeptIfOk (leaf_steps w d name n)
   kept-steps d name (of_root r) = tt
   kept-steps d name (of_leaf l) =
-      if-checked (providers_database w l) _ (λ p.
+      ok-then _ (providers_database w l) _ (λ p _.
       kept-moves p d (batch_in_hand d) (replay_move (w.database p) (w.database d) l (w.batches d)) (workers-replay (w.database p) (w.database d) l (w.batches d)) (λ q batch. tt))
 
   kept-form : (d : ℕ) (s : NodeStmt) → KeptIfOk (node_form w d s)
+  kept-form d (CreateRoot name queue) =
+      if-root KeptProvided past d name queue (λ _ t there. suits-step _ (node_made d) there (kept-marks past d (root_marks t name queue w.now) tt kept))
   kept-form d (CreateLeaf name provider) = kept-create_leaf d name provider
   kept-form d (AddTable name table_name) =
-      if-found (node_called w name) (NoNode name) _ (λ n found.
-      if-found (place_of table_name (w.database n.database).part.tables) (NoTable table_name) _ (λ table there.
-      if-test (is_among table_name (tables_of n.node)) (AlreadyInSet table_name) _ (λ _.
+      if-found _ (node_called w name) (NoNode name) _ (λ n found.
+      if-found _ (place_of table_name (w.database n.database).part.tables) (NoTable table_name) _ (λ table there.
+      if-test _ (is_among table_name (tables_of n.node)) (AlreadyInSet table_name) _ (λ _.
       kept-adds n.database table table_name n.node (among-there (names_in past) name (nodes past) n.database (found-database past name n found)) (called-there w name n found) there)))
   kept-form d (RemoveTable name table_name) =
-      if-found (node_called w name) (NoNode name) _ (λ n found.
-      if-test (not (is_among table_name (tables_of n.node))) (NotInSet table_name) _ (λ _.
-      if-found (place_of table_name (w.database n.database).part.tables) (NoTable table_name) _ (λ table _.
+      if-found _ (node_called w name) (NoNode name) _ (λ n found.
+      if-test _ (not (is_among table_name (tables_of n.node))) (NotInSet table_name) _ (λ _.
+      if-found _ (place_of table_name (w.database n.database).part.tables) (NoTable table_name) _ (λ table _.
       kept-removes n.database table table_name n.node (called-there w name n found))))
-  kept-form d (ShowState name table) = if-found (node_called w name) (NoNode name) _ (λ n _. kept-state name table n.node)
+  kept-form d (ShowState name table) = if-found _ (node_called w name) (NoNode name) _ (λ n _. kept-state name table n.node)
   kept-form d (CopyStep name table) =
-      if-found (node_called w name) (NoNode name) _ (λ n _.
-      if-checked (leaf_table name table n.node) _ (λ l.
-      if-checked (source_alike w n.database l table) _ (λ p.
+      if-found _ (node_called w name) (NoNode name) _ (λ n _.
+      ok-then _ (leaf_table name table n.node) _ (λ l _.
+      ok-then _ (source_alike w n.database l table) _ (λ p _.
       kept-moves p n.database (in_hand n.database table) (copy_move (w.database p) (w.database n.database) table (w.hands n.database table))
       (workers-move (w.database p) (w.database n.database) table (w.hands n.database table)) (λ q hand. tt))))
-  kept-form d (Restart name) = if-found (node_called w name) (NoNode name) _ (λ n _. kept-restarts n.database name n.node)
+  kept-form d (Restart name) = if-found _ (node_called w name) (NoNode name) _ (λ n _. kept-restarts n.database name n.node)
   kept-form d (RestartTable name table) =
-      if-found (node_called w name) (NoNode name) _ (λ n _.
-      if-checked (leaf_table name table n.node) _ (λ l.
-      if-checked (source w l table) _ (λ p.
+      if-found _ (node_called w name) (NoNode name) _ (λ n _.
+      ok-then _ (leaf_table name table n.node) _ (λ l _.
+      ok-then _ (source w l table) _ (λ p _.
       kept-move p n.database (in_hand n.database table) (restarting table (w.hands n.database table)) (record { provider = workers-lets (copy_in (w.hands n.database table)); replica = (refl, tt) }) (λ q. tt))))
-  kept-form d (LondisteStep name) = if-found (node_called w name) (NoNode name) _ (λ n _. kept-steps n.database name n.node)
+  kept-form d (LondisteStep name) = if-found _ (node_called w name) (NoNode name) _ (λ n _. kept-steps n.database name n.node)
 
 -- ---- after all calls
 
@@ -514,6 +321,9 @@ kept-aside past (in_hand d table hand) is kept = absurd (cc is)
 kept-aside past fact is kept = suits-step past fact tt kept
 
 pub kept-provided : (calls : List Call) → KeptProvided (past_of calls)
-kept-provided calls =
-    each-call KeptProvided (λ past d mark is kept. suits-step past (within d mark) (λ _ _. settled-suits past d mark (sessions-too mark is)) kept) (λ past d has kept. suits-step past (node_made d) has kept) kept-aside
-    (λ past d s kept. kept-form past kept d s) (λ legal. record { all_noded = λ d there. absurd (cc there); leaves = λ d leaf. absurd (cc leaf) }) calls
+kept-provided =
+    each-call KeptProvided (record {
+      does = λ past d call own kept. kept-marks past d (marks_in past d call) (each-map is_sessions is_settled sessions-too (marks_in past d call) (sessions-does (history_in past d) call own)) kept;
+      nodes = λ past d s kept. kept-form past kept d s;
+      aside = kept-aside;
+    }) (λ legal. record { all_noded = λ d there. absurd (cc there); leaves = λ d leaf. absurd (cc leaf) })

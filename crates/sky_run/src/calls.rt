@@ -12,7 +12,7 @@ ghost use Rattle.sky_world.specs.Seen.{seen_world};
 ghost use Rattle.sky_run.specs.Running.{Answers, Called};
 
 use crate::answers::print_answers;
-use sky_model::{Replies, RowStmt, Stmt};
+use sky_model::{DbStmt, Replies, RowStmt, Stmt};
 use sky_script::{LineCause, Words, is_blank};
 use sky_val::NoMemory;
 use sky_world::World;
@@ -76,7 +76,7 @@ fn answer_words(
 /// Whether a statement is known to own no memory.
 fn owns_nothing(parsed: &Result<Stmt, LineCause>) -> bool {
     match parsed {
-        Ok(Stmt::Row(stmt)) => matches!(
+        Ok(Stmt::Db(DbStmt::Row(stmt))) => matches!(
             stmt,
             RowStmt::Close
                 | RowStmt::Cancel

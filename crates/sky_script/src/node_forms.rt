@@ -11,11 +11,11 @@ use sky_model::{NodeStmt, Stmt};
 use std::alloc::Global;
 
 pub(crate) fn create_root(alloc: Global, words: &mut Words) -> Result<Stmt, LineCause>
-    ensures { Answers result (one Name (λ name. last Name (λ queue. Stmt.CreateRoot name queue))) words.old }
+    ensures { Answers result (one Name (λ name. last Name (λ queue. Stmt.Node (node.CreateRoot name queue)))) words.old }
 {
     let name = words.name(alloc)?;
     let queue = words.last_name(alloc)?;
-    Ok(Stmt::CreateRoot { name, queue })
+    Ok(Stmt::Node(NodeStmt::CreateRoot { name, queue }))
 }
 
 pub(crate) fn create_leaf(alloc: Global, words: &mut Words) -> Result<Stmt, LineCause>

@@ -9,7 +9,6 @@ use Rattle.sky_names.specs.Places.{place_of}
 use Rattle.sky_txid.specs.Ids.{contains}
 use Rattle.sky_txid.specs.Snapshot.{SnapshotView, sees}
 use Rattle.londiste_state.specs.Nodes.{Node, of_root, of_leaf, Leaf}
-use Rattle.sky_keys.specs.Waits.{is_waiting}
 use Rattle.sky_model.specs.declared.reply.Reply.TheVariants.{Null}
 use Rattle.sky_model.specs.declared.reply.Refusal.TheVariants.{TxidsSpent}
 use Rattle.sky_model.specs.History.{Mark, Pick, Whose, of_synced, copy_of, of_session, of_worker, of_copy, began, ended, tabled, wrote, noded, copied, applied, History}
@@ -17,21 +16,16 @@ use Rattle.sky_model.specs.Transactions.{next_txid, workers, has_ended}
 use Rattle.sky_model.specs.Copies.{copies, copy_txid, is_copied_by, is_copys}
 use Rattle.sky_model.specs.Rows.{table_names, columns_of, wrote_in, writes as writes_of}
 use Rattle.sky_model.specs.Nodes.{node}
-use Rattle.sky_model.specs.Sessions.{has_open, block, session}
-use Rattle.sky_model.specs.Locks.{waiting}
-use Rattle.sky_model.specs.Allowed.{allowed}
-use Rattle.sky_model.specs.Made.{takes_sight}
-use Rattle.sky_model.specs.State.{RowPart, part_of, after_part, Database, database_of}
+use Rattle.sky_model.specs.State.{RowPart, part_of, after_part, database_of}
 use Rattle.sky_model.specs.Outcome.{Outcome, Checked, ◌>>=◌, ◌>>◌, refused_if, answers, marks_of}
 use Rattle.sky_model.specs.OwnTransaction.{next_id}
 use Rattle.sky_model.specs.Promises.{after_all}
 use Rattle.sky_model.specs.Reader.{part_by_history, database_by_history}
-use Rattle.sky_model.specs.SessionMarks.{entry_place}
 use Rattle.sky_model.specs.Settling.{marked}
 use Rattle.sky_model.specs.StepCopy.{ends_copy as ends_copying}
 use Rattle.sky_model.specs.StepApply.{has_synced, picks, picked, change_write, work_write, applies_event, Applying, write_then, applies_events, applies_in, ends_applying, applies_picked, is_of_copied, kept_snapshot, is_change, is_of_table}
-use Rattle.sky_model.specs.StepNode.{NodeCall, joining, parting, fetching, finishing, making_leaf, adding, removing, moving, listing, unlisting, ending_copy, applying, if_there, set_queue, table_number, may_serve, call_form, node_does}
-use Rattle.sky_model.specs.DatabaseCalls.{DatabaseCall, stepped, entered, failed, worked, served, database_does, database_part}
+use Rattle.sky_model.specs.StepNode.{NodeCall, ending_copy, applying, if_there, may_serve, call_form, node_does}
+use Rattle.sky_model.specs.DatabaseCalls.{DatabaseCall, served, database_does, database_part}
 use Rattle.sky_model.specs.HistoryPlaces.{IsPlace}
 use Rattle.sky_histories.proofs.Legal.{Fine, begins_work, ends_work, begins_copy, ends_copy, writes, copies_row, applies_row, Legal, legal-below_mark, fine_mark}
 use Rattle.sky_histories.proofs.Marks.{part_of-mark}
@@ -40,19 +34,17 @@ use Rattle.sky_histories.proofs.Guarded.{copied_by-push, copied_by-without}
 use Rattle.sky_histories.proofs.WrittenTables.{some, is-written}
 use Rattle.sky_histories.proofs.RowKeys.{begun}
 use Rattle.sky_histories.proofs.ApplyCalls.{IsWritten, event-written}
-use Rattle.sky_histories.proofs.CopyCalls.{gives-there}
-use Rattle.sky_histories.proofs.NodeCalls.{is_for_consumers, is_consumers, gives-consumers}
 use Rattle.sky_histories.proofs.Resting.{behind-append}
 use Rattle.sky_histories.proofs.Good.{same-session}
 use Rattle.sky_histories.proofs.Histories.{legal_calls}
-use Rattle.sky_histories.proofs.StatementMarks.{EachMark, each-map, each-rest, each-given, when-true, Gives, gives-map, AnyReply, after, either}
+use Rattle.sky_histories.proofs.StatementMarks.{EachMark, each-map, each-rest, when-true}
 use Rattle.sky_model.proofs.Cases.{by_test, by_same}
 use Rattle.sky_laws.proofs.PendingOwners.{legal-before}
 use Rattle.sky_histories.proofs.ApplyingLaws.{all-filter}
 use Rattle.sky_replicas.proofs.Copying.{one-table}
-use Rattle.sky_replicas.proofs.SessionsMarks.{is_sessions, sessions-turn, sessions-enters, sessions-fails, sessions-daemon}
+use Rattle.sky_replicas.proofs.SessionsMarks.{is_sessions, sessions-does}
 use Rattle.sky_synced.specs.LawsOfChanges.{SaysCopied, is_picked, SaysApplied, CopiesWriteOwnTables, CopiesSayThatTheyEnd, BatchesSayThatTheyAreApplied, is_session, CommitsAreFollowed}
-use Rattle.sky_synced.proofs.CopyingCalls.{is_copying, gives-copying, given_up-then}
+use Rattle.sky_replicas.proofs.CallMarks.{CallKinds, may_be, kinds_of, each-does}
 
 -- ---- what workers have written
 
@@ -189,46 +181,17 @@ sessions-marks h marks l each b = quiet-marks h marks l (each-map is_sessions is
 
 -- ---- and those of most calls for nodes
 
-abbrev Quiet : Checked Outcome → Type 0
-Quiet c = Gives AnyReply is_quiet c
+-- their kinds: no copy ends by them, and no batch is applied
+abbrev are_quiet : CallKinds → Bool
+are_quiet k = not (k.ends_copy || k.applies)
 
-consumers-quiet : (mark : Mark) → is_for_consumers mark ≡ true → is_quiet mark ≡ true
-consumers-quiet (ended (of_copy n) t true) e = absurd (cc e)
-consumers-quiet (tabled (wrote of_worker t table key old new)) e = absurd (cc e)
-consumers-quiet mark e = refl
+quiet-if : (k : CallKinds) → are_quiet k ≡ true → (mark : Mark) → may_be k mark ≡ true → is_quiet mark ≡ true
+quiet-if k quiet (ended (of_copy n) t true) e = absurd (grind (arith, quiet, e))
+quiet-if k quiet (tabled (wrote of_worker t table key old new)) e = absurd (grind (arith, quiet, e))
+quiet-if k quiet mark e = refl
 
-quiet-consumers : (d : Database) (call : NodeCall) → is_consumers call ≡ true → Quiet (call_form d call)
-quiet-consumers d call e = gives-map AnyReply AnyReply is_for_consumers is_quiet (λ reply any. any) consumers-quiet (call_form d call) (gives-consumers d call e)
-
-copying-quiet : (mark : Mark) → is_copying mark ≡ true → is_quiet mark ≡ true
-copying-quiet (ended (of_copy n) t true) e = absurd (cc e)
-copying-quiet (tabled (wrote of_worker t table key old new)) e = absurd (cc e)
-copying-quiet mark e = refl
-
-abbrev is_quiet_call : NodeCall → Bool
-is_quiet_call (ending_copy name under tick) = false
-is_quiet_call (applying events pick tick) = false
-is_quiet_call call = true
-
-quiet-form : (d : Database) (call : NodeCall) → is_quiet_call call ≡ true → Quiet (call_form d call)
-quiet-form d (ending_copy name under tick) e = absurd (cc e)
-quiet-form d (applying events pick tick) e = absurd (cc e)
-quiet-form d (making_leaf name provider tick) e = (tt, tt)
-quiet-form d (adding name) e = gives-there is_quiet (table_number d name) _ (λ table. search (after))
-quiet-form d (removing name) e = gives-there is_quiet (table_number d name) _ (λ table. (tt, given_up-then is_quiet copying-quiet table name (copy_txid table d.copies) _ tt))
-quiet-form d (moving name state) e = gives-there is_quiet (table_number d name) _ (λ table. (tt, given_up-then is_quiet copying-quiet table name (copy_txid table d.copies) _ tt))
-quiet-form d (listing name) e = gives-there is_quiet (set_queue d) _ (λ queue. gives-there is_quiet (table_number d name) _ (λ table. search (after)))
-quiet-form d (unlisting name) e = gives-there is_quiet (table_number d name) _ (λ table. (tt, tt))
-quiet-form d (joining consumer) e = quiet-consumers d (joining consumer) refl
-quiet-form d (parting consumer) e = quiet-consumers d (parting consumer) refl
-quiet-form d (fetching consumer) e = quiet-consumers d (fetching consumer) refl
-quiet-form d (finishing batch) e = quiet-consumers d (finishing batch) refl
-quiet-form d call e = gives-copying is_quiet copying-quiet d call refl
-
-quiet-call : (h : History) (call : NodeCall) → is_quiet_call call ≡ true → Legal (marked h (marks_of (node_does (database_of h) call))) → IsBetween h → IsBetween (marked h (marks_of (node_does (database_of h) call)))
-quiet-call h call e l b =
-    quiet-marks h (marks_of (node_does (database_of h) call)) l
-    (each-given AnyReply is_quiet (node_does (database_of h) call) (either AnyReply is_quiet (may_serve call (node h)) (call_form (database_of h) call) (answers Null) (quiet-form (database_of h) call e) (tt, tt))) b
+quiet-call : (h : History) (call : NodeCall) → are_quiet (kinds_of call) ≡ true → Legal (marked h (marks_of (node_does (database_of h) call))) → IsBetween h → IsBetween (marked h (marks_of (node_does (database_of h) call)))
+quiet-call h call quiet l b = quiet-marks h (marks_of (node_does (database_of h) call)) l (each-does is_quiet call (quiet-if (kinds_of call) quiet) (database_of h)) b
 
 -- what a call does leaves it so
 abbrev StaysBetween : History → Checked Outcome → Type 0
@@ -463,13 +426,8 @@ served-call h below (applying events pick tick) l b = applying-call h below even
 served-call h below call l b = quiet-call h call refl l b
 
 between-call : (h : History) → Legal h → (call : DatabaseCall) → Legal (marked h (database_does database_by_history h call).marks) → IsBetween h → IsBetween (marked h (database_does database_by_history h call).marks)
-between-call h below (stepped who stmt now) l b = sessions-marks h (database_does database_by_history h (stepped who stmt now)).marks l (sessions-turn h now who stmt) b
-between-call h below (entered who alone) l b =
-    sessions-marks h (database_does database_by_history h (entered who alone)).marks l
-    (sessions-enters who (takes_sight (entry_place alone) (session h who).sight) (allowed (is_waiting who (waiting h)) (has_open who h) (block who h) (entry_place alone))) b
-between-call h below (failed who now) l b = sessions-marks h (database_does database_by_history h (failed who now)).marks l (sessions-fails h now who) b
-between-call h below (worked part now) l b = sessions-marks h (database_does database_by_history h (worked part now)).marks l (sessions-daemon h part now) b
 between-call h below (served call) l b = served-call h below call l b
+between-call h below call l b = sessions-marks h (database_does database_by_history h call).marks l (sessions-does h call refl) b
 
 between-calls : (calls : List DatabaseCall) → IsBetween (after_all database_part calls)
 between-calls [] = record { suit = tt; shut = tt; none = λ table t free works apart. absurd (cc works) }

@@ -1,5 +1,5 @@
 -- Each call of the world leaves the consumers of all leaves' workers where they follow.
-use Rattle.std.proofs.Common.{◌≡◌, ℕ, ◌==◌, nat_le, List, [], ◌∷◌, ◌++◌, map, length, Bool, true, false, not, ◌||◌, All, Option, Some, None, Ok, Err, IfOk, is_some, option_map, refl, sym, ap, ◌∙◌}
+use Rattle.std.proofs.Common.{◌≡◌, ℕ, ◌==◌, nat_le, List, [], ◌∷◌, ◌++◌, map, length, Bool, true, false, not, ◌||◌, All, Option, Some, None, Ok, Err, IfOk, is_some, option_map, refl, sym, ap, subst, ◌∙◌}
 use Rattle.std.specs.List.{list_any, list_all}
 use Rattle.std.proofs.lemmas.Bool.{and_parts, or_parts, not-false}
 use Rattle.std.proofs.lemmas.List.Elements.{All-head, All-tail}
@@ -7,12 +7,12 @@ use Rattle.std.proofs.lemmas.Result.{IfOk-weaker}
 use Rattle.sky_names.specs.Places.{place_of}
 use Rattle.londiste_state.specs.Nodes.{Node, of_root, of_leaf, Root, Leaf, is_among, table_of, tables_of}
 use Rattle.sky_model.specs.declared.stmt.NodeStmt.{NodeStmt}
-use Rattle.sky_model.specs.declared.stmt.NodeStmt.TheVariants.{CreateLeaf, AddTable, RemoveTable, TableState as ShowState, CopyStep, Restart, RestartTable, LondisteStep}
+use Rattle.sky_model.specs.declared.stmt.NodeStmt.TheVariants.{CreateRoot, CreateLeaf, AddTable, RemoveTable, TableState as ShowState, CopyStep, Restart, RestartTable, LondisteStep}
 use Rattle.sky_model.specs.declared.reply.Reply.TheVariants.{Done}
 use Rattle.sky_model.specs.declared.reply.Limit.TheVariants.{Triggers}
 use Rattle.sky_model.specs.declared.reply.Refusal.TheVariants.{AlreadyInSet, NodeExists, NoNode, NoTable, NotInSet, NotProvider, SchemaDiffers, TableBusy, TableInUse, TooMany}
 use Rattle.sky_model.specs.Kinds.{is_name, is_identifier, begins_name, continues_name}
-use Rattle.sky_model.specs.InForm.{IsNodeInForm}
+use Rattle.sky_model.specs.InForm.{IsInForm, IsNodeInForm}
 use Rattle.sky_model.specs.Steps.{IsCallInForm}
 use Rattle.sky_model.specs.History.{queued, traced, noded, set_added, tabled, read_only, leaf_added, leaf_made, within, node_made, Past}
 use Rattle.sky_model.specs.Nodes.{node}
@@ -34,11 +34,13 @@ use Rattle.sky_histories.proofs.InCopyTables.{found}
 use Rattle.sky_histories.proofs.LawfulRows.{nothing}
 use Rattle.sky_replicas.proofs.NodeNames.{called-database}
 use Rattle.sky_synced.proofs.LeafNodes.{IsOfCalls, is-among}
-use Rattle.sky_synced.proofs.FollowPasts.{KeptFollow, follow-marks, follow-made, follow-aside}
+use Rattle.sky_synced.proofs.FollowPasts.{KeptFollow, follow-marked, follow-marks, follow-made, follow-aside}
 use Rattle.sky_synced.proofs.FollowStatements.{kept-steps, kept-copies, kept-restarts, kept-restart_table, kept-leaves}
 use Rattle.sky_synced.proofs.FollowTables.{follow-listed, follow-unlisted, follow-added, follow-leaf}
-use Rattle.sky_synced.proofs.EachStatement.{after-call}
-use Rattle.sky_synced.proofs.UnlessRefused.{if-test, if-refused, if-found}
+use Rattle.sky_synced.proofs.ConsumersMarks.{spares-does}
+use Rattle.sky_replicas.proofs.SessionsMarks.{sessions-does}
+use Rattle.sky_replicas.proofs.EachCall.{marks_in, by-form, after-call}
+use Rattle.sky_replicas.proofs.UnlessRefused.{if-test, if-refused, if-found, root_marks, if-root}
 
 -- ---- names
 
@@ -122,6 +124,9 @@ module _ (past : Past) (kept : KeptFollow past) (made : AllMade past) where
   kept-state name table (of_leaf l) = if-found _ (table_of table l) (NotInSet table) _ (λ t _. kept)
 
   kept-form : (d : ℕ) (s : NodeStmt) → IsNodeInForm s → KeptIfOk (node_form w d s)
+  kept-form d (CreateRoot name queue) form =
+      if-root KeptFollow past d name queue (λ _ t there.
+      follow-made _ d there (follow-marked past d (root_marks t name queue w.now) (λ q c set nodes. tt) (λ l is. absurd (cc is)) (λ is. absurd (cc is)) kept))
   kept-form d (CreateLeaf name provider) form = kept-create_leaf d name provider form.0
   kept-form d (AddTable name table_name) form =
       if-found _ (node_called w name) (NoNode name) _ (λ n is.
@@ -155,6 +160,11 @@ made-past calls d = let m = histories_are_made_by_own_calls calls d in record { 
 pub follow-calls : (calls : List Call) → All IsCallInForm calls → KeptFollow (past_of calls)
 follow-calls [] in_form = follow-none
 follow-calls (call ∷ calls) in_form =
-    after-call AllMade (λ _. Unit {0}) KeptFollow (λ past d marks each spared kept. follow-marks past d marks spared each kept) follow-made follow-aside (λ past name made d. made d)
-    (λ past d s form made kept. IfOk-weaker (node_form (world_of past) d s) _ _ (λ o follows _. follows) (kept-form past kept made d s form)) call calls
-    (All-head IsCallInForm call calls in_form).1 (made-past calls) (follow-calls calls (All-tail IsCallInForm call calls in_form)) tt
+    after-call AllMade (λ _. Unit {0}) KeptFollow call calls (record {
+      does = λ past d deed own _ kept. follow-marks past d (marks_in past d deed) (spares-does (history_in past d) deed own) (sessions-does (history_in past d) deed own) kept;
+      nodes = λ past who s home_is this made refused kept.
+          by-form (λ _. Unit {0}) KeptFollow past who s home_is
+          (λ d. IfOk-weaker (node_form (world_of past) d s) _ _ (λ o follows _. follows) (kept-form past kept made d s (subst IsInForm this (All-head IsCallInForm call calls in_form).1))) refused kept;
+      aside = follow-aside;
+      appears = λ past name made d. made d;
+    }) (made-past calls) (follow-calls calls (All-tail IsCallInForm call calls in_form)) tt

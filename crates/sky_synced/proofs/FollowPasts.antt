@@ -1,7 +1,7 @@
 -- Where the consumers of all leaves' workers are, fact by fact.
 use Rattle.std.proofs.Common.{◌≡◌, ℕ, List, [], ◌∷◌, map, true, Some, None, is_some, refl, sym, ap, subst, ◌∙◌, if◌then◌else◌}
 use Rattle.londiste_state.specs.Nodes.{of_leaf, Leaf}
-use Rattle.sky_model.specs.History.{Mark, noded, root_made, History, Fact, within, node_made, in_hand, batch_in_hand, Past}
+use Rattle.sky_model.specs.History.{Mark, noded, History, Fact, within, node_made, in_hand, batch_in_hand, Past}
 use Rattle.sky_model.specs.Nodes.{node}
 use Rattle.sky_model.specs.Settling.{marked}
 use Rattle.sky_model.specs.StepNode.{NodeCall}
@@ -20,7 +20,7 @@ use Rattle.sky_replicas.proofs.SessionsMarks.{is_sessions}
 use Rattle.sky_synced.proofs.Following.{Following, following-marks}
 use Rattle.sky_synced.proofs.ConsumersMarks.{SparesNodes}
 use Rattle.sky_synced.proofs.LeafFollows.{copy_name, LeafFollows, KeptAt, all-kept}
-use Rattle.sky_synced.proofs.EachStatement.{is_beside}
+use Rattle.sky_replicas.proofs.EachCall.{is_beside}
 
 -- ---- what is so
 
@@ -111,7 +111,6 @@ stays-calls past e (call ∷ calls) legal all =
 -- ---- sessions and daemons
 
 leaf-before_mark : (h : History) (mark : Mark) (l : Leaf) → is_sessions mark ≡ true → node (mark ∷ h) ≡ Some (of_leaf l) → node h ≡ Some (of_leaf l)
-leaf-before_mark h (noded (root_made name queue)) l e is = absurd (cc is)
 leaf-before_mark h (noded mark) l e is = absurd (cc e)
 leaf-before_mark h mark l e is = is
 
@@ -121,7 +120,6 @@ leaf-before h (mark ∷ marks) l each is =
     leaf-before_mark h mark l (when-true (EachMark is_sessions marks) (is_sessions mark) each) (leaf-before (mark ∷ h) marks l (each-rest is_sessions mark marks each) is)
 
 none-before_mark : (h : History) (mark : Mark) → is_sessions mark ≡ true → node (mark ∷ h) ≡ None → node h ≡ None
-none-before_mark h (noded (root_made name queue)) e is = absurd (cc is)
 none-before_mark h (noded mark) e is = absurd (cc e)
 none-before_mark h mark e is = is
 

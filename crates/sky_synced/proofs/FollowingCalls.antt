@@ -28,13 +28,13 @@ use Rattle.sky_histories.proofs.ActiveBatches.{IsActive, active_batches}
 use Rattle.sky_histories.proofs.TickOrder.{is_made}
 use Rattle.sky_histories.proofs.CopyCalls.{gives-there}
 use Rattle.sky_histories.proofs.Good.{same-session}
-use Rattle.sky_histories.proofs.StatementMarks.{EachMark, each-map, each-given, each-front, Gives, AnyReply}
+use Rattle.sky_histories.proofs.StatementMarks.{EachMark, each-map, each-given, each-front, Gives, AnyReply, after}
 use Rattle.sky_model.proofs.Cases.{by_test}
 use Rattle.sky_laws.proofs.PendingOwners.{legal-before}
 use Rattle.sky_histories.proofs.MadeCopies.{few-consumers, all_but-less}
 use Rattle.sky_histories.proofs.Members.{among-consumers}
 use Rattle.sky_synced.proofs.Following.{is_of_node, spares, itself, active-stays, InHand, Following, following-marks}
-use Rattle.sky_synced.proofs.ConsumersMarks.{is_apart, apart-spares, apart-takes}
+use Rattle.sky_synced.proofs.ConsumersMarks.{is_apart, apart-spares, ApartGives}
 use Rattle.sky_synced.proofs.SetTicks.{set-stands, queues-newest}
 
 abbrev pub after_call : History → NodeCall → History
@@ -120,6 +120,14 @@ fetching-is : (h : History) (q : ℕ) (c : List ℕ) (sub : ℕ) → queue_of_se
 fetching-is h q c sub set is =
     ap (λ o. if_there o (λ queue. if_there (((database_of h).queue queue).sub c) (λ s. takes_batch (database_of h) queue c s s.active))) (set-is h q set)
     ∙ ap (λ o. if_there o (λ s. takes_batch (database_of h) q c s s.active)) (ap (option_map (λ id. record { id = id; position = position q c h; active = active q c h })) is)
+
+apart-opens : (d : Database) (q : ℕ) (consumer : List ℕ) (sub : Subscription) (o : Option Tick) → ApartGives (opens_batch d q consumer sub o)
+apart-opens d q consumer sub None = (tt, tt)
+apart-opens d q consumer sub (Some t) = search (after)
+
+apart-takes : (d : Database) (q : ℕ) (consumer : List ℕ) (sub : Subscription) (o : Option ℕ) → ApartGives (takes_batch d q consumer sub o)
+apart-takes d q consumer sub (Some batch) = (tt, tt)
+apart-takes d q consumer sub None = apart-opens d q consumer sub (tick (sub.position + 1) (d.queue q).tick_list)
 
 pub spares-fetching : (d : Database) (q : ℕ) (c other : List ℕ) → EachMark (spares q c) (marks_of (node_does d (fetching other)))
 spares-fetching d q c other =

@@ -1,11 +1,10 @@
 -- What each call of the world keeps.
 use Rattle.std.proofs.Common.{◌≡◌, ℕ, ◌==◌, List, [], ◌∷◌, ◌++◌, map, find, true, false, not, ◌||◌, Option, Some, None, Ok, Err, IfOk, All, is_some, option_map, refl, sym, ap, subst, ◌∙◌, if◌then◌else◌}
-use Rattle.std.proofs.lemmas.List.Elements.{All-head}
 use Rattle.sky_names.specs.Places.{place_of}
 use Rattle.londiste_state.specs.declared.state.TableState.{TableState}
 use Rattle.londiste_state.specs.Nodes.{Node, of_root, of_leaf, Leaf, LeafTable, node_name, is_among, table_of, tables_of}
 use Rattle.sky_model.specs.declared.stmt.NodeStmt.{NodeStmt}
-use Rattle.sky_model.specs.declared.stmt.NodeStmt.TheVariants.{CreateLeaf, AddTable, RemoveTable, TableState as ShowState, CopyStep, Restart, RestartTable, LondisteStep}
+use Rattle.sky_model.specs.declared.stmt.NodeStmt.TheVariants.{CreateRoot, CreateLeaf, AddTable, RemoveTable, TableState as ShowState, CopyStep, Restart, RestartTable, LondisteStep}
 use Rattle.sky_model.specs.declared.reply.Reply.{Reply}
 use Rattle.sky_model.specs.declared.reply.Reply.TheVariants.{Done}
 use Rattle.sky_model.specs.declared.reply.Refusal.TheVariants.{AlreadyInSet, NodeExists, NoNode, NoTable, NotInSet, NotProvider, SchemaDiffers, TableBusy, TableInUse}
@@ -43,15 +42,15 @@ use Rattle.sky_replicas.proofs.KeptCalls.{leaf-is, copied_tables_have_providers_
 use Rattle.sky_replicas.proofs.CallPasts.{after_calls, on-move}
 use Rattle.sky_replicas.proofs.ProvidedTables.{HasProvider, suits-step as provided-step}
 use Rattle.sky_replicas.proofs.ProvidedCalls.{kept-provided, from-found, found-database, unused}
-use Rattle.sky_replicas.proofs.SessionsMarks.{is_sessions}
+use Rattle.sky_replicas.proofs.SessionsMarks.{is_sessions, sessions-does}
 use Rattle.sky_synced.proofs.Going.{AllPlaces, apart-root, IsOffered as IsListedFor, Goes, KeptGoes, suits-step, suits-steps}
 use Rattle.sky_synced.proofs.Showing.{IsBetween}
 use Rattle.sky_synced.proofs.PlainCalls.{Plain, ArePlain, plain-append, kept-mark, kept-marks, kept-calls, sessions-plain, plain-lists, plain-does, is_plain}
 use Rattle.sky_synced.proofs.FollowingAt.{AllFollow, follow-appeared}
 use Rattle.sky_synced.proofs.CopyEnds.{AtEnd}
 use Rattle.sky_synced.proofs.GoingMoves.{AtStart, kept-copy_move, kept-replay}
-use Rattle.sky_synced.proofs.EachStatement.{is_beside, after-call}
-use Rattle.sky_synced.proofs.UnlessRefused.{if-test, if-refused, if-found}
+use Rattle.sky_replicas.proofs.EachCall.{is_beside, marks_in, by-form, after-call}
+use Rattle.sky_replicas.proofs.UnlessRefused.{if-test, if-refused, if-found, root_marks, if-root}
 
 plain-lets : (hand : Option CopyHand) → ArePlain (lets_go_for hand)
 plain-lets None = tt
@@ -228,6 +227,8 @@ module _ (past : Past) (start : AtStart past) (kept : KeptGoes past) where
       (kept-replay past d p start kept (providers d p l stands is) (ap is_leaf stands) l stands)))
 
   kept-form : (d : ℕ) (s : NodeStmt) → KeptIfOk (node_form w d s)
+  kept-form d (CreateRoot name queue) =
+      if-root (λ p. AtEnd p → KeptGoes p) past d name queue (λ _ t there _. suits-step _ (node_made d) there (kept-marks past d (root_marks t name queue w.now) tt kept))
   kept-form d (CreateLeaf name provider) = kept-create_leaf d name provider
   kept-form d (AddTable name table_name) =
       if-found _ (node_called w name) (NoNode name) _ (λ n found.
@@ -284,8 +285,12 @@ places-past calls in_form d = world_place calls d [] (history_in (past_of calls)
 -- what holds after some calls, if their workers follow, holds after one more
 pub goes-next : (call : Call) (calls : List Call) → All IsCallInForm (call ∷ calls) → All IsCallInForm calls → AllFollow (past_of calls) → Goes (past_of calls) → Goes (past_of (call ∷ calls))
 goes-next call calls in_form before follow g =
-    after-call AtStart AtEnd KeptGoes (λ past d marks each spared kept. kept-marks past d marks (each-map is_sessions is_plain sessions-plain marks each) kept) (λ past d has kept. suits-step past (node_made d) has kept) kept-aside start-appeared
-    (λ past d s form start kept. kept-form past start kept d s) call calls (All-head IsCallInForm call calls in_form).1
+    after-call AtStart AtEnd KeptGoes call calls (record {
+      does = λ past d deed own _ kept. kept-marks past d (marks_in past d deed) (each-map is_sessions is_plain sessions-plain (marks_in past d deed) (sessions-does (history_in past d) deed own)) kept;
+      nodes = λ past who s home_is _ start refused kept. by-form AtEnd KeptGoes past who s home_is (λ d. kept-form past start kept d s) refused kept;
+      aside = kept-aside;
+      appears = start-appeared;
+    })
     (record { between = between-past calls; places = places-past calls before; provided = kept-provided calls (legal_past calls); follow = follow }) (λ _. g)
     (record {
       between = between-past (call ∷ calls);

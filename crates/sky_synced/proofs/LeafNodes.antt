@@ -18,19 +18,19 @@ use Rattle.sky_model.specs.Outcome.{Outcome, Checked, ◌>>=◌, ◌>>◌, refus
 use Rattle.sky_model.specs.OwnTransaction.{next_id}
 use Rattle.sky_model.specs.StepCopy.{ends_copy, given_up}
 use Rattle.sky_model.specs.StepApply.{picked, may_apply, applies_in, ends_applying, applies_picked, bad_event}
-use Rattle.sky_model.specs.StepNode.{NodeCall, beginning_copy, copying_rows, ending_copy, giving_up_copy, moving, removing, applying, if_there, removes, moves_table, may_move, may_copy, may_serve, call_form, node_does}
+use Rattle.sky_model.specs.StepNode.{beginning_copy, copying_rows, ending_copy, giving_up_copy, moving, removing, applying, if_there, removes, moves_table, may_move, may_copy, call_form, node_does}
 use Rattle.sky_model.specs.Settling.{marked}
 use Rattle.sky_model.specs.Promises.{after_all}
 use Rattle.sky_model.specs.DatabaseCalls.{DatabaseCall, database_part}
 use Rattle.sky_histories.proofs.Legal.{Legal}
 use Rattle.sky_histories.proofs.NodeTables.{have-tables}
 use Rattle.sky_histories.proofs.ApplyingLaws.{batches_put_their_events, other_batches_leave_rows, no_picked_table_is_copied}
-use Rattle.sky_histories.proofs.StatementMarks.{EachMark, each-given, AnyReply, either}
+use Rattle.sky_histories.proofs.StatementMarks.{EachMark}
 use Rattle.sky_model.proofs.Cases.{by_test}
 use Rattle.sky_histories.proofs.InCopyTables.{found}
 use Rattle.sky_laws.proofs.NodeLaws.{among-are}
 use Rattle.sky_synced.proofs.FollowingCalls.{after_call}
-use Rattle.sky_synced.proofs.CopyingCalls.{is_copying, is_copying_call, gives-copying}
+use Rattle.sky_replicas.proofs.CallMarks.{no_kinds, may_be, each-does}
 
 -- ---- marks that leave a node as it is
 
@@ -49,27 +49,22 @@ node-still h (noded (hold_ended hold) ∷ marks) each = node-still (noded (hold_
 node-still h (noded mark ∷ marks) each = absurd each
 node-still h (mark ∷ marks) each = node-still (mark ∷ h) marks each
 
-copying-still : (mark : Mark) → is_copying mark ≡ true → is_still mark ≡ true
-copying-still (noded (restarted table)) e = refl
-copying-still (noded (hold_begun hold)) e = refl
-copying-still (noded (hold_ended hold)) e = refl
-copying-still (noded mark) e = absurd (cc e)
-copying-still mark e = refl
-
-still-called : (h : History) (call : NodeCall) → is_copying_call call ≡ true → node (after_call h call) ≡ node h
-still-called h call is =
-    node-still h (marks_of (node_does (database_of h) call))
-    (each-given AnyReply is_still (node_does (database_of h) call)
-    (either AnyReply is_still (may_serve call (node h)) (call_form (database_of h) call) (answers Null) (gives-copying is_still copying-still (database_of h) call is) (tt, tt)))
+-- such are marks by which a copy begins, writes or is given up
+still-if : (begins writes gives : Bool) (mark : Mark) → may_be (record no_kinds { begins_copy = begins; copies_row = writes; gives_up = gives }) mark ≡ true → is_still mark ≡ true
+still-if begins writes gives (noded (restarted table)) e = refl
+still-if begins writes gives (noded (hold_begun hold)) e = refl
+still-if begins writes gives (noded (hold_ended hold)) e = refl
+still-if begins writes gives (noded mark) e = absurd (cc e)
+still-if begins writes gives mark e = refl
 
 pub leaf-begun : (h : History) (name : List ℕ) → node (after_call h (beginning_copy name)) ≡ node h
-leaf-begun h name = still-called h (beginning_copy name) refl
+leaf-begun h name = node-still h (marks_of (node_does (database_of h) (beginning_copy name))) (each-does is_still (beginning_copy name) (still-if true true false) (database_of h))
 
 pub leaf-rows : (h : History) (name : List ℕ) (rows : List (List Val)) → node (after_call h (copying_rows name rows)) ≡ node h
-leaf-rows h name rows = still-called h (copying_rows name rows) refl
+leaf-rows h name rows = node-still h (marks_of (node_does (database_of h) (copying_rows name rows))) (each-does is_still (copying_rows name rows) (still-if false true false) (database_of h))
 
 pub leaf-given_up : (h : History) (name : List ℕ) → node (after_call h (giving_up_copy name)) ≡ node h
-leaf-given_up h name = still-called h (giving_up_copy name) refl
+leaf-given_up h name = node-still h (marks_of (node_does (database_of h) (giving_up_copy name))) (each-does is_still (giving_up_copy name) (still-if false false true) (database_of h))
 
 -- ---- the end of a copy
 

@@ -5,9 +5,7 @@ mod CommittedRows
 mod ConsumersMarks
 mod CopiersMoves
 mod CopyEnds
-mod CopyingCalls
 mod Covering
-mod EachStatement
 mod FollowEachCall
 mod FollowMoves
 mod FollowPasts
@@ -48,7 +46,6 @@ mod Sights
 mod SteadyTables
 mod SyncedLaws
 mod TablesReached
-mod UnlessRefused
 mod UnownedEvents
 mod WorkedSights
 mod WorkersFollow

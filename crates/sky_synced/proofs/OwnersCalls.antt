@@ -8,8 +8,12 @@ use Rattle.pgq_retry.specs.Retries.{is_asked}
 use Rattle.sky_keys.specs.Waits.{is_waiting}
 use Rattle.sky_model.specs.declared.reply.Refusal.TheVariants.{NoBatch, NodeConsumer, NoEvent}
 use Rattle.sky_model.specs.declared.reply.Reply.TheVariants.{Number}
-use Rattle.sky_model.specs.declared.stmt.Stmt.{Stmt}
-use Rattle.sky_model.specs.declared.stmt.Stmt.TheVariants.{RegisterConsumer, RegisterConsumerAt, UnregisterConsumer, FinishBatch, EventRetry}
+use Rattle.sky_model.specs.declared.stmt.DbStmt.{DbStmt}
+use Rattle.sky_model.specs.declared.stmt.DbStmt.TheVariants.{Row, Queue}
+use Rattle.sky_model.specs.declared.stmt.QueueStmt.TheVariants.{RegisterConsumer, RegisterConsumerAt, UnregisterConsumer, FinishBatch, EventRetry}
+use Rattle.sky_model.specs.Permits.{permit_of}
+use Rattle.sky_model.specs.DatabaseCalls.{DatabaseCall, stepped, served, database_does}
+use Rattle.sky_replicas.proofs.SessionsMarks.{is_served}
 use Rattle.sky_model.specs.History.{Batch, Mark, queued, asked, sight_taken, History}
 use Rattle.sky_model.specs.Queues.{queues}
 use Rattle.sky_model.specs.Consumers.{subscription_id, Subscription, active_batch}
@@ -23,14 +27,14 @@ use Rattle.sky_model.specs.Reader.{shown_in, database_by_history, within_part}
 use Rattle.sky_model.specs.Settling.{behind_marks, settling}
 use Rattle.sky_model.specs.StepConsumer.{is_nodes_batch, leaves as leaves_queue, finishes}
 use Rattle.sky_model.specs.StepRetry.{retry_of, asks_for}
-use Rattle.sky_model.specs.Calls.{form, making, statement, database_turn}
+use Rattle.sky_model.specs.Calls.{form, making, statement}
 use Rattle.sky_histories.proofs.Legal.{queue_of_set, Legal, next, looks}
 use Rattle.sky_histories.proofs.ActiveBatches.{IsActive, active_batches}
 use Rattle.sky_histories.proofs.Good.{same-session}
-use Rattle.sky_histories.proofs.StatementMarks.{EachMark, each-map, each-append, each-front, Gives, AnyReply, gives-map, after, checked, either, no_more, given-runs}
+use Rattle.sky_histories.proofs.StatementMarks.{EachMark, each-map, each-append, each-front, Gives, AnyReply, gives-map, after, checked, either, given-runs}
 use Rattle.sky_model.proofs.Cases.{by_same}
 use Rattle.sky_synced.proofs.Following.{is_of_node}
-use Rattle.sky_synced.proofs.ConsumersMarks.{is_apart, apart-form, row-apart, apart-settling, batch-other}
+use Rattle.sky_synced.proofs.ConsumersMarks.{is_apart, are_apart, apart-any, apart-form, rows-apart, apart-settling, apart-does, batch-other}
 use Rattle.sky_synced.proofs.Owners.{unasks}
 
 pub apart-unasks : (sub : ℕ) (mark : Mark) → is_apart mark ≡ true → unasks sub mark ≡ true
@@ -76,25 +80,32 @@ module _ (h : History) (l : Legal h) (distinct : Distinct h) (q : ℕ) (c : List
   unasks-finishes None = (tt, tt)
   unasks-finishes (Some b) = search (after)
 
-  unasks-form : (now : ℤ) (who : ℕ) (stmt : Stmt) → Unasks (form (database_of h) (shown_in h) now who stmt)
-  unasks-form now who (RegisterConsumer name consumer) = search (checked, after, either) depth 8
-  unasks-form now who (RegisterConsumerAt name consumer at) = search (checked, after, either) depth 10
-  unasks-form now who (UnregisterConsumer name consumer) = search (checked, after, unasks-leaves) depth 8
-  unasks-form now who (FinishBatch batch) = unasks-finishes ((database_of h).batch batch)
-  unasks-form now who (EventRetry batch event seconds) = checked AnyReply (unasks sub) (found_or ((shown_in h).events batch) NoBatch) _ (λ es. unasks-retry now batch event seconds es (active_batch batch h) refl)
-  unasks-form now who stmt = gives-map AnyReply AnyReply is_apart (unasks sub) (λ reply any. any) (apart-unasks sub) (form (database_of h) (shown_in h) now who stmt) (apart-form (database_of h) (shown_in h) now who stmt refl)
+  unasks-apart : (now : ℤ) (who : ℕ) (stmt : DbStmt) → are_apart (permit_of stmt).leaves ≡ true → Unasks (form (database_of h) (shown_in h) now who stmt)
+  unasks-apart now who stmt apart =
+      gives-map AnyReply AnyReply is_apart (unasks sub) (λ reply any. any) (apart-unasks sub) (form (database_of h) (shown_in h) now who stmt) (apart-form (database_of h) (shown_in h) now who stmt apart)
 
-unasks-statement : (h : History) → Legal h → Distinct h → (q : ℕ) (c : List ℕ) (sub : ℕ) → queue_of_set (queues h) (node h) ≡ Some q → is_of_node c (node h) ≡ true → subscription_id q c h ≡ Some sub → (now : ℤ) (who : ℕ) (stmt : Stmt)
+  unasks-form : (now : ℤ) (who : ℕ) (stmt : DbStmt) → Unasks (form (database_of h) (shown_in h) now who stmt)
+  unasks-form now who (Queue (RegisterConsumer name consumer)) = search (checked, after, either) depth 8
+  unasks-form now who (Queue (RegisterConsumerAt name consumer at)) = search (checked, after, either) depth 10
+  unasks-form now who (Queue (UnregisterConsumer name consumer)) = search (checked, after, unasks-leaves) depth 8
+  unasks-form now who (Queue (FinishBatch batch)) = unasks-finishes ((database_of h).batch batch)
+  unasks-form now who (Queue (EventRetry batch event seconds)) = checked AnyReply (unasks sub) (found_or ((shown_in h).events batch) NoBatch) _ (λ es. unasks-retry now batch event seconds es (active_batch batch h) refl)
+  unasks-form now who (Queue stmt) = unasks-apart now who (Queue stmt) refl
+  unasks-form now who (Row stmt) = unasks-apart now who (Row stmt) (rows-apart stmt)
+
+unasks-statement : (h : History) → Legal h → Distinct h → (q : ℕ) (c : List ℕ) (sub : ℕ) → queue_of_set (queues h) (node h) ≡ Some q → is_of_node c (node h) ≡ true → subscription_id q c h ≡ Some sub → (now : ℤ) (who : ℕ) (stmt : DbStmt)
     → EachMark (unasks sub) (statement database_by_history h now who stmt).marks
 unasks-statement h l distinct q c sub set nodes has now who stmt =
-    (given-runs AnyReply (unasks sub) (λ _. tt) (λ v mark may. apart-unasks sub mark (row-apart no_more refl v mark may)) (making database_by_history now who stmt) (where_of stmt) who h
+    (given-runs AnyReply (unasks sub) (λ _. tt) (λ s v mark may. apart-unasks sub mark (apart-any s v mark may)) (making database_by_history now who stmt) (where_of stmt) who h
     (allowed (is_waiting who (waiting h)) (has_open who h) (block who h) (where_of stmt))
     (unasks-form h l distinct q c sub set nodes has now who stmt) (unasks-form (sight_taken who ∷ h) (next l (looks who)) distinct q c sub set nodes has now who stmt)).1
 
-pub unasks-turn : (h : History) → Legal h → Distinct h → (q : ℕ) (c : List ℕ) (sub : ℕ) → queue_of_set (queues h) (node h) ≡ Some q → is_of_node c (node h) ≡ true → subscription_id q c h ≡ Some sub → (now : ℤ) (who : ℕ) (stmt : Stmt)
-    → EachMark (unasks sub) (database_turn database_by_history h now who stmt).marks
-unasks-turn h l distinct q c sub set nodes has now who stmt =
+pub unasks-does : (h : History) → Legal h → Distinct h → (q : ℕ) (c : List ℕ) (sub : ℕ) → queue_of_set (queues h) (node h) ≡ Some q → is_of_node c (node h) ≡ true → subscription_id q c h ≡ Some sub
+    → (call : DatabaseCall) → is_served call ≡ false → EachMark (unasks sub) (database_does database_by_history h call).marks
+unasks-does h l distinct q c sub set nodes has (stepped who stmt now) own =
     let marks : List Mark = (statement database_by_history h now who stmt).marks in
     let there : History = behind_marks (within_part database_by_history now) h marks in
     each-append (unasks sub) marks (settling (within_part database_by_history now) there).marks (unasks-statement h l distinct q c sub set nodes has now who stmt)
     (each-map is_apart (unasks sub) (apart-unasks sub) (settling (within_part database_by_history now) there).marks (apart-settling there now))
+unasks-does h l distinct q c sub set nodes has (served call) own = absurd (cc own)
+unasks-does h l distinct q c sub set nodes has call own = each-map is_apart (unasks sub) (apart-unasks sub) (database_does database_by_history h call).marks (apart-does h call refl)

@@ -79,7 +79,6 @@ fresh-clean h call l clean sub less =
 -- ---- sessions and daemons
 
 among-before_mark : (h : History) (mark : Mark) (c : List ℕ) → is_sessions mark ≡ true → is_among c (set_consumers (node (mark ∷ h))) ≡ true → is_among c (set_consumers (node h)) ≡ true
-among-before_mark h (noded (root_made name queue)) c e is = absurd (cc is)
 among-before_mark h (noded mark) c e is = absurd (cc e)
 among-before_mark h mark c e is = is
 
@@ -128,7 +127,6 @@ is_unjoined (queued (registered q name sub tick)) = false
 is_unjoined (queued (put q e)) = false
 is_unjoined (queued (asked r)) = false
 is_unjoined (noded (joined c)) = false
-is_unjoined (noded (root_made name queue)) = false
 is_unjoined mark = true
 
 unjoined-clean : (h : History) (mark : Mark) (sub : ℕ) → is_unjoined mark ≡ true → IsClean sub h → IsClean sub (mark ∷ h)
@@ -148,7 +146,7 @@ leaf-back c f (Some (of_leaf l)) is = is
 
 among-back : (h : History) (mark : Mark) (c : List ℕ) → is_unjoined mark ≡ true → is_among c (set_consumers (node (mark ∷ h))) ≡ true → is_among c (set_consumers (node h)) ≡ true
 among-back h (noded (joined d)) c e is = absurd (cc e)
-among-back h (noded (root_made name queue)) c e is = absurd (cc e)
+among-back h (noded (root_made name queue)) c e is = absurd (cc is)
 among-back h (noded (leaf_made name provider tick)) c e is = absurd (cc is)
 among-back h (noded (set_added table)) c e is = root-back c _ (node h) (λ r there. there) is
 among-back h (noded (set_removed table)) c e is = root-back c _ (node h) (λ r there. there) is

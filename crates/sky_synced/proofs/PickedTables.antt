@@ -5,40 +5,33 @@ use Rattle.std.specs.List.{list_any}
 use Rattle.std.proofs.lemmas.Bool.{and_parts}
 use Rattle.std.proofs.lemmas.List.Elements.{All-nil, All-cons, All-head, All-tail}
 use Rattle.sky_val.specs.declared.event.Event.{Event}
-use Rattle.sky_keys.specs.Waits.{is_waiting}
 use Rattle.sky_names.specs.Places.{place_of}
 use Rattle.sky_names.proofs.PlaceLemmas.{same_name}
 use Rattle.sky_txid.specs.Snapshot.{SnapshotView, sees}
 use Rattle.londiste_state.specs.Nodes.{Node, of_root, of_leaf, Leaf, LeafTable, table_of}
 use Rattle.sky_model.specs.declared.reply.Reply.TheVariants.{Null}
 use Rattle.sky_model.specs.History.{Mark, Pick, of_synced, copy_of, of_worker, began, ended, tabled, wrote, noded, applied, History}
-use Rattle.sky_model.specs.Sessions.{has_open, block, session}
-use Rattle.sky_model.specs.Locks.{waiting}
 use Rattle.sky_model.specs.Rows.{table_names}
 use Rattle.sky_model.specs.Nodes.{node}
 use Rattle.sky_model.specs.State.{RowPart, after_part, Database, database_of}
 use Rattle.sky_model.specs.Outcome.{Checked, ◌>>=◌, answers, marks_of}
 use Rattle.sky_model.specs.OwnTransaction.{next_id}
-use Rattle.sky_model.specs.Allowed.{allowed}
-use Rattle.sky_model.specs.Made.{takes_sight}
 use Rattle.sky_model.specs.Reader.{part_by_history, database_by_history}
 use Rattle.sky_model.specs.Settling.{marked}
-use Rattle.sky_model.specs.SessionMarks.{entry_place}
 use Rattle.sky_model.specs.StepApply.{is_change, is_of_table, is_synced, has_synced, kept_snapshot, picks, may_apply, picked, change_write, work_write, applies_event, write_then, applies_events, applies_in, ends_applying, is_of_copied, applies_picked, applies_batch}
 use Rattle.sky_model.specs.StepNode.{NodeCall, applying, node_does}
 use Rattle.sky_model.specs.Promises.{after_all}
-use Rattle.sky_model.specs.DatabaseCalls.{DatabaseCall, stepped, entered, failed, worked, served, database_does, database_part}
+use Rattle.sky_model.specs.DatabaseCalls.{DatabaseCall, served, database_does, database_part}
 use Rattle.sky_model.specs.World.{history_in}
-use Rattle.sky_model.specs.Daemon.{daemon_does}
-use Rattle.sky_model.specs.Calls.{database_turn, Call, past_of}
+use Rattle.sky_model.specs.Calls.{Call, past_of}
 use Rattle.sky_histories.proofs.ApplyCalls.{IsWritten, event-written}
 use Rattle.sky_histories.proofs.InCopyTables.{leaf_table}
 use Rattle.sky_histories.proofs.Histories.{histories_are_made_by_own_calls}
-use Rattle.sky_histories.proofs.NodeCalls.{is_for_others, each-other}
 use Rattle.sky_histories.proofs.Resting.{behind-append}
 use Rattle.sky_histories.proofs.StatementMarks.{EachMark, each-map, each-rest, when-true}
 use Rattle.sky_model.proofs.Cases.{by_test}
-use Rattle.sky_replicas.proofs.SessionsMarks.{is_sessions, sessions-turn, sessions-enters, sessions-fails, sessions-daemon}
+use Rattle.sky_replicas.proofs.CallMarks.{CallKinds, may_be, kinds_of, each-does}
+use Rattle.sky_replicas.proofs.SessionsMarks.{is_sessions, sessions-does}
 
 -- whether events of a leaf's table may be picked: it is in sync, or has a kept snapshot
 abbrev pub may_pick : Option LeafTable → Bool
@@ -82,9 +75,9 @@ sessions-none : (mark : Mark) → is_sessions mark ≡ true → is_none mark ≡
 sessions-none (tabled (wrote of_worker t n key old new)) e = absurd (cc e)
 sessions-none mark e = refl
 
-others-none : (mark : Mark) → is_for_others mark ≡ true → is_none mark ≡ true
-others-none (tabled (wrote of_worker t n key old new)) e = absurd (cc e)
-others-none mark e = refl
+none-if : (k : CallKinds) → k.applies ≡ false → (mark : Mark) → may_be k mark ≡ true → is_none mark ≡ true
+none-if k none (tabled (wrote of_worker t n key old new)) e = absurd (cc (sym none ∙ e))
+none-if k none mark e = refl
 
 -- ---- a batch
 
@@ -182,7 +175,7 @@ batch-picked h es pick tick all = by_may (may_apply pick (node h))
 
 node-picked : (h : History) (call : NodeCall) → AllPicked h → AllPicked (marked h (marks_of (node_does (database_of h) call)))
 node-picked h (applying es pick tick) all = batch-picked h es pick tick all
-node-picked h call all = none-marks h (marks_of (node_does (database_of h) call)) (each-other is_none others-none (database_of h) call refl) all
+node-picked h call all = none-marks h (marks_of (node_does (database_of h) call)) (each-does is_none call (none-if (kinds_of call) refl) (database_of h)) all
 
 -- ---- all calls
 
@@ -190,13 +183,8 @@ after-sessions : (h : History) (marks : List Mark) → EachMark is_sessions mark
 after-sessions h marks each all = none-marks h marks (each-map is_sessions is_none sessions-none marks each) all
 
 after-does : (h : History) (call : DatabaseCall) → AllPicked h → AllPicked (marked h (database_does database_by_history h call).marks)
-after-does h (stepped who stmt now) all = after-sessions h (database_turn database_by_history h now who stmt).marks (sessions-turn h now who stmt) all
-after-does h (entered who alone) all =
-    after-sessions h (database_does database_by_history h (entered who alone)).marks
-    (sessions-enters who (takes_sight (entry_place alone) (session h who).sight) (allowed (is_waiting who (waiting h)) (has_open who h) (block who h) (entry_place alone))) all
-after-does h (failed who now) all = after-sessions h (database_does database_by_history h (failed who now)).marks (sessions-fails h now who) all
-after-does h (worked part now) all = after-sessions h (daemon_does database_by_history h part now).marks (sessions-daemon h part now) all
 after-does h (served call) all = node-picked h call all
+after-does h call all = after-sessions h (database_does database_by_history h call).marks (sessions-does h call refl) all
 
 picked-calls : (calls : List DatabaseCall) → AllPicked (after_all database_part calls)
 picked-calls [] = tt

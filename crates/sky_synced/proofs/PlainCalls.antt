@@ -1,20 +1,19 @@
 -- Calls for nodes that leave the tables of leaves as they are.
-use Rattle.std.proofs.Common.{◌≡◌, ℕ, List, [], ◌∷◌, ◌++◌, map, Bool, true, false, refl}
+use Rattle.std.proofs.Common.{◌≡◌, ℕ, List, [], ◌∷◌, ◌++◌, map, Bool, true, false, refl, not, arith, ◌||◌}
 use Rattle.londiste_state.specs.declared.state.TableState.TheVariants.{Absent, InCopy}
 use Rattle.sky_model.specs.declared.reply.Reply.TheVariants.{Null}
 use Rattle.sky_model.specs.History.{Mark, of_worker, tabled, wrote, noded, set_removed, leaf_added, state_set, copied, applied, within, Past}
 use Rattle.sky_model.specs.Copies.{copy_txid}
 use Rattle.sky_model.specs.State.{Database, database_of}
 use Rattle.sky_model.specs.Outcome.{Outcome, Checked, answers}
-use Rattle.sky_model.specs.StepNode.{NodeCall, joining, parting, fetching, finishing, making_leaf, adding, removing, moving, listing, unlisting, ending_copy, applying, set_queue, lists, table_number, may_serve, call_form, node_does}
+use Rattle.sky_model.specs.StepNode.{NodeCall, moving, lists, table_number, may_serve, call_form, node_does}
 use Rattle.sky_model.specs.World.{history_in, on_top}
 use Rattle.sky_histories.proofs.CopyCalls.{gives-there}
-use Rattle.sky_histories.proofs.NodeCalls.{is_for_consumers, is_consumers, gives-consumers}
-use Rattle.sky_histories.proofs.StatementMarks.{EachMark, each-rest, each-given, when-true, Gives, gives-map, AnyReply, after, either}
+use Rattle.sky_histories.proofs.StatementMarks.{EachMark, each-rest, each-given, when-true, Gives, AnyReply, after, either}
 use Rattle.sky_replicas.proofs.SessionsMarks.{is_sessions}
 use Rattle.sky_replicas.proofs.CallPasts.{call_marks, called, after_calls}
 use Rattle.sky_synced.proofs.Going.{MarkSuits, KeptGoes, suits-step}
-use Rattle.sky_synced.proofs.CopyingCalls.{is_copying, gives-copying, given_up-then}
+use Rattle.sky_replicas.proofs.CallMarks.{CallKinds, may_be, kinds_of, gives-call, given_up-then}
 
 -- whether a mark is such a one: no table leaves a set or joins a leaf by it, goes on from a copy, or is copied or written by a worker
 abbrev pub is_plain : Mark → Bool
@@ -62,55 +61,32 @@ sessions-plain mark is = refl
 abbrev pub Plain : Checked Outcome → Type 0
 Plain c = Gives AnyReply is_plain c
 
-consumers-plain : (mark : Mark) → is_for_consumers mark ≡ true → is_plain mark ≡ true
-consumers-plain (noded (set_removed name)) e = absurd (cc e)
-consumers-plain (noded (leaf_added name)) e = absurd (cc e)
-consumers-plain (noded (state_set name state)) e = absurd (cc e)
-consumers-plain (noded (copied name under tick)) e = absurd (cc e)
-consumers-plain (noded (applied pick tick)) e = absurd (cc e)
-consumers-plain (tabled (wrote of_worker t table key old new)) e = absurd (cc e)
-consumers-plain mark e = refl
+-- kinds of such marks
+abbrev pub are_plain : CallKinds → Bool
+are_plain k = not (k.unlists || k.adds || k.moves || k.ends_copy || k.applies)
 
-plain-consumers : (d : Database) (call : NodeCall) → is_consumers call ≡ true → Plain (call_form d call)
-plain-consumers d call e = gives-map AnyReply AnyReply is_for_consumers is_plain (λ reply any. any) consumers-plain (call_form d call) (gives-consumers d call e)
-
-copying-plain : (mark : Mark) → is_copying mark ≡ true → is_plain mark ≡ true
-copying-plain (noded (set_removed name)) e = absurd (cc e)
-copying-plain (noded (leaf_added name)) e = absurd (cc e)
-copying-plain (noded (state_set name state)) e = absurd (cc e)
-copying-plain (noded (copied name under tick)) e = absurd (cc e)
-copying-plain (noded (applied pick tick)) e = absurd (cc e)
-copying-plain (tabled (wrote of_worker t table key old new)) e = absurd (cc e)
-copying-plain mark e = refl
+plain-if : (k : CallKinds) → are_plain k ≡ true → (mark : Mark) → may_be k mark ≡ true → is_plain mark ≡ true
+plain-if k plain (noded (set_removed name)) e = absurd (grind (arith, plain, e))
+plain-if k plain (noded (leaf_added name)) e = absurd (grind (arith, plain, e))
+plain-if k plain (noded (state_set name state)) e = absurd (grind (arith, plain, e))
+plain-if k plain (noded (copied name under tick)) e = absurd (grind (arith, plain, e))
+plain-if k plain (noded (applied pick tick)) e = absurd (grind (arith, plain, e))
+plain-if k plain (tabled (wrote of_worker t table key old new)) e = absurd (grind (arith, plain, e))
+plain-if k plain mark e = refl
 
 -- whether a call leaves them so
 abbrev pub is_plain_call : NodeCall → Bool
-is_plain_call (adding name) = false
 is_plain_call (moving name InCopy) = true
-is_plain_call (moving name state) = false
-is_plain_call (unlisting name) = false
-is_plain_call (ending_copy name under tick) = false
-is_plain_call (applying events pick tick) = false
-is_plain_call call = true
+is_plain_call call = are_plain (kinds_of call)
 
 pub plain-lists : (d : Database) (queue table : ℕ) (name : List ℕ) → Plain (lists d queue table name)
 plain-lists d queue table name = search (after)
 
 plain-form : (d : Database) (call : NodeCall) → is_plain_call call ≡ true → Plain (call_form d call)
-plain-form d (adding name) e = absurd (cc e)
-plain-form d (moving name InCopy) e = gives-there is_plain (table_number d name) _ (λ table. (tt, given_up-then is_plain copying-plain table name (copy_txid table d.copies) (noded (state_set name InCopy) ∷ []) tt))
+plain-form d (moving name InCopy) e =
+    gives-there is_plain (table_number d name) _ (λ table. (tt, given_up-then is_plain (λ n t. refl) (λ n. refl) table name (copy_txid table d.copies) (noded (state_set name InCopy) ∷ []) tt))
 plain-form d (moving name state) e = absurd (cc e)
-plain-form d (unlisting name) e = absurd (cc e)
-plain-form d (ending_copy name under tick) e = absurd (cc e)
-plain-form d (applying events pick tick) e = absurd (cc e)
-plain-form d (making_leaf name provider tick) e = (tt, tt)
-plain-form d (removing name) e = gives-there is_plain (table_number d name) _ (λ table. (tt, given_up-then is_plain copying-plain table name (copy_txid table d.copies) _ tt))
-plain-form d (listing name) e = gives-there is_plain (set_queue d) _ (λ queue. gives-there is_plain (table_number d name) _ (λ table. plain-lists d queue table name))
-plain-form d (joining consumer) e = plain-consumers d (joining consumer) refl
-plain-form d (parting consumer) e = plain-consumers d (parting consumer) refl
-plain-form d (fetching consumer) e = plain-consumers d (fetching consumer) refl
-plain-form d (finishing batch) e = plain-consumers d (finishing batch) refl
-plain-form d call e = gives-copying is_plain copying-plain d call refl
+plain-form d call e = gives-call is_plain call (plain-if (kinds_of call) e) d
 
 pub plain-does : (d : Database) (call : NodeCall) → is_plain_call call ≡ true → Plain (node_does d call)
 plain-does d call e = either AnyReply is_plain (may_serve call d.node) (call_form d call) (answers Null) (plain-form d call e) (tt, tt)

@@ -5,7 +5,8 @@ use Rattle.sky_val.specs.Entries.{at}
 use Rattle.sky_val.specs.Schemas.{key_columns}
 use Rattle.sky_keys.specs.Waits.{is_waiting}
 use Rattle.sky_names.specs.Places.{place_of}
-use Rattle.sky_model.specs.declared.stmt.Stmt.TheVariants.{Row}
+use Rattle.sky_model.specs.declared.stmt.Stmt.TheVariants.{Db}
+use Rattle.sky_model.specs.declared.stmt.DbStmt.TheVariants.{Row}
 use Rattle.sky_model.specs.declared.stmt.RowStmt.TheVariants.{Get, Scan}
 use Rattle.sky_model.specs.declared.stmt.Where.TheVariants.{WhenReading}
 use Rattle.sky_model.specs.declared.reply.Reply.{Reply}
@@ -25,11 +26,11 @@ use Rattle.sky_model.specs.Made.{Making, takes_sight, runs, looking, runs_if}
 use Rattle.sky_model.specs.Reader.{shown_in, by_past, database_by_history, within_part}
 use Rattle.sky_model.specs.Settling.{Turn, turn_of, rests, ready, goes_on, settles, with_settling}
 use Rattle.sky_model.specs.World.{world_of, session_names, home, history_in}
-use Rattle.sky_model.specs.Calls.{form, making, statement, may_make, session_does, Call, called, answers_of, past_of}
+use Rattle.sky_model.specs.Calls.{form, making, statement, db_stmt_does, Call, called, answers_of, past_of}
 use Rattle.sky_histories.proofs.Histories.{histories_are_made_by_own_calls, same-turn-within}
 use Rattle.sky_laws.proofs.LockLaws.{nothing_is_ready}
 use Rattle.sky_histories.proofs.Good.{same-session}
-use Rattle.sky_synced.specs.LawsOfSeen.{ScansPrintRowsShown, row_reply, GetsPrintRowsShown}
+use Rattle.sky_synced.specs.LawsOfSeen.{may_make, ScansPrintRowsShown, row_reply, GetsPrintRowsShown}
 
 -- ---- rows where a sight is just taken
 
@@ -104,10 +105,10 @@ module _ (calls : List Call) (name : List ℕ) (who d : ℕ) where
       ap (λ o. after_marks_of [] (tells (database_of g) now (found_or o (NoTable table) >>= (λ t. answers (replies.Rows (map (λ e. e.1) (rows_shown who t g))))))) there
 
   pub scan-prints : (table : List ℕ) (n : ℕ) → place_of name (session_names past) ≡ Some who → home past who ≡ Some d → may_make (database_of h) who (Row (Scan table)) ≡ true → place_of table (table_names h) ≡ Some n
-      → answers_of past (record { who = name; stmt = Row (Scan table) }) ≡ (who, replies.Rows (map (λ e. e.1) (rows_shown who n h))) ∷ []
+      → answers_of past (record { who = name; stmt = Db (Row (Scan table)) }) ≡ (who, replies.Rows (map (λ e. e.1) (rows_shown who n h))) ∷ []
   scan-prints table n called_is home_is may there =
-      ap (λ o. (called by_past past (record { who = name; stmt = Row (Scan table) }) o).answers) called_is
-      ∙ ap (λ o. (session_does by_past past who (Row (Scan table)) o).answers) home_is
+      ap (λ o. (called by_past past (record { who = name; stmt = Db (Row (Scan table)) }) o).answers) called_is
+      ∙ ap (λ o. (db_stmt_does by_past past who (Row (Scan table)) o).answers) home_is
       ∙ ap (λ (x : Turn). x.answers) (same-turn-within past d now who (Row (Scan table)))
       ∙ turn-reads h who reply now idle (statement database_by_history h now who (Row (Scan table)))
       (runs-reads h who reply (making database_by_history now who (Row (Scan table))) refl (scan-form table n h there)
@@ -132,10 +133,10 @@ module _ (calls : List Call) (name : List ℕ) (who d : ℕ) where
 
   pub get-prints : (table : List ℕ) (key : List Val) (n : ℕ) → place_of name (session_names past) ≡ Some who → home past who ≡ Some d → may_make (database_of h) who (Row (Get table key)) ≡ true
       → place_of table (table_names h) ≡ Some n → fits (key_columns (columns_of n h)) key ≡ Ok tt
-      → answers_of past (record { who = name; stmt = Row (Get table key) }) ≡ (who, row_reply (at key (rows_shown who n h))) ∷ []
+      → answers_of past (record { who = name; stmt = Db (Row (Get table key)) }) ≡ (who, row_reply (at key (rows_shown who n h))) ∷ []
   get-prints table key n called_is home_is may there fit =
-      ap (λ o. (called by_past past (record { who = name; stmt = Row (Get table key) }) o).answers) called_is
-      ∙ ap (λ o. (session_does by_past past who (Row (Get table key)) o).answers) home_is
+      ap (λ o. (called by_past past (record { who = name; stmt = Db (Row (Get table key)) }) o).answers) called_is
+      ∙ ap (λ o. (db_stmt_does by_past past who (Row (Get table key)) o).answers) home_is
       ∙ ap (λ (x : Turn). x.answers) (same-turn-within past d now who (Row (Get table key)))
       ∙ turn-reads h who reply now idle (statement database_by_history h now who (Row (Get table key)))
       (runs-reads h who reply (making database_by_history now who (Row (Get table key))) refl (get-form table key n h there fit)

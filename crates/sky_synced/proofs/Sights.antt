@@ -1,29 +1,21 @@
 -- Each session's sight is the place after some of the calls: none is taken in the midst of one.
-use Rattle.std.proofs.Common.{◌≡◌, ℕ, ℤ, ◌==◌, List, [], ◌∷◌, ◌++◌, map, length, nat_le, Bool, true, false, ◌&&◌, Option, Some, None, is_some, ◌⊎◌, inl, inr, refl, sym, ap, subst, ◌∙◌, if◌then◌else◌}
-use Rattle.sky_names.specs.Places.{place_of}
-use Rattle.sky_model.specs.declared.stmt.Stmt.{Stmt}
-use Rattle.sky_model.specs.declared.stmt.Stmt.TheVariants.{CreateRoot, Node as OnNodes, Clock}
-use Rattle.sky_model.specs.declared.daemon.DaemonPart.{DaemonPart}
-use Rattle.sky_model.specs.History.{Mark, repeats, sight_taken, block_failed, block_ended, History, Fact, appeared, founded, entered, within, Past}
+use Rattle.std.proofs.Common.{◌≡◌, ℕ, ◌==◌, List, [], ◌∷◌, ◌++◌, map, true, false, ◌⊎◌, inl, inr, refl, sym, ap, subst, ◌∙◌, if◌then◌else◌}
+use Rattle.sky_model.specs.History.{Mark, repeats, sight_taken, block_failed, block_ended, History, Fact, within, Past}
 use Rattle.sky_model.specs.Sessions.{Sight, at_each, at_first, at_place, sight, place_of_sight}
 use Rattle.sky_model.specs.State.{database_of}
 use Rattle.sky_model.specs.Outcome.{marks_of}
-use Rattle.sky_model.specs.Reader.{by_past, within_database, Deed, appears}
-use Rattle.sky_model.specs.Settling.{Turn, marked}
-use Rattle.sky_model.specs.Daemon.{daemon_does}
-use Rattle.sky_model.specs.Clock.{deed_in, waits_at}
+use Rattle.sky_model.specs.Settling.{marked}
 use Rattle.sky_model.specs.StepNode.{NodeCall, node_does}
-use Rattle.sky_model.specs.NodesOfWorld.{node_called}
-use Rattle.sky_model.specs.World.{world_of, session_names, database_names, home, history_in, on_top}
-use Rattle.sky_model.specs.Calls.{opening, opens, outside_does, may_make, beside, database_turn, gets_node, node_if, does_at, session_does, turn, Call, called, past_of}
-use Rattle.sky_histories.proofs.Histories.{same-turn-within, same-daemon-within}
-use Rattle.sky_histories.proofs.PastHistories.{on_top-append, history-marks, AreOutside, history-outside, beside-outside}
-use Rattle.sky_histories.proofs.ClockSteps.{after-clock}
-use Rattle.sky_histories.proofs.NodeDeeds.{node-quiet, after-node_does}
+use Rattle.sky_model.specs.World.{history_in, on_top}
+use Rattle.sky_model.specs.Calls.{Call, past_of}
+use Rattle.sky_model.specs.DatabaseCalls.{DatabaseCall}
+use Rattle.sky_histories.proofs.PastHistories.{history-marks}
+use Rattle.sky_histories.proofs.NodeDeeds.{after-node_does}
 use Rattle.sky_histories.proofs.StatementMarks.{EachMark, each-rest, when-true}
 use Rattle.sky_model.proofs.Cases.{by_test}
 use Rattle.sky_synced.specs.LawsOfSeen.{SeesAfter, SightsAreAfterCalls}
-use Rattle.sky_synced.proofs.SightMarks.{takes_none, LooksFirst, with_look, without_look, looks-turn, none-daemon, none-node}
+use Rattle.sky_replicas.proofs.EachCall.{AreSame, is_beside, is_daemons, marks_in, after-call}
+use Rattle.sky_synced.proofs.SightMarks.{takes_none, LooksFirst, with_look, without_look, looks-does, none-daemon, none-node}
 
 -- ---- marks
 
@@ -54,11 +46,12 @@ KeepsSights from now = (d v : ℕ) (k : History) → sight v (history_in now d) 
 unchanged : (past : Past) → KeepsSights past past
 unchanged past d v k is = inl is
 
-kept-turn : (past : Past) (e : ℕ) (marks : List Mark) (outside : List Fact) → LooksFirst marks → AreOutside outside → KeepsSights past (on_top past (map (within e) marks ++ outside))
-kept-turn past e marks outside look beside_it d v k is =
-    by_test (λ b. sight v (if b then marked (history_in past d) marks else history_in past d) ≡ at_place k → (sight v (history_in past d) ≡ at_place k) ⊎ (history_in past d ≡ k)) (e == d)
-    (λ _ now. sight-first v k (history_in past d) marks look now) (λ _ still. inl still)
-    (sym (ap (sight v) (history-outside past (map (within e) marks) outside d beside_it ∙ history-marks past e marks d)) ∙ is)
+-- marks of a turn that begins where the histories are as before it
+kept-turn : (past p : Past) (e : ℕ) (marks : List Mark) → LooksFirst marks → AreSame p past → KeepsSights past (on_top p (map (within e) marks))
+kept-turn past p e marks look same d v k is =
+    subst (λ h. (sight v h ≡ at_place k) ⊎ (h ≡ k)) (same d)
+    (by_test (λ b. sight v (if b then marked (history_in p d) marks else history_in p d) ≡ at_place k → (sight v (history_in p d) ≡ at_place k) ⊎ (history_in p d ≡ k)) (e == d)
+    (λ _ now. sight-first v k (history_in p d) marks look now) (λ _ still. inl still) (sym (ap (sight v) (history-marks p e marks d)) ∙ is))
 
 kept-marks : (past p : Past) (e : ℕ) (marks : List Mark) → EachMark takes_none marks → KeepsSights past p → KeepsSights past (on_top p (map (within e) marks))
 kept-marks past p e marks each kept d v k is =
@@ -66,60 +59,30 @@ kept-marks past p e marks each kept d v k is =
     (by_test (λ b. sight v (if b then marked (history_in p d) marks else history_in p d) ≡ at_place k → sight v (history_in p d) ≡ at_place k) (e == d)
     (λ _ now. sight-marks v k marks (history_in p d) each now) (λ _ still. still) (sym (ap (sight v) (history-marks p e marks d)) ∙ is))
 
-kept-deed : (past : Past) (d who : ℕ) (stmt : Stmt) (outside : List Fact) → AreOutside outside
-    → KeepsSights past (on_top past (deed_in d outside (database_turn (within_database by_past d) past (world_of past).now who stmt)).facts)
-kept-deed past d who stmt outside beside_it =
-    let now : ℤ = (world_of past).now in
-    kept-turn past d (database_turn (within_database by_past d) past now who stmt).marks outside
-    (subst (λ (x : Turn). LooksFirst x.marks) (sym (same-turn-within past d now who stmt)) (looks-turn (history_in past d) now who stmt)) beside_it
-
-kept-if : (past : Past) (b : Bool) (x y : Deed) → KeepsSights past (on_top past x.facts) → KeepsSights past (on_top past y.facts) → KeepsSights past (on_top past (if b then x else y).facts)
-kept-if past true x y kept also = kept
-kept-if past false x y kept also = also
-
-kept-opens : (past : Past) (who : ℕ) (stmt : Stmt) (name : List ℕ) (found : Option ℕ) → KeepsSights past (on_top past (opens by_past past who stmt name found).facts)
-kept-opens past who stmt name (Some d) = kept-deed past d who stmt (entered who d ∷ []) (λ p n. refl)
-kept-opens past who stmt name None =
-    let d : ℕ = length (database_names past) in
-    kept-if past (nat_le 16 d) _ _ (unchanged past) (kept-deed (founded name ∷ past) d who stmt (entered who d ∷ []) (λ p n. refl))
-
-kept-outside : (past : Past) (who : ℕ) (stmt : Stmt) (name : Option (List ℕ)) → KeepsSights past (on_top past (outside_does by_past past who stmt name).facts)
-kept-outside past who stmt None = unchanged past
-kept-outside past who stmt (Some name) = kept-opens past who stmt name (place_of name (database_names past))
-
 kept-called : (past p : Past) (e : ℕ) (call : NodeCall) → KeepsSights past p → KeepsSights past (on_top p (map (within e) (marks_of (node_does (database_of (history_in p e)) call))))
 kept-called past p e call kept = kept-marks past p e (marks_of (node_does (database_of (history_in p e)) call)) (none-node (database_of (history_in p e)) call) kept
 
-kept-at : (past : Past) (who : ℕ) (stmt : Stmt) (d : ℕ) → KeepsSights past (on_top past (does_at by_past past who stmt d).facts)
-kept-at past who (OnNodes s) d =
-    after-node_does (KeepsSights past) (λ p e kept. kept) (λ p e table hand kept. kept) (λ p e batch kept. kept) (λ p e call kept. kept-called past p e call kept) past who s d
-    (kept-deed past d who (OnNodes s) [] (λ p n. refl)) (unchanged past)
-kept-at past who (CreateRoot name queue) d =
-    let within_it : Turn = database_turn (within_database by_past d) past (world_of past).now who (CreateRoot name queue) in
-    let got : Bool = gets_node ((world_of past).database d) within_it in
-    kept-if past (may_make ((world_of past).database d) who (CreateRoot name queue) && is_some (node_called (world_of past) name)) _ _ (unchanged past)
-    (kept-deed past d who (CreateRoot name queue) (node_if got d) (node-quiet got d).histories)
-kept-at past who stmt d = kept-deed past d who stmt (beside (world_of past) who stmt d) (beside-outside (world_of past) who stmt d)
+kept-does : (past p : Past) (e : ℕ) (call : DatabaseCall) → (is_daemons call ≡ false → AreSame p past) → KeepsSights past p → KeepsSights past (on_top p (map (within e) (marks_in p e call)))
+kept-does past p e call same kept =
+    by_test (λ b. is_daemons call ≡ b → KeepsSights past (on_top p (map (within e) (marks_in p e call)))) (is_daemons call)
+    (λ _ works. kept-marks past p e (marks_in p e call) (none-daemon (history_in p e) call works) kept) (λ _ own. kept-turn past p e (marks_in p e call) (looks-does (history_in p e) call) (same own)) refl
 
-kept-session : (past : Past) (who : ℕ) (stmt : Stmt) (at : Option ℕ) → KeepsSights past (on_top past (session_does by_past past who stmt at).facts)
-kept-session past who stmt None = kept-outside past who stmt (opening stmt)
-kept-session past who stmt (Some d) = kept-at past who stmt d
+kept-aside : (past p : Past) (fact : Fact) → is_beside fact ≡ true → KeepsSights past p → KeepsSights past (fact ∷ p)
+kept-aside past p (within d mark) e kept = absurd (cc e)
+kept-aside past p _ e kept = kept
 
-kept-works : (past p : Past) (d : ℕ) (part : DaemonPart) (now : ℤ) → KeepsSights past p → KeepsSights past (on_top p (map (within d) (daemon_does (within_database by_past d) p part now).marks))
-kept-works past p d part now kept =
-    kept-marks past p d (daemon_does (within_database by_past d) p part now).marks
-    (subst (λ (x : Turn). EachMark takes_none x.marks) (sym (same-daemon-within p d part now)) (none-daemon (history_in p d) part now)) kept
-
-kept-statement : (past : Past) (who : ℕ) (stmt : Stmt) → KeepsSights past (on_top past (turn by_past who stmt past).facts)
-kept-statement past who (Clock time) = after-clock (KeepsSights past) (λ p moment kept. kept) (kept-works past) past who time (waits_at (world_of past) who (home past who)) (unchanged past)
-kept-statement past who stmt = kept-session past who stmt (home past who)
-
-kept-call : (past : Past) (call : Call) (found : Option ℕ) → KeepsSights past (on_top past (called by_past past call found).facts)
-kept-call past call (Some who) = kept-statement past who call.stmt
-kept-call past call None =
-    let who : ℕ = length (session_names past) in
-    kept-if past (nat_le 256 who) _ _ (unchanged past)
-    (subst (KeepsSights past) (sym (on_top-append past (appears call.who).facts (turn by_past who call.stmt (appeared call.who ∷ past)).facts)) (kept-statement (appeared call.who ∷ past) who call.stmt))
+kept-call : (call : Call) (calls : List Call) → KeepsSights (past_of calls) (past_of (call ∷ calls))
+kept-call call calls =
+    after-call (λ _. Unit {0}) (λ _. Unit {0}) (KeepsSights past) call calls (record {
+      does = λ p e deed own same kept. kept-does past p e deed same kept;
+      nodes = λ p who s home_is this at refused kept _.
+          after-node_does (KeepsSights past) (λ q e kept. kept) (λ q e table hand kept. kept) (λ q e batch kept. kept) (kept-called past) p who s home_is refused kept;
+      aside = kept-aside past;
+      appears = λ p name at. at;
+    }) tt (λ d v k is. inl is) tt
+  where
+    past : Past
+    past = past_of calls
 
 -- ---- all calls
 
@@ -132,7 +95,7 @@ record IsAfter (calls : List Call) (d : ℕ) (k : History) : Type 0 where
 
 after-some : (calls : List Call) (d v : ℕ) (k : History) → sight v (history_in (past_of calls) d) ≡ at_place k → IsAfter calls d k
 after-some [] d v k is = absurd (cc is)
-after-some (call ∷ calls) d v k is = elim (kept-call (past_of calls) call (place_of call.who (session_names (past_of calls))) d v k is) [
+after-some (call ∷ calls) d v k is = elim (kept-call call calls d v k is) [
   | inl old ↦ let a : IsAfter calls d k = after-some calls d v k old in record { later = call ∷ a.later; upto = a.upto; are = ap (λ cs. call ∷ cs) a.are; is = a.is }
   | inr here ↦ record { later = call ∷ []; upto = calls; are = refl; is = here }
 ]

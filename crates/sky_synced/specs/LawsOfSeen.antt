@@ -1,11 +1,14 @@
 -- The laws on what sessions are shown of replicated tables, after all calls of the world.
-use Rattle.std.specs.Prelude.{◌≡◌, ℕ, true, List, [], ◌∷◌, ◌++◌, Option, Some, None, map, Ok, All, ◌||◌}
+use Rattle.std.specs.Prelude.{◌≡◌, ℕ, Bool, true, is_ok, List, [], ◌∷◌, ◌++◌, Option, Some, None, map, Ok, All, ◌||◌}
 use Rattle.sky_val.specs.declared.val.Val.{Val}
 use Rattle.sky_val.specs.Entries.{Entries, at}
 use Rattle.sky_val.specs.Schemas.{key_columns}
+use Rattle.sky_keys.specs.Waits.{is_waiting}
 use Rattle.sky_names.specs.Places.{place_of}
 use Rattle.londiste_state.specs.Nodes.{of_leaf, Leaf, LeafTable, is_among, table_of}
-use Rattle.sky_model.specs.declared.stmt.Stmt.TheVariants.{Row}
+use Rattle.sky_model.specs.declared.stmt.Stmt.TheVariants.{Db}
+use Rattle.sky_model.specs.declared.stmt.DbStmt.{DbStmt}
+use Rattle.sky_model.specs.declared.stmt.DbStmt.TheVariants.{Row}
 use Rattle.sky_model.specs.declared.stmt.RowStmt.TheVariants.{Get, Scan}
 use Rattle.sky_model.specs.declared.reply.Reply.{Reply}
 use Rattle.sky_model.specs.declared.reply.Reply.TheVariants as replies
@@ -14,12 +17,13 @@ use Rattle.sky_model.specs.Sessions.{own_txid, sight, place_of_sight}
 use Rattle.sky_model.specs.Rows.{table_names, columns_of, rows, put_all, own_writes, rows_shown}
 use Rattle.sky_model.specs.Queues.{at_tick}
 use Rattle.sky_model.specs.Nodes.{node, leaf_tables}
-use Rattle.sky_model.specs.State.{database_of}
+use Rattle.sky_model.specs.State.{Database, database_of}
+use Rattle.sky_model.specs.Allowed.{where_of, allowed}
 use Rattle.sky_model.specs.StepApply.{is_synced}
 use Rattle.sky_model.specs.StepRows.{fits}
 use Rattle.sky_model.specs.NodesOfWorld.{Located, node_called}
 use Rattle.sky_model.specs.World.{world_of, session_names, home, history_in}
-use Rattle.sky_model.specs.Calls.{may_make, Call, answers_of, past_of}
+use Rattle.sky_model.specs.Calls.{Call, answers_of, past_of}
 use Rattle.sky_model.specs.Steps.{IsCallInForm}
 use Rattle.sky_changes.specs.Listing.{later_of}
 use Rattle.sky_synced.specs.Tables.{has_own_tick, tick_of}
@@ -40,11 +44,15 @@ SightsAreAfterCalls = (calls : List Call) (d who : ℕ) → SeesAfter calls d wh
 
 -- ---- what `scan` and `get` print
 
+-- whether a session may make a statement in a database
+abbrev pub may_make : Database → ℕ → DbStmt → Bool
+may_make d who stmt = is_ok (allowed (is_waiting who d.part.waiting) (d.part.session who).is_open (d.part.session who).block (where_of stmt))
+
 -- `scan` prints the rows that its session is shown, by key
 abbrev pub ScansPrintRowsShown : Type 0
 ScansPrintRowsShown = (calls : List Call) (name : List ℕ) (who d : ℕ) (table : List ℕ) (n : ℕ) → (let past : Past = past_of calls in let h : History = history_in past d in
     place_of name (session_names past) ≡ Some who → home past who ≡ Some d → may_make (database_of h) who (Row (Scan table)) ≡ true → place_of table (table_names h) ≡ Some n
-    → answers_of past (record { who = name; stmt = Row (Scan table) }) ≡ (who, replies.Rows (map (λ e. e.1) (rows_shown who n h))) ∷ [])
+    → answers_of past (record { who = name; stmt = Db (Row (Scan table)) }) ≡ (who, replies.Rows (map (λ e. e.1) (rows_shown who n h))) ∷ [])
 
 -- a row, or that there is none
 abbrev pub row_reply : Option (List Val) → Reply
@@ -56,7 +64,7 @@ abbrev pub GetsPrintRowsShown : Type 0
 GetsPrintRowsShown = (calls : List Call) (name : List ℕ) (who d : ℕ) (table : List ℕ) (key : List Val) (n : ℕ) → (let past : Past = past_of calls in let h : History = history_in past d in
     place_of name (session_names past) ≡ Some who → home past who ≡ Some d → may_make (database_of h) who (Row (Get table key)) ≡ true → place_of table (table_names h) ≡ Some n
     → fits (key_columns (columns_of n h)) key ≡ Ok tt
-    → answers_of past (record { who = name; stmt = Row (Get table key) }) ≡ (who, row_reply (at key (rows_shown who n h))) ∷ [])
+    → answers_of past (record { who = name; stmt = Db (Row (Get table key)) }) ≡ (who, row_reply (at key (rows_shown who n h))) ∷ [])
 
 -- ---- what they print on a replica
 

@@ -4,7 +4,6 @@ use Rattle.std.proofs.lemmas.List.{map-append}
 use Rattle.sky_model.specs.History.{Mark, within}
 use Rattle.sky_model.specs.State.{Database, after_marks}
 use Rattle.sky_model.specs.Outcome.{marks_of}
-use Rattle.sky_model.specs.Settling.{ready}
 use Rattle.sky_model.specs.StepNode.{NodeCall, node_does}
 use Rattle.sky_model.specs.World.{World, after_facts}
 use Rattle.sky_model.specs.WorkersOfWorld.{call_facts, calls_facts}
@@ -12,8 +11,6 @@ use Rattle.sky_histories.proofs.DatabaseStanding.{after_marks-append}
 use Rattle.sky_histories.proofs.Good.{same-session}
 use Rattle.londiste_batches.specs.Moved.{after_call, after_calls}
 use Rattle.sky_world.proofs.Worlds.{after_facts-within}
-use Rattle.sky_world.proofs.Resting.{ready-call}
-use Rattle.sky_world.proofs.ServedNodes.{waits-call}
 
 -- their marks
 abbrev pub marks_of_all : Database → List NodeCall → List Mark
@@ -40,13 +37,3 @@ facts-all w d [] = refl
 facts-all w d (call ∷ calls) =
     ap (λ fs. call_facts w d call ++ fs) (facts-all (after_facts w (call_facts w d call)) d calls ∙ ap (λ x. map (within d) (marks_of_all x calls)) (changed-there w d (marks_of (node_does (w.database d) call))))
     ∙ sym (map-append (within d) (marks_of (node_does (w.database d) call)) (marks_of_all (after_call (w.database d) call) calls))
-
--- who waits stays
-pub waits-all : (old new : Database) (calls : List NodeCall) → new ≡ after_calls old calls → new.part.waiting ≡ old.part.waiting
-waits-all old new [] is = ap (λ (d : Database). d.part.waiting) is
-waits-all old new (call ∷ calls) is = waits-all (after_call old call) new calls is ∙ waits-call old call
-
--- and who may resume
-pub ready-all : (old new : Database) (calls : List NodeCall) → new ≡ after_calls old calls → ready new.part ≡ ready old.part
-ready-all old new [] is = ap (λ (d : Database). ready d.part) is
-ready-all old new (call ∷ calls) is = ready-all (after_call old call) new calls is ∙ ready-call old call

@@ -21,8 +21,9 @@ use Rattle.sky_model.specs.StepQueue.{next_tick}
 use Rattle.sky_model.specs.Daemon.{quietly, ticks_of, moved_by, again_if, retries_of, first_steps_of, daemon_does, is_due_at, first_after, earlier, next_due}
 use Rattle.sky_model.specs.LawsOfDaemons.{AreOnSince, NextDueIsFirst}
 use Rattle.sky_model.specs.Clock.{deed_in, part_works, daemon_works, daemons_work, at_moment, goes_to, through, clock_goes, clock}
-use Rattle.sky_world.specs.Views.{WorldView}
-use Rattle.sky_world.specs.Seen.{seen_world}
+use Rattle.sky_world.specs.Views.{StateView}
+use Rattle.sky_world.specs.Seen.{seen_state}
+use Rattle.sky_world.specs.Whole.{IsWhole}
 use Rattle.sky_world.specs.Adds.{AddsDeed}
 use Rattle.sky_world.specs.Works.{Works}
 use Rattle.sky_world.specs.Idle.{Skips}
@@ -52,93 +53,93 @@ earlier-is P due other new both is_due is_other = subst (λ o. IfSome o P) (sym 
 -- ---- the daemons at a moment
 
 -- the daemons of the databases from one on are still to work
-pub record IsWorking (start cur : WorldView) (moment : ℤ) (d : ℕ) : Type 0 where
-  pub same : after_facts (seen_world start) (at_moment by_world moment (seen_world start)).facts
-      ≡ after_facts (seen_world cur) (daemons_work by_world (length start.databases.names - d) d (seen_world cur)).facts
+pub record IsWorking (start cur : StateView) (moment : ℤ) (d : ℕ) : Type 0 where
+  pub same : after_facts (seen_state start) (at_moment by_world moment (seen_state start)).facts
+      ≡ after_facts (seen_state cur) (daemons_work by_world (length start.databases.names - d) d (seen_state cur)).facts
   pub now : cur.now ≡ moment
   pub sessions : cur.sessions.names ≡ start.sessions.names
   pub databases : cur.databases.names ≡ start.databases.names
-  pub failed : cur.has_failed ≡ start.has_failed
+  pub whole : IsWhole cur
 
-pub working-first : (start cur : WorldView) (moment : ℤ) → cur ≡ record start { now = moment } → IsWorking start cur moment 0
-working-first start cur moment stands = record {
+pub working-first : (start cur : StateView) (moment : ℤ) → cur ≡ record start { now = moment } → IsWhole start → IsWorking start cur moment 0
+working-first start cur moment stands whole = record {
   same = ap (λ n. after_facts stood (daemons_work by_world n 0 stood).facts) all
-      ∙ ap (λ (w : WorldView). after_facts (seen_world w) (daemons_work by_world (length start.databases.names - 0) 0 (seen_world w)).facts) (sym stands);
-  now = ap (λ (w : WorldView). w.now) stands;
-  sessions = ap (λ (w : WorldView). w.sessions.names) stands;
-  databases = ap (λ (w : WorldView). w.databases.names) stands;
-  failed = ap (λ (w : WorldView). w.has_failed) stands;
+      ∙ ap (λ (w : StateView). after_facts (seen_state w) (daemons_work by_world (length start.databases.names - 0) 0 (seen_state w)).facts) (sym stands);
+  now = ap (λ (w : StateView). w.now) stands;
+  sessions = ap (λ (w : StateView). w.sessions.names) stands;
+  databases = ap (λ (w : StateView). w.databases.names) stands;
+  whole = subst IsWhole (sym stands) whole;
 }
   where
     stood : World
-    stood = after_fact (seen_world start) (clock_at moment)
+    stood = after_fact (seen_state start) (clock_at moment)
 
     all : length start.databases.names ≡ length start.databases.names - 0
     all = omega arith
 
-pub working-next : (start cur new : WorldView) (moment : ℤ) (d : ℕ) → d < length start.databases.names → IsWorking start cur moment d → Works cur new (daemon_works by_world d (seen_world cur)) → new.has_failed ≡ cur.has_failed
+pub working-next : (start cur new : StateView) (moment : ℤ) (d : ℕ) → d < length start.databases.names → IsWorking start cur moment d → Works cur new (daemon_works by_world d (seen_state cur))
     → IsWorking start new moment (d + 1)
-working-next start cur new moment d lt working works failed = record {
+working-next start cur new moment d lt working works = record {
   same = working.same
-      ∙ ap (λ n. after_facts (seen_world cur) (daemons_work by_world n d (seen_world cur)).facts) one
-      ∙ after_facts-append (seen_world cur) first.facts (daemons_work by_world left (d + 1) (after_facts (seen_world cur) first.facts)).facts
+      ∙ ap (λ n. after_facts (seen_state cur) (daemons_work by_world n d (seen_state cur)).facts) one
+      ∙ after_facts-append (seen_state cur) first.facts (daemons_work by_world left (d + 1) (after_facts (seen_state cur) first.facts)).facts
       ∙ ap (λ w. after_facts w (daemons_work by_world left (d + 1) w).facts) (sym works.changed);
   now = works.now ∙ working.now;
   sessions = works.sessions ∙ working.sessions;
   databases = works.databases ∙ working.databases;
-  failed = failed ∙ working.failed;
+  whole = works.whole;
 }
   where
     left : ℕ
     left = length start.databases.names - (d + 1)
 
     first : Deed
-    first = daemon_works by_world d (seen_world cur)
+    first = daemon_works by_world d (seen_state cur)
 
     one : length start.databases.names - d ≡ suc left
     one = omega (arith, lt)
 
-pub working-last : (start cur : WorldView) (moment : ℤ) (d : ℕ) → length start.databases.names ≤ d → IsWorking start cur moment d
-    → seen_world cur ≡ after_facts (seen_world start) (at_moment by_world moment (seen_world start)).facts
+pub working-last : (start cur : StateView) (moment : ℤ) (d : ℕ) → length start.databases.names ≤ d → IsWorking start cur moment d
+    → seen_state cur ≡ after_facts (seen_state start) (at_moment by_world moment (seen_state start)).facts
 working-last start cur moment d le working =
     let none : 0 ≡ length start.databases.names - d = omega (arith, le) in
-    ap (λ n. after_facts (seen_world cur) (daemons_work by_world n d (seen_world cur)).facts) none ∙ sym working.same
+    ap (λ n. after_facts (seen_state cur) (daemons_work by_world n d (seen_state cur)).facts) none ∙ sym working.same
 
 -- ---- from moment to moment
 
 -- the world once the clock is at a moment
-abbrev pub whole_way : WorldView → ℤ → World
-whole_way start last = way last (unsigned_abs (last -ℤ start.now)) (seen_world start)
+abbrev pub whole_way : StateView → ℤ → World
+whole_way start last = way last (unsigned_abs (last -ℤ start.now)) (seen_state start)
 
 -- what is left to be done up to a moment ends where all does, however many more moments than there are it may take
-pub record IsGoing (start cur : WorldView) (last : ℤ) : Type 0 where
+pub record IsGoing (start cur : StateView) (last : ℤ) : Type 0 where
   pub left : ℕ
   pub enough : unsigned_abs (last -ℤ cur.now) ≤ left
   pub earlier : cur.now ≤ℤ last
-  pub same : whole_way start last ≡ way last left (seen_world cur)
+  pub same : whole_way start last ≡ way last left (seen_state cur)
   pub sessions : cur.sessions.names ≡ start.sessions.names
-  pub failed : cur.has_failed ≡ start.has_failed
+  pub whole : IsWhole cur
 
-pub going-first : (start cur : WorldView) (last : ℤ) → cur ≡ start → start.now ≤ℤ last → IsGoing start cur last
-going-first start cur last is later = subst (λ v. IsGoing start v last) (sym is) (record {
+pub going-first : (start cur : StateView) (last : ℤ) → cur ≡ start → start.now ≤ℤ last → IsWhole start → IsGoing start cur last
+going-first start cur last is later whole = subst (λ v. IsGoing start v last) (sym is) (record {
   left = unsigned_abs (last -ℤ start.now);
   enough = omega arith;
   earlier = later;
   same = refl;
   sessions = refl;
-  failed = refl;
+  whole = whole;
 })
 
-pub going-next : (start cur new : WorldView) (last moment passed : ℤ) → IsGoing start cur last → Some moment ≡ next_due cur.now (seen_world cur).daemons (length cur.databases.names) → cur.now <ℤ moment → passed ≡ moment → moment ≤ℤ last
-    → seen_world new ≡ after_facts (seen_world cur) (at_moment by_world passed (seen_world cur)).facts → new.now ≡ passed → new.sessions.names ≡ cur.sessions.names → new.has_failed ≡ cur.has_failed
+pub going-next : (start cur new : StateView) (last moment passed : ℤ) → IsGoing start cur last → Some moment ≡ next_due cur.now (seen_state cur).daemons (length cur.databases.names) → cur.now <ℤ moment → passed ≡ moment → moment ≤ℤ last
+    → seen_state new ≡ after_facts (seen_state cur) (at_moment by_world passed (seen_state cur)).facts → new.now ≡ passed → new.sessions.names ≡ cur.sessions.names → IsWhole new
     → IsGoing start new last
-going-next start cur new last moment passed going due later same_moment le changed now sessions failed = by going.left going.enough going.same
+going-next start cur new last moment passed going due later same_moment le changed now sessions whole = by going.left going.enough going.same
   where
     first : Deed
-    first = at_moment by_world moment (seen_world cur)
+    first = at_moment by_world moment (seen_state cur)
 
     by : (left : ℕ) → unsigned_abs (last -ℤ cur.now) ≤ left
-        → whole_way start last ≡ way last left (seen_world cur)
+        → whole_way start last ≡ way last left (seen_state cur)
         → IsGoing start new last
     by zero enough same = absurd (omega (arith, ints, enough, later, le))
     by (suc n) enough same = record {
@@ -146,12 +147,12 @@ going-next start cur new last moment passed going due later same_moment le chang
       enough = subst (λ t. unsigned_abs (last -ℤ t) ≤ n) (sym (now ∙ same_moment)) (omega (arith, ints, enough, later, le));
       earlier = subst (λ t. t ≤ℤ last) (sym (now ∙ same_moment)) le;
       same = same
-          ∙ ap (λ o. stood (after_facts (seen_world cur) (goes_to by_world last (through by_world last n) (seen_world cur) o).facts)) (sym due)
-          ∙ ap (λ b. stood (after_facts (seen_world cur) (facts_of (if b then idles else followed by_world (seen_world cur) (through by_world last n) first)))) (is_in_time last moment le)
-          ∙ ap stood (after_facts-append (seen_world cur) first.facts (through by_world last n (after_facts (seen_world cur) first.facts)).facts)
-          ∙ ap (λ w. stood (after_facts w (through by_world last n w).facts)) (sym (changed ∙ ap (λ t. after_facts (seen_world cur) (at_moment by_world t (seen_world cur)).facts) same_moment));
+          ∙ ap (λ o. stood (after_facts (seen_state cur) (goes_to by_world last (through by_world last n) (seen_state cur) o).facts)) (sym due)
+          ∙ ap (λ b. stood (after_facts (seen_state cur) (facts_of (if b then idles else followed by_world (seen_state cur) (through by_world last n) first)))) (is_in_time last moment le)
+          ∙ ap stood (after_facts-append (seen_state cur) first.facts (through by_world last n (after_facts (seen_state cur) first.facts)).facts)
+          ∙ ap (λ w. stood (after_facts w (through by_world last n w).facts)) (sym (changed ∙ ap (λ t. after_facts (seen_state cur) (at_moment by_world t (seen_state cur)).facts) same_moment));
       sessions = sessions ∙ going.sessions;
-      failed = failed ∙ going.failed;
+      whole = whole;
     }
       where
         facts_of : Deed → List Fact
@@ -161,30 +162,30 @@ going-next start cur new last moment passed going due later same_moment le chang
         stood w = after_fact w (clock_at last)
 
 -- moments at which daemons are idle are passed over
-pub going-skipped : NextDueIsFirst → (start cur new : WorldView) (last : ℤ) → IsGoing start cur last → Skips cur new last → AreOnSince cur.now (seen_world cur).daemons → IsGoing start new last
+pub going-skipped : NextDueIsFirst → (start cur new : StateView) (last : ℤ) → IsGoing start cur last → Skips cur new last → AreOnSince cur.now (seen_state cur).daemons → IsGoing start new last
 going-skipped law start cur new last going skips since = subst (λ v. IsGoing start v last) (sym skips.only) (record {
   left = skipped.left;
   enough = skipped.enough;
   earlier = skips.most;
   same = going.same ∙ skipped.same;
   sessions = going.sessions;
-  failed = going.failed;
+  whole = going.whole;
 })
   where
-    skipped : IsSkipped (seen_world cur) last new.now going.left
-    skipped = through-skipped law last new.now going.left (seen_world cur) skips.later skips.most since going.enough skips.idle
+    skipped : IsSkipped (seen_state cur) last new.now going.left
+    skipped = through-skipped law last new.now going.left (seen_state cur) skips.later skips.most since going.enough skips.idle
 
 -- there is no further moment: the clock is set to the last one
-going-last : (start cur new : WorldView) (last : ℤ) (going : IsGoing start cur last) → through by_world last going.left (seen_world cur) ≡ idles → new ≡ record cur { now = last } → seen_world new ≡ whole_way start last
-going-last start cur new last going idle stands = ap seen_world stands ∙ ap (λ (deed : Deed). after_fact (after_facts (seen_world cur) deed.facts) (clock_at last)) (sym idle) ∙ sym going.same
+going-last : (start cur new : StateView) (last : ℤ) (going : IsGoing start cur last) → through by_world last going.left (seen_state cur) ≡ idles → new ≡ record cur { now = last } → seen_state new ≡ whole_way start last
+going-last start cur new last going idle stands = ap seen_state stands ∙ ap (λ (deed : Deed). after_fact (after_facts (seen_state cur) deed.facts) (clock_at last)) (sym idle) ∙ sym going.same
 
-pub going-none : (start cur new : WorldView) (last : ℤ) → IsGoing start cur last → None ≡ next_due cur.now (seen_world cur).daemons (length cur.databases.names) → new ≡ record cur { now = last }
-    → seen_world new ≡ whole_way start last
-going-none start cur new last going none stands = going-last start cur new last going (idle-none last going.left (seen_world cur) none) stands
+pub going-none : (start cur new : StateView) (last : ℤ) → IsGoing start cur last → None ≡ next_due cur.now (seen_state cur).daemons (length cur.databases.names) → new ≡ record cur { now = last }
+    → seen_state new ≡ whole_way start last
+going-none start cur new last going none stands = going-last start cur new last going (idle-none last going.left (seen_state cur) none) stands
 
-pub going-late : (start cur new : WorldView) (last moment : ℤ) → IsGoing start cur last → Some moment ≡ next_due cur.now (seen_world cur).daemons (length cur.databases.names) → last <ℤ moment
-    → new ≡ record cur { now = last } → seen_world new ≡ whole_way start last
-going-late start cur new last moment going due late stands = going-last start cur new last going (idle-late last moment going.left (seen_world cur) due (is_late last moment late)) stands
+pub going-late : (start cur new : StateView) (last moment : ℤ) → IsGoing start cur last → Some moment ≡ next_due cur.now (seen_state cur).daemons (length cur.databases.names) → last <ℤ moment
+    → new ≡ record cur { now = last } → seen_state new ≡ whole_way start last
+going-late start cur new last moment going due late stands = going-last start cur new last going (idle-late last moment going.left (seen_state cur) due (is_late last moment late)) stands
 
 -- ---- daemons answer nothing
 
@@ -256,43 +257,45 @@ through-silent last (suc n) w = goes-silent last (through by_world last n) w (ne
 -- ---- the clock
 
 -- a refusal
-adds-refusal : (v : WorldView) (who : ℕ) (reply : Reply) (before after : List (ℕ × Reply)) → who < length v.sessions.names → ReplyHasMoments reply → after ≡ before ++ (who, reply) ∷ [] → AddsDeed v v before after (answers_with who reply [])
-adds-refusal v who reply before after lt moments is = record {
+adds-refusal : (v : StateView) (who : ℕ) (reply : Reply) (before after : List (ℕ × Reply)) → IsWhole v → who < length v.sessions.names → ReplyHasMoments reply → after ≡ before ++ (who, reply) ∷ [] → AddsDeed v v before after (answers_with who reply [])
+adds-refusal v who reply before after whole lt moments is = record {
   answered = is;
   known = All-from_recursion (λ (answer : ℕ × Reply). answer.0 < length v.sessions.names) ((who, reply) ∷ []) (lt, tt);
   moments = All-from_recursion (λ (answer : ℕ × Reply). ReplyHasMoments answer.1) ((who, reply) ∷ []) (moments, tt);
   changed = refl;
   sessions = refl;
+  whole = whole;
 }
 
 abbrev going_if : World → ℕ → ℤ → Bool → Deed
 going_if w who to late = if late then refuses who ClockSpent else followed by_world w (λ q. answers_with who (Moment to) (clock_at to ∷ [])) (through by_world to (unsigned_abs (to -ℤ w.now)) w)
 
 -- the clock would pass its last moment
-pub clock-spent : (v : WorldView) (who : ℕ) (time to : ℤ) (waits : Bool) (before after : List (ℕ × Reply)) → who < length v.sessions.names → false ≡ waits → to ≡ v.now +ℤ time → last_moment <ℤ to
-    → after ≡ before ++ (who, Refused ClockSpent) ∷ [] → AddsDeed v v before after (clock by_world (seen_world v) who time waits)
-clock-spent v who time to waits before after lt free at late is =
-    subst (λ b. AddsDeed v v before after (clock by_world (seen_world v) who time b)) free
-    (subst (λ t. AddsDeed v v before after (clock_goes by_world (seen_world v) who t)) at
-    (subst (λ b. AddsDeed v v before after (going_if (seen_world v) who to b)) (sym (is_late last_moment to late)) (adds-refusal v who (Refused ClockSpent) before after lt tt is)))
+pub clock-spent : (v : StateView) (who : ℕ) (time to : ℤ) (waits : Bool) (before after : List (ℕ × Reply)) → IsWhole v → who < length v.sessions.names → false ≡ waits → to ≡ v.now +ℤ time → last_moment <ℤ to
+    → after ≡ before ++ (who, Refused ClockSpent) ∷ [] → AddsDeed v v before after (clock by_world (seen_state v) who time waits)
+clock-spent v who time to waits before after whole lt free at late is =
+    subst (λ b. AddsDeed v v before after (clock by_world (seen_state v) who time b)) free
+    (subst (λ t. AddsDeed v v before after (clock_goes by_world (seen_state v) who t)) at
+    (subst (λ b. AddsDeed v v before after (going_if (seen_state v) who to b)) (sym (is_late last_moment to late)) (adds-refusal v who (Refused ClockSpent) before after whole lt tt is)))
 
 -- the clock moves
-pub clock-moved : (v new : WorldView) (who : ℕ) (time to : ℤ) (waits : Bool) (before after : List (ℕ × Reply)) → who < length v.sessions.names → false ≡ waits → to ≡ v.now +ℤ time → to ≤ℤ last_moment → HasMoment to
-    → seen_world new ≡ whole_way v to → new.sessions.names ≡ v.sessions.names
-    → after ≡ before ++ (who, Moment to) ∷ [] → AddsDeed v new before after (clock by_world (seen_world v) who time waits)
-clock-moved v new who time to waits before after lt free at in_time printed changed sessions is =
-    subst (λ b. AddsDeed v new before after (clock by_world (seen_world v) who time b)) free
-    (subst (λ t. AddsDeed v new before after (clock_goes by_world (seen_world v) who t)) at
-    (subst (λ b. AddsDeed v new before after (going_if (seen_world v) who to b)) (sym (is_in_time last_moment to in_time)) (record {
+pub clock-moved : (v new : StateView) (who : ℕ) (time to : ℤ) (waits : Bool) (before after : List (ℕ × Reply)) → who < length v.sessions.names → false ≡ waits → to ≡ v.now +ℤ time → to ≤ℤ last_moment → HasMoment to
+    → seen_state new ≡ whole_way v to → new.sessions.names ≡ v.sessions.names → IsWhole new
+    → after ≡ before ++ (who, Moment to) ∷ [] → AddsDeed v new before after (clock by_world (seen_state v) who time waits)
+clock-moved v new who time to waits before after lt free at in_time printed changed sessions whole is =
+    subst (λ b. AddsDeed v new before after (clock by_world (seen_state v) who time b)) free
+    (subst (λ t. AddsDeed v new before after (clock_goes by_world (seen_state v) who t)) at
+    (subst (λ b. AddsDeed v new before after (going_if (seen_state v) who to b)) (sym (is_in_time last_moment to in_time)) (record {
       answered = is ∙ ap (λ answers. before ++ (answers ++ (who, Moment to) ∷ [])) silent;
       known = subst (λ answers. All (λ (answer : ℕ × Reply). answer.0 < length v.sessions.names) (answers ++ (who, Moment to) ∷ [])) silent
           (All-from_recursion (λ (answer : ℕ × Reply). answer.0 < length v.sessions.names) ((who, Moment to) ∷ []) (lt, tt));
       moments = subst (λ answers. HaveMoments (answers ++ (who, Moment to) ∷ [])) silent
           (All-from_recursion (λ (answer : ℕ × Reply). ReplyHasMoments answer.1) ((who, Moment to) ∷ []) (printed, tt));
       changed = changed
-          ∙ sym (after_facts-append (seen_world v) (through by_world to (unsigned_abs (to -ℤ v.now)) (seen_world v)).facts (clock_at to ∷ []));
+          ∙ sym (after_facts-append (seen_state v) (through by_world to (unsigned_abs (to -ℤ v.now)) (seen_state v)).facts (clock_at to ∷ []));
       sessions = sessions;
+      whole = whole;
     })))
   where
-    silent : [] ≡ (through by_world to (unsigned_abs (to -ℤ v.now)) (seen_world v)).answers
-    silent = through-silent to (unsigned_abs (to -ℤ v.now)) (seen_world v)
+    silent : [] ≡ (through by_world to (unsigned_abs (to -ℤ v.now)) (seen_state v)).answers
+    silent = through-silent to (unsigned_abs (to -ℤ v.now)) (seen_state v)

@@ -1,12 +1,11 @@
 -- What the world shows after the code switched a daemon on or off, or did a part of its work.
-use Rattle.std.proofs.Common.{◌≡◌, ℕ, ◌<◌, List, [], Bool, true, false, Option, Some, None, map, length, append-nil, get_or, refl, sym, ◌∙◌, ap, subst, arith, cond, nat_cmp, if◌then◌else◌, IfSome, ℤ, pos, ◌≤ℤ◌}
+use Rattle.std.proofs.Common.{◌≡◌, ℕ, ◌<◌, List, [], ◌∷◌, Bool, true, false, Option, Some, None, is_some, map, length, append-nil, get_or, refl, sym, ◌∙◌, ap, subst, arith, cond, nat_cmp, if◌then◌else◌, IfSome, ℤ, pos, ◌≤ℤ◌}
 use Rattle.std.proofs.lemmas.Int.{ints}
 use Rattle.std.specs.BTreeMap.{is_at}
 use Rattle.std.specs.Map.{lookup}
 use Rattle.sky_names.specs.Named.{with_value}
 use Rattle.sky_model.specs.declared.daemon.DaemonPart.{DaemonPart}
 use Rattle.sky_model.specs.declared.daemon.DaemonPart.TheVariants.{Tick, Retry, Maintain}
-use Rattle.sky_model.specs.declared.stmt.Stmt.TheVariants.{PgqdOn, PgqdOff}
 use Rattle.sky_model.specs.History.{within, daemon_on, daemon_off}
 use Rattle.sky_model.specs.State.{changed_at, after_mark, after_marks}
 use Rattle.sky_model.specs.World.{World, after_fact, after_facts}
@@ -14,15 +13,17 @@ use Rattle.sky_model.specs.Reader.{database_by_itself, within_database, by_world
 use Rattle.sky_model.specs.Settling.{Turn}
 use Rattle.sky_model.specs.Daemon.{daemon_does, is_due_at}
 use Rattle.sky_model.specs.Clock.{deed_in, part_works, daemon_works}
-use Rattle.sky_model.specs.Calls.{of_daemon_if}
+use Rattle.sky_model.specs.Calls.{on_unless}
 use Rattle.sky_histories.proofs.Good.{same-session}
 use Rattle.sky_histories.proofs.DaemonTurns.{same-daemon_does}
 use Rattle.pgq_db.specs.Views.{DbView}
 use Rattle.pgq_db.specs.Seen.{seen_database}
-use Rattle.sky_world.specs.Views.{WorldView}
-use Rattle.sky_world.specs.Seen.{seen_world}
+use Rattle.sky_world.specs.Views.{StateView}
+use Rattle.sky_world.specs.Seen.{seen_state}
 use Rattle.sky_world.specs.Daemons.{StartedBy}
+use Rattle.sky_world.specs.Whole.{IsWhole}
 use Rattle.sky_world.specs.Works.{Works}
+use Rattle.sky_world.specs.Nodes.{Happened}
 use Rattle.sky_world.proofs.Worlds.{after_facts-append, entries-updated, store-there, store-changed}
 
 -- ---- the daemons that are on
@@ -45,40 +46,57 @@ started-updated now old new d o updates here all q = subst (λ x. IfSome x (λ s
     by false = all q
 
 -- one is on, from now on
-pub daemon-on-as : (v now : WorldView) (entries : List (ℕ × ℤ)) (d : ℕ) (t : ℤ) (start : Option ℤ) → v ≡ now
+pub daemon-started : (v now : StateView) (entries : List (ℕ × ℤ)) (d : ℕ) (t : ℤ) (there : Bool) → v ≡ now → IsWhole now
     → ((q : ℕ) → lookup (is_at (nat_cmp q)) entries ≡ cond (is_at (nat_cmp d) q) (Some t) (lookup (is_at (nat_cmp q)) v.daemons)) → t ≡ v.now
-    → start ≡ (seen_world now).daemons d → None ≡ start
-    → seen_world (record v { daemons = entries }) ≡ after_facts (seen_world now) (of_daemon_if true d ((seen_world now).daemons d) PgqdOn)
-daemon-on-as v now entries d t start same updates is at none =
-    (λ i. record (seen_world v) { daemons = entries-updated v.daemons entries d (Some t) updates i })
-    ∙ ap (λ x. record (seen_world v) { daemons = changed_at d (λ _. Some x) (seen_world v).daemons }) is
-    ∙ ap (λ (w : WorldView). after_fact (seen_world w) (daemon_on d)) same
-    ∙ ap (λ o. after_facts (seen_world now) (of_daemon_if true d o PgqdOn)) (none ∙ at)
+    → there ≡ is_some ((seen_state v).daemons d) → there ≡ false → Happened now (record v { daemons = entries }) (on_unless d ((seen_state now).daemons d))
+daemon-started v now entries d t there same whole updates is at none = subst (λ (w : StateView). Happened w (record v { daemons = entries }) (on_unless d ((seen_state w).daemons d))) same (record {
+  changed = (λ i. record (seen_state v) { daemons = entries-updated v.daemons entries d (Some t) updates i })
+      ∙ ap (λ x. record (seen_state v) { daemons = changed_at d (λ _. Some x) (seen_state v).daemons }) is
+      ∙ off ((seen_state v).daemons d) (sym at ∙ none);
+  sessions = refl;
+  databases = refl;
+  whole = subst IsWhole (sym same) whole;
+})
+  where
+    off : (o : Option ℤ) → is_some o ≡ false → after_fact (seen_state v) (daemon_on d) ≡ after_facts (seen_state v) (on_unless d o)
+    off None e = refl
+    off (Some start) e = absurd (cc)
 
 -- one that is on stays so
-pub daemon-still-on : (w : World) (d : ℕ) (start : ℤ) → Some start ≡ w.daemons d → w ≡ after_facts w (of_daemon_if true d (w.daemons d) PgqdOn)
-daemon-still-on w d start is = ap (λ o. after_facts w (of_daemon_if true d o PgqdOn)) is
+pub daemon-still-on : (v now : StateView) (d : ℕ) (there : Bool) → v ≡ now → IsWhole now → there ≡ is_some ((seen_state v).daemons d) → there ≡ true → Happened now now (on_unless d ((seen_state now).daemons d))
+daemon-still-on v now d there same whole at some = by ((seen_state now).daemons d) (sym (at ∙ ap (λ (w : StateView). is_some ((seen_state w).daemons d)) same) ∙ some)
+  where
+    by : (o : Option ℤ) → is_some o ≡ true → Happened now now (on_unless d o)
+    by None e = absurd (cc)
+    by (Some start) e = record { changed = refl; sessions = refl; databases = refl; whole = whole }
 
 -- one is off
-pub daemon-off-as : (v now : WorldView) (entries : List (ℕ × ℤ)) (d : ℕ) → v ≡ now
+pub daemon-stopped : (v now : StateView) (entries : List (ℕ × ℤ)) (d : ℕ) → v ≡ now → IsWhole now
     → ((q : ℕ) → lookup (is_at (nat_cmp q)) entries ≡ cond (is_at (nat_cmp d) q) None (lookup (is_at (nat_cmp q)) v.daemons))
-    → seen_world (record v { daemons = entries }) ≡ after_facts (seen_world now) (of_daemon_if true d ((seen_world now).daemons d) PgqdOff)
-daemon-off-as v now entries d same updates =
-    (λ i. record (seen_world v) { daemons = entries-updated v.daemons entries d None updates i })
-    ∙ ap (λ (w : WorldView). after_fact (seen_world w) (daemon_off d)) same
-    ∙ by ((seen_world now).daemons d)
-  where
-    by : (o : Option ℤ) → after_fact (seen_world now) (daemon_off d) ≡ after_facts (seen_world now) (of_daemon_if true d o PgqdOff)
-    by None = refl
-    by (Some start) = refl
+    → Happened now (record v { daemons = entries }) (daemon_off d ∷ [])
+daemon-stopped v now entries d same whole updates = record {
+  changed = (λ i. record (seen_state v) { daemons = entries-updated v.daemons entries d None updates i }) ∙ ap (λ (w : StateView). after_fact (seen_state w) (daemon_off d)) same;
+  sessions = ap (λ (w : StateView). w.sessions.names) same;
+  databases = ap (λ (w : StateView). w.databases.names) same;
+  whole = subst IsWhole (sym same) whole;
+}
 
 -- ---- the work of daemons
 
 -- a part that isn't due
-pub works-idle : (v : WorldView) (d : ℕ) (part : DaemonPart) → is_due_at v.now part ((seen_world v).daemons d) ≡ false → Works v v (part_works by_world d part (seen_world v))
-works-idle v d part other =
-    subst (Works v v) (ap (λ b. if b then deed_in d [] (daemon_does (within_database by_world d) (seen_world v) part v.now) else idles) (sym other))
-    (record { changed = refl; now = refl; sessions = refl; databases = refl })
+pub works-idle : (v : StateView) (d : ℕ) (part : DaemonPart) → IsWhole v → is_due_at v.now part ((seen_state v).daemons d) ≡ false → Works v v (part_works by_world d part (seen_state v))
+works-idle v d part whole other =
+    subst (Works v v) (ap (λ b. if b then deed_in d [] (daemon_does (within_database by_world d) (seen_state v) part v.now) else idles) (sym other))
+    (record { changed = refl; now = refl; sessions = refl; databases = refl; whole = whole })
+
+pub not-due : (v now : StateView) (d : ℕ) (part : DaemonPart) (start clock begun : ℤ) (due : Bool) → v ≡ now → clock ≡ v.now → begun ≡ start → (seen_state now).daemons d ≡ Some start
+    → due ≡ is_due_at clock part (Some begun) → due ≡ false → is_due_at now.now part ((seen_state now).daemons d) ≡ false
+not-due v now d part start clock begun due same at from started is not_so =
+    ap (is_due_at now.now part) (started ∙ ap Some (sym from))
+    ∙ ap (λ (w : StateView). is_due_at w.now part (Some begun)) (sym same)
+    ∙ ap (λ t. is_due_at t part (Some begun)) (sym at)
+    ∙ sym is
+    ∙ not_so
 
 -- within the world the daemon of a database does what it does in the database
 pub daemon-within : (w : World) (d : ℕ) (part : DaemonPart) (now : ℤ) → daemon_does (within_database by_world d) w part now ≡ daemon_does database_by_itself (w.database d) part now
@@ -87,47 +105,49 @@ daemon-within w d part now =
     (λ v mark. ap (λ b. if b then after_mark (v.database d) mark else v.database d) (same-session d)) w part now
 
 -- a part that is due
-pub works-part : (v now : WorldView) (d : ℕ) (part : DaemonPart) (old new : DbView) (t : ℤ) → v ≡ now → d < length v.databases.values → old ≡ get_or v.databases.values d old → t ≡ v.now
-    → is_due_at now.now part ((seen_world now).daemons d) ≡ true
-    → seen_database new ≡ after_marks (seen_database old) (daemon_does database_by_itself (seen_database old) part t).marks
-    → Works now (record v { databases = with_value v.databases d new }) (part_works by_world d part (seen_world now))
-works-part v now d part old new t same lt at is due works =
-    subst (Works now (record v { databases = with_value v.databases d new })) (ap (λ b. if b then deed_in d [] whole else idles) (sym due)) (record {
+pub works-part : (v now : StateView) (d : ℕ) (part : DaemonPart) (old new : DbView) (t : ℤ) → v ≡ now → d < length v.databases.values → old ≡ get_or v.databases.values d old → t ≡ v.now
+    → is_due_at now.now part ((seen_state now).daemons d) ≡ true
+    → seen_database new ≡ after_marks (seen_database old) (daemon_does database_by_itself (seen_database old) part t).marks → IsWhole (record v { databases = with_value v.databases d new })
+    → Works now (record v { databases = with_value v.databases d new }) (part_works by_world d part (seen_state now))
+works-part v now d part old new t same lt at is due works whole =
+    subst (Works now (record v { databases = with_value v.databases d new })) (ap (λ b. if b then deed_in d [] turned else idles) (sym due)) (record {
       changed = store-changed v d old new done.marks lt at works
-          ∙ ap (λ (u : Turn). after_facts (seen_world v) (map (within d) u.marks)) turn_is
-          ∙ ap (λ w. after_facts (seen_world w) (map (within d) whole.marks)) same
-          ∙ ap (λ facts. after_facts (seen_world now) facts) (sym (append-nil (map (within d) whole.marks)));
-      now = ap (λ (w : WorldView). w.now) same;
-      sessions = ap (λ (w : WorldView). w.sessions.names) same;
-      databases = ap (λ (w : WorldView). w.databases.names) same;
+          ∙ ap (λ (u : Turn). after_facts (seen_state v) (map (within d) u.marks)) turn_is
+          ∙ ap (λ w. after_facts (seen_state w) (map (within d) turned.marks)) same
+          ∙ ap (λ facts. after_facts (seen_state now) facts) (sym (append-nil (map (within d) turned.marks)));
+      now = ap (λ (w : StateView). w.now) same;
+      sessions = ap (λ (w : StateView). w.sessions.names) same;
+      databases = ap (λ (w : StateView). w.databases.names) same;
+      whole = whole;
     })
   where
-    whole : Turn
-    whole = daemon_does (within_database by_world d) (seen_world now) part now.now
+    turned : Turn
+    turned = daemon_does (within_database by_world d) (seen_state now) part now.now
 
     done : Turn
     done = daemon_does database_by_itself (seen_database old) part t
 
-    turn_is : done ≡ whole
+    turn_is : done ≡ turned
     turn_is =
         ap (λ x. daemon_does database_by_itself (seen_database old) part x) is
         ∙ ap (λ x. daemon_does database_by_itself (seen_database x) part v.now) (sym (store-there v d old lt at))
-        ∙ ap (λ (w : WorldView). daemon_does database_by_itself ((seen_world w).database d) part w.now) same
-        ∙ sym (daemon-within (seen_world now) d part now.now)
+        ∙ ap (λ (w : StateView). daemon_does database_by_itself ((seen_state w).database d) part w.now) same
+        ∙ sym (daemon-within (seen_state now) d part now.now)
 
 -- one after another
-pub works-then : (old s new : WorldView) (first : Deed) (rest : World → Deed) → Works old s first → Works s new (rest (seen_world s)) → Works old new (followed by_world (seen_world old) rest first)
+pub works-then : (old s new : StateView) (first : Deed) (rest : World → Deed) → Works old s first → Works s new (rest (seen_state s)) → Works old new (followed by_world (seen_state old) rest first)
 works-then old s new first rest one two = record {
   changed = two.changed
       ∙ ap (λ w. after_facts w (rest w).facts) one.changed
-      ∙ sym (after_facts-append (seen_world old) first.facts (rest (after_facts (seen_world old) first.facts)).facts);
+      ∙ sym (after_facts-append (seen_state old) first.facts (rest (after_facts (seen_state old) first.facts)).facts);
   now = two.now ∙ one.now;
   sessions = two.sessions ∙ one.sessions;
   databases = two.databases ∙ one.databases;
+  whole = two.whole;
 }
 
-pub works-all : (old ticked retried new : WorldView) (d : ℕ) → Works old ticked (part_works by_world d Tick (seen_world old)) → Works ticked retried (part_works by_world d Retry (seen_world ticked))
-    → Works retried new (part_works by_world d Maintain (seen_world retried)) → Works old new (daemon_works by_world d (seen_world old))
+pub works-all : (old ticked retried new : StateView) (d : ℕ) → Works old ticked (part_works by_world d Tick (seen_state old)) → Works ticked retried (part_works by_world d Retry (seen_state ticked))
+    → Works retried new (part_works by_world d Maintain (seen_state retried)) → Works old new (daemon_works by_world d (seen_state old))
 works-all old ticked retried new d ticks retries maintains =
-    works-then old ticked new (part_works by_world d Tick (seen_world old)) (λ q. followed by_world q (part_works by_world d Maintain) (part_works by_world d Retry q)) ticks
-    (works-then ticked retried new (part_works by_world d Retry (seen_world ticked)) (part_works by_world d Maintain) retries maintains)
+    works-then old ticked new (part_works by_world d Tick (seen_state old)) (λ q. followed by_world q (part_works by_world d Maintain) (part_works by_world d Retry q)) ticks
+    (works-then ticked retried new (part_works by_world d Retry (seen_state ticked)) (part_works by_world d Maintain) retries maintains)

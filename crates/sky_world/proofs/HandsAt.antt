@@ -1,5 +1,5 @@
 -- What the workers of leaves have in hand, after what keeps it has changed.
-use Rattle.std.proofs.Common.{◌≡◌, ℕ, zero, suc, ◌<◌, ◌≤◌, ◌==◌, Bool, true, false, ◌&&◌, List, [], ◌∷◌, ◌++◌, length, get_or, slice_set, bytes_eq, cond, nat_cmp, find, position, Option, Some, None, option_and_then, refl, sym, ◌∙◌, ap, arith, if◌then◌else◌}
+use Rattle.std.proofs.Common.{◌≡◌, ℕ, zero, suc, ◌<◌, ◌≤◌, ◌==◌, Bool, true, false, ◌&&◌, List, [], ◌∷◌, ◌++◌, length, get_or, slice_set, bytes_eq, cond, nat_cmp, find, position, Option, Some, None, option_and_then, refl, sym, ◌∙◌, ap, subst, arith, if◌then◌else◌}
 use Rattle.std.proofs.lemmas.Bool.Decides.{nat_tests}
 use Rattle.std.proofs.lemmas.Grind.{common_steps}
 use Rattle.std.proofs.lemmas.List.Quantifiers.{position-Some}
@@ -14,8 +14,9 @@ use Rattle.sky_model.specs.History.{in_hand, batch_in_hand}
 use Rattle.sky_model.specs.World.{after_facts}
 use Rattle.sky_model.proofs.Cases.{by_test}
 use Rattle.sky_world.specs.Hands.{HandAt, is_hand_of, hand_at, batch_at}
-use Rattle.sky_world.specs.Views.{WorldView}
-use Rattle.sky_world.specs.Seen.{seen_world}
+use Rattle.sky_world.specs.Views.{StateView}
+use Rattle.sky_world.specs.Seen.{seen_state}
+use Rattle.sky_world.specs.Whole.{IsWhole}
 use Rattle.sky_world.specs.Nodes.{Happened}
 use Rattle.sky_world.proofs.Worlds.{entries-updated}
 
@@ -194,21 +195,21 @@ batch-back d batch f is = λ i e. by e (d == e) refl i
 -- ---- in the world
 
 -- a worker has nothing in hand
-pub emptied-there : (v now : WorldView) (d : ℕ) (table : List ℕ) (hands : List HandAt) → v ≡ now → hand_at hands ≡ changed_at d (changed_for table (λ _. None)) (hand_at v.hands)
+pub emptied-there : (v now : StateView) (d : ℕ) (table : List ℕ) (hands : List HandAt) → v ≡ now → hand_at hands ≡ changed_at d (changed_for table (λ _. None)) (hand_at v.hands) → IsWhole now
     → Happened now (record v { hands = hands }) (in_hand d table None ∷ [])
-emptied-there v now d table hands same is = record {
-  changed = (λ i. record (seen_world v) { hands = is i }) ∙ ap (λ (w : WorldView). after_facts (seen_world w) (in_hand d table None ∷ [])) same;
-  sessions = ap (λ (w : WorldView). w.sessions.names) same;
-  databases = ap (λ (w : WorldView). w.databases.names) same;
-  failed = ap (λ (w : WorldView). w.has_failed) same;
+emptied-there v now d table hands same is whole = record {
+  changed = (λ i. record (seen_state v) { hands = is i }) ∙ ap (λ (w : StateView). after_facts (seen_state w) (in_hand d table None ∷ [])) same;
+  sessions = ap (λ (w : StateView). w.sessions.names) same;
+  databases = ap (λ (w : StateView). w.databases.names) same;
+  whole = subst IsWhole (sym same) whole;
 }
 
 -- the worker of a leaf has
-pub batch-emptied : (v now : WorldView) (d : ℕ) (batches : List (ℕ × BatchHand)) → v ≡ now → batch_at batches ≡ changed_at d (λ _. None) (batch_at v.batches)
+pub batch-emptied : (v now : StateView) (d : ℕ) (batches : List (ℕ × BatchHand)) → v ≡ now → batch_at batches ≡ changed_at d (λ _. None) (batch_at v.batches) → IsWhole now
     → Happened now (record v { batches = batches }) (batch_in_hand d None ∷ [])
-batch-emptied v now d batches same is = record {
-  changed = (λ i. record (seen_world v) { batches = is i }) ∙ ap (λ (w : WorldView). after_facts (seen_world w) (batch_in_hand d None ∷ [])) same;
-  sessions = ap (λ (w : WorldView). w.sessions.names) same;
-  databases = ap (λ (w : WorldView). w.databases.names) same;
-  failed = ap (λ (w : WorldView). w.has_failed) same;
+batch-emptied v now d batches same is whole = record {
+  changed = (λ i. record (seen_state v) { batches = is i }) ∙ ap (λ (w : StateView). after_facts (seen_state w) (batch_in_hand d None ∷ [])) same;
+  sessions = ap (λ (w : StateView). w.sessions.names) same;
+  databases = ap (λ (w : StateView). w.databases.names) same;
+  whole = subst IsWhole (sym same) whole;
 }

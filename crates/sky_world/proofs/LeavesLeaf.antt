@@ -12,16 +12,16 @@ use Rattle.sky_model.specs.World.{World, after_facts}
 use Rattle.sky_model.specs.CopyMoves.{lets_go_for}
 use Rattle.sky_model.specs.WorkersOfWorld.{call_facts, calls_facts, move_facts, moves}
 use Rattle.londiste_batches.specs.Moved.{after_calls}
-use Rattle.sky_world.specs.Views.{WorldView}
-use Rattle.sky_world.specs.Seen.{seen_world}
+use Rattle.sky_world.specs.Views.{StateView}
+use Rattle.sky_world.specs.Seen.{seen_state}
 use Rattle.sky_world.specs.Nodes.{Happened, Does}
 use Rattle.sky_world.specs.Workers.{lets_go_with, parts_with, leaving}
 use Rattle.sky_world.proofs.Worlds.{after_facts-append}
 use Rattle.sky_world.proofs.CallsInTurn.{marks_of_all, after-all, facts-all, changed-there, unchanged-there}
 
 -- one call as a list
-pub happened-one : (old new : WorldView) (d : ℕ) (call : NodeCall) → Happened old new (call_facts (seen_world old) d call) → Happened old new (calls_facts (seen_world old) d (call ∷ []))
-happened-one old new d call happened = subst (Happened old new) (sym (append-nil (call_facts (seen_world old) d call))) happened
+pub happened-one : (old new : StateView) (d : ℕ) (call : NodeCall) → Happened old new (call_facts (seen_state old) d call) → Happened old new (calls_facts (seen_state old) d (call ∷ []))
+happened-one old new d call happened = subst (Happened old new) (sym (append-nil (call_facts (seen_state old) d call))) happened
 
 -- calls, and then others
 calls-then : (w : World) (d : ℕ) (calls others : List NodeCall)
@@ -41,17 +41,17 @@ calls-then w d (call ∷ calls) others =
 -- ---- what the steps find
 
 -- a database after calls in it
-after-happened : (old new : WorldView) (d : ℕ) (calls : List NodeCall) → Happened old new (calls_facts (seen_world old) d calls) → (seen_world new).database d ≡ after_calls ((seen_world old).database d) calls
+after-happened : (old new : StateView) (d : ℕ) (calls : List NodeCall) → Happened old new (calls_facts (seen_state old) d calls) → (seen_state new).database d ≡ after_calls ((seen_state old).database d) calls
 after-happened old new d calls happened =
-    ap (λ (w : World). w.database d) (happened.changed ∙ ap (after_facts (seen_world old)) (facts-all (seen_world old) d calls))
-    ∙ changed-there (seen_world old) d (marks_of_all ((seen_world old).database d) calls)
-    ∙ sym (after-all ((seen_world old).database d) calls)
+    ap (λ (w : World). w.database d) (happened.changed ∙ ap (after_facts (seen_state old)) (facts-all (seen_state old) d calls))
+    ∙ changed-there (seen_state old) d (marks_of_all ((seen_state old).database d) calls)
+    ∙ sym (after-all ((seen_state old).database d) calls)
 
 -- and another one
-pub other-happened : (old new : WorldView) (p d : ℕ) (calls : List NodeCall) → (p == d) ≡ false → Happened old new (calls_facts (seen_world old) p calls) → (seen_world new).database d ≡ (seen_world old).database d
+pub other-happened : (old new : StateView) (p d : ℕ) (calls : List NodeCall) → (p == d) ≡ false → Happened old new (calls_facts (seen_state old) p calls) → (seen_state new).database d ≡ (seen_state old).database d
 other-happened old new p d calls apart happened =
-    ap (λ (w : World). w.database d) (happened.changed ∙ ap (after_facts (seen_world old)) (facts-all (seen_world old) p calls))
-    ∙ unchanged-there (seen_world old) p d (marks_of_all ((seen_world old).database p) calls) apart
+    ap (λ (w : World). w.database d) (happened.changed ∙ ap (after_facts (seen_state old)) (facts-all (seen_state old) p calls))
+    ∙ unchanged-there (seen_state old) p d (marks_of_all ((seen_state old).database p) calls) apart
 
 -- a hold that is let go leaves the set's queue
 queue-kept : (d : Database) (hold : Option ℕ) → set_queue (after_calls d (lets_go_with hold)) ≡ set_queue d
@@ -62,9 +62,9 @@ queue-kept d (Some hold) = by (list_any (λ (x : Hold). x.number == hold) d.hold
     by true = refl
     by false = refl
 
-pub queue-happened : (old new : WorldView) (p : ℕ) (hold : Option ℕ) → Happened old new (calls_facts (seen_world old) p (lets_go_with hold)) → is_some (set_queue ((seen_world old).database p)) ≡ true
-    → is_some (set_queue ((seen_world new).database p)) ≡ true
-queue-happened old new p hold happened root = ap (λ d. is_some (set_queue d)) (after-happened old new p (lets_go_with hold) happened) ∙ ap is_some (queue-kept ((seen_world old).database p) hold) ∙ root
+pub queue-happened : (old new : StateView) (p : ℕ) (hold : Option ℕ) → Happened old new (calls_facts (seen_state old) p (lets_go_with hold)) → is_some (set_queue ((seen_state old).database p)) ≡ true
+    → is_some (set_queue ((seen_state new).database p)) ≡ true
+queue-happened old new p hold happened root = ap (λ d. is_some (set_queue d)) (after-happened old new p (lets_go_with hold) happened) ∙ ap is_some (queue-kept ((seen_state old).database p) hold) ∙ root
 
 -- ---- all of them
 
@@ -72,9 +72,9 @@ lets-go : (copy : Option CopyHand) → lets_go_with (option_map CopyHand.hold co
 lets-go None = refl
 lets-go (Some copy) = refl
 
-pub left-leaf : (old a b c new : WorldView) (p d : ℕ) (table : List ℕ) (hold : Option ℕ) (consumer : Option (List ℕ)) (hand : Option Hand) → hold ≡ option_map CopyHand.hold (copy_in hand)
-    → Happened old a (calls_facts (seen_world old) p (lets_go_with hold)) → Happened a b (calls_facts (seen_world a) p (parts_with consumer)) → Happened b c (call_facts (seen_world b) d (removing table))
-    → Happened c new (in_hand d table None ∷ []) → Does old new Done (moves (seen_world old) p d (in_hand d table) (Ok (leaving table consumer hand)))
+pub left-leaf : (old a b c new : StateView) (p d : ℕ) (table : List ℕ) (hold : Option ℕ) (consumer : Option (List ℕ)) (hand : Option Hand) → hold ≡ option_map CopyHand.hold (copy_in hand)
+    → Happened old a (calls_facts (seen_state old) p (lets_go_with hold)) → Happened a b (calls_facts (seen_state a) p (parts_with consumer)) → Happened b c (call_facts (seen_state b) d (removing table))
+    → Happened c new (in_hand d table None ∷ []) → Does old new Done (moves (seen_state old) p d (in_hand d table) (Ok (leaving table consumer hand)))
 left-leaf old a b c new p d table hold consumer hand is first second third last = record {
   facts = move_facts w p d (in_hand d table) (leaving table consumer hand);
   outcome = refl;
@@ -83,12 +83,12 @@ left-leaf old a b c new p d table hold consumer hand is first second third last 
     changed = last.changed ∙ ap (λ x. after_facts x (in_hand d table None ∷ [])) (third.changed ∙ ap (λ x. after_facts x (call_facts x d (removing table))) both) ∙ sym whole;
     sessions = last.sessions ∙ third.sessions ∙ second.sessions ∙ first.sessions;
     databases = last.databases ∙ third.databases ∙ second.databases ∙ first.databases;
-    failed = last.failed ∙ third.failed ∙ second.failed ∙ first.failed;
+    whole = last.whole;
   };
 }
   where
     w : World
-    w = seen_world old
+    w = seen_state old
 
     calls : List NodeCall
     calls = lets_go_for (copy_in hand) ++ parts_with consumer
@@ -96,7 +96,7 @@ left-leaf old a b c new p d table hold consumer hand is first second third last 
     v : World
     v = after_facts w (calls_facts w p calls)
 
-    both : seen_world b ≡ v
+    both : seen_state b ≡ v
     both =
         second.changed ∙ ap (λ x. after_facts x (calls_facts x p (parts_with consumer))) first.changed
         ∙ sym (calls-then w p (lets_go_with hold) (parts_with consumer))

@@ -1,8 +1,8 @@
 pub mod Worlds
 pub mod HandsAt
 pub mod Resting
-pub mod Made
-pub mod Refusals
+pub mod Whole
+pub mod Outside
 pub mod Daemons
 pub mod Skipping
 pub mod Clocks

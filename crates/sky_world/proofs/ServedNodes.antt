@@ -1,6 +1,5 @@
 -- What the world shows after a statement on nodes.
-use Rattle.std.proofs.Common.{All, ◌≡◌, ℕ, ◌<◌, List, [], ◌∷◌, ◌++◌, Bool, true, false, ◌==◌, ◌&&◌, map, length, Option, Some, None, not, is_some, is_ok, option_map, append-nil, Result, Ok, Err, get_or, refl, sym, ◌∙◌, ap, subst, arith, if◌then◌else◌}
-use Rattle.std.specs.Option.{is_none}
+use Rattle.std.proofs.Common.{All, ◌≡◌, ℕ, ℤ, ◌<◌, List, [], ◌∷◌, ◌++◌, Bool, true, false, ◌==◌, map, length, Option, Some, None, not, is_some, is_ok, option_map, append-nil, Result, Ok, Err, get_or, refl, sym, ◌∙◌, ap, subst, arith, if◌then◌else◌}
 use Rattle.std.specs.Result.{IsErrAnd, IfErr, IfOk, OnOk}
 use Rattle.std.proofs.lemmas.Bool.Decides.{nat_tests}
 use Rattle.sky_val.specs.declared.column.Column.{Column}
@@ -8,47 +7,38 @@ use Rattle.std.proofs.lemmas.List.Elements.{All-nil, All-cons, All-head, All-tai
 use Rattle.sky_names.specs.Places.{place_of}
 use Rattle.sky_names.specs.Named.{with_value}
 use Rattle.londiste_state.specs.Nodes.{Root, Leaf, of_root, of_leaf, is_among, tables_of}
-use Rattle.sky_model.specs.declared.stmt.Stmt.{Stmt}
-use Rattle.sky_model.specs.declared.stmt.Stmt.TheVariants as stmts
-use Rattle.sky_model.specs.declared.stmt.NodeStmt.{NodeStmt}
 use Rattle.sky_model.specs.Printed.{HaveMoments, ReplyHasMoments}
 use Rattle.sky_model.specs.declared.reply.Reply.{Reply}
 use Rattle.sky_model.specs.declared.reply.Reply.TheVariants.{Done, Refused}
 use Rattle.sky_model.specs.declared.reply.Refusal.{Refusal}
-use Rattle.sky_model.specs.declared.reply.Refusal.TheVariants.{AlreadyInSet, NodeExists, NoNode, NoTable, NotInSet, NotProvider, SchemaDiffers, TableInUse}
+use Rattle.sky_model.specs.declared.reply.Refusal.TheVariants.{AlreadyInSet, NoNode, NoTable, NotInSet, NotProvider, SchemaDiffers, TableInUse}
 use Rattle.sky_model.specs.declared.stop.Stop.{Stop}
 use Rattle.sky_model.specs.declared.stop.Stop.TheVariants as halt
 use Rattle.sky_model.specs.declared.stop.Stop.TheVariants.{NoMemory}
-use Rattle.sky_model.specs.History.{Mark, Fact, within, queued, registered, unregistered, opened, closed, traced, untraced, tabled, wrote, read_only, noded, leaf_made, node_made, of_worker, of_copy, began, ended, in_hand}
-use Rattle.sky_model.specs.State.{RowPart, Database, after_mark, after_marks}
+use Rattle.sky_model.specs.History.{Mark, Fact, within, noded, leaf_made, node_made, in_hand}
+use Rattle.sky_model.specs.State.{Database, after_marks}
 use Rattle.sky_model.specs.World.{World, after_facts}
 use Rattle.sky_model.specs.Outcome.{Outcome, Checked, ◌>>=◌, ◌>>◌, refused_if, refused_by, found_or, marks_of}
-use Rattle.sky_model.specs.Stops.{StopsAs}
-use Rattle.sky_model.specs.Reader.{within_database, by_world, Deed, refuses}
-use Rattle.sky_model.specs.Settling.{Turn}
-use Rattle.sky_model.specs.Clock.{deed_in}
+use Rattle.sky_model.specs.Stops.{Refuses, StopsAs}
 use Rattle.sky_model.specs.SessionMarks.{Enters, entry_place}
 use Rattle.sky_model.specs.StepQueue.{newest_id}
 use Rattle.sky_model.specs.StepRows.{table_called}
-use Rattle.sky_model.specs.StepNode.{set_queue, set_queue_of, joins, lists, unlists, adds, NodeCall, joining, making_leaf, adding, listing, unlisting, if_there, table_number, may_serve, node_does}
-use Rattle.sky_model.specs.NodesOfWorld.{WorldOutcome, Located, node_called, done_in, leaf_of, provides, are_columns, columns_called, adds_to, add_table, first_user}
-use Rattle.sky_model.specs.WorkersOfWorld.{call_facts, moves, source, leaves_leaf, removes_from, remove_table, node_form}
-use Rattle.sky_model.specs.Calls.{database_turn, world_does, node_stmt_does, gets_node, node_if, roots_in, root_does, session_does}
-use Rattle.sky_histories.proofs.Good.{same-session}
-use Rattle.sky_histories.proofs.RowStanding.{part-behind}
-use Rattle.sky_histories.proofs.StatementMarks.{EachMark}
-use Rattle.sky_histories.proofs.NodeCalls.{is_for_nodes, each-node}
+use Rattle.sky_model.specs.StepNode.{makes_root, set_queue, set_queue_of, joins, lists, unlists, adds, NodeCall, joining, making_root, making_leaf, adding, listing, unlisting, if_there, table_number, may_serve, node_does}
+use Rattle.sky_model.specs.NodesOfWorld.{WorldOutcome, Located, node_called, done_in, root_of, leaf_of, provides, are_columns, columns_called, adds_to, add_table, first_user}
+use Rattle.sky_model.specs.WorkersOfWorld.{call_facts, moves, source, leaves_leaf, removes_from, remove_table}
+use Rattle.sky_model.specs.Calls.{allowed_outside, world_does}
 use Rattle.sky_histories.proofs.NodeDeeds.{called-there, is-served, may-list, may-add, may-unlist}
 use Rattle.pgq_db.specs.Views.{DbView}
 use Rattle.pgq_db.specs.Seen.{seen_database}
 use Rattle.pgq_db.specs.Served.{Serves}
-use Rattle.pgq_db.specs.Gives.{is_worlds}
-use Rattle.sky_world.specs.Views.{WorldView}
-use Rattle.sky_world.specs.Seen.{seen_world}
+use Rattle.sky_world.specs.Views.{StateView}
+use Rattle.sky_world.specs.Seen.{seen_state}
+use Rattle.sky_world.specs.Whole.{IsWhole}
 use Rattle.sky_world.specs.Adds.{AddsDeed}
-use Rattle.sky_world.specs.Nodes.{outside_allowed, may_outside, refused_turn, root_name, Stays, Happened, Does, DoesAll, Stopped, Ran, as_list, StopsLike, set_tick, Joins, Joined, leaf_from, provided_as}
-use Rattle.sky_world.proofs.Worlds.{after_facts-within, after_facts-append, store-there, store-changed, adds-moved}
-use Rattle.sky_world.proofs.Refusals.{adds-after, answers-alone, turn-refused, may-outside}
+use Rattle.sky_world.specs.Nodes.{Stays, Happened, Does, DoesAll, Stopped, Ran, as_list, StopsLike, set_tick, Joins, Joined, leaf_from, provided_as}
+use Rattle.sky_world.proofs.Whole.{whole-same, whole-served, whole-with}
+use Rattle.sky_world.proofs.Worlds.{after_facts-within, after_facts-append, store-there, store-changed}
+use Rattle.sky_world.proofs.Outside.{answers-alone}
 
 -- a table whose columns are found by its name is there
 pub table-found : (d : Database) (name : List ℕ) (columns : List Column) → Some columns ≡ columns_called name d → is_some (table_number d name) ≡ true
@@ -58,105 +48,79 @@ table-found d name columns found = of (table_number d name) found
     of None found = absurd (cc)
     of (Some table) found = refl
 
--- ---- what waits
-
--- a call for a node leaves who waits as it is
-waits-stay : (d : Database) (marks : List Mark) → EachMark is_for_nodes marks → (after_marks d marks).part.waiting ≡ d.part.waiting
-waits-stay d [] all = refl
-waits-stay d (queued (registered q name sub tick) ∷ marks) all = waits-stay (after_mark d (queued (registered q name sub tick))) marks all
-waits-stay d (queued (unregistered q name sub) ∷ marks) all = waits-stay (after_mark d (queued (unregistered q name sub))) marks all
-waits-stay d (queued (opened batch) ∷ marks) all = waits-stay (after_mark d (queued (opened batch))) marks all
-waits-stay d (queued (closed batch) ∷ marks) all = waits-stay (after_mark d (queued (closed batch))) marks all
-waits-stay d (queued (traced table name trigger) ∷ marks) all = waits-stay (after_mark d (queued (traced table name trigger))) marks all
-waits-stay d (queued (untraced table) ∷ marks) all = waits-stay (after_mark d (queued (untraced table))) marks all
-waits-stay d (tabled (read_only table on) ∷ marks) all = waits-stay (after_mark d (tabled (read_only table on))) marks all
-waits-stay d (noded mark ∷ marks) all = waits-stay (after_mark d (noded mark)) marks all ∙ ap RowPart.waiting (part-behind d (noded mark))
-waits-stay d (began of_worker t ∷ marks) all = waits-stay (after_mark d (began of_worker t)) marks all
-waits-stay d (ended of_worker t true ∷ marks) all = waits-stay (after_mark d (ended of_worker t true)) marks all
-waits-stay d (ended of_worker t false ∷ marks) all = waits-stay (after_mark d (ended of_worker t false)) marks all
-waits-stay d (tabled (wrote of_worker t table key old new) ∷ marks) all = waits-stay (after_mark d (tabled (wrote of_worker t table key old new))) marks all
-waits-stay d (began (of_copy table) t ∷ marks) all = waits-stay (after_mark d (began (of_copy table) t)) marks all
-waits-stay d (ended (of_copy table) t true ∷ marks) all = waits-stay (after_mark d (ended (of_copy table) t true)) marks all
-waits-stay d (ended (of_copy table) t false ∷ marks) all = waits-stay (after_mark d (ended (of_copy table) t false)) marks all
-waits-stay d (tabled (wrote (of_copy n) t table key old new) ∷ marks) all = waits-stay (after_mark d (tabled (wrote (of_copy n) t table key old new))) marks all
-waits-stay d (_ ∷ marks) all = absurd all
-
-pub waits-call : (d : Database) (call : NodeCall) → (after_marks d (marks_of (node_does d call))).part.waiting ≡ d.part.waiting
-waits-call d call = waits-stay d (marks_of (node_does d call)) (each-node is_for_nodes (λ mark is. is) d call)
-
-pub waits-served : (old new : Database) (call : NodeCall) → Serves old new call → new.part.waiting ≡ old.part.waiting
-waits-served old new call serves =
-    ap (λ (d : Database). d.part.waiting) serves.changed ∙ waits-call old call
-
-pub waits-same : (old new : Database) → new ≡ old → new.part.waiting ≡ old.part.waiting
-waits-same old new same = ap (λ (d : Database). d.part.waiting) same
-
 -- ---- in one database
 
 -- what is kept at a place shows what the world shows there
-shown-there : (v now : WorldView) (d : ℕ) (old : DbView) → v ≡ now → d < length v.databases.values → old ≡ get_or v.databases.values d old → seen_database old ≡ (seen_world now).database d
-shown-there v now d old same lt at = sym (ap seen_database (store-there v d old lt at)) ∙ ap (λ w. (seen_world w).database d) same
+shown-there : (v now : StateView) (d : ℕ) (old : DbView) → v ≡ now → d < length v.databases.values → old ≡ get_or v.databases.values d old → seen_database old ≡ (seen_state now).database d
+shown-there v now d old same lt at = sym (ap seen_database (store-there v d old lt at)) ∙ ap (λ w. (seen_state w).database d) same
 
 -- a call for a node
-pub served-there : (v now : WorldView) (d : ℕ) (old new : DbView) (call : NodeCall) → v ≡ now → d < length v.databases.values → old ≡ get_or v.databases.values d old
+pub served-there : (v now : StateView) (d : ℕ) (old new : DbView) (call : NodeCall) → v ≡ now → d < length v.databases.values → old ≡ get_or v.databases.values d old → IsWhole now
     → Serves (seen_database old) (seen_database new) call
-    → Happened now (record v { databases = with_value v.databases d new }) (call_facts (seen_world now) d call)
-served-there v now d old new call same lt at serves = record {
+    → Happened now (record v { databases = with_value v.databases d new }) (call_facts (seen_state now) d call)
+served-there v now d old new call same lt at whole serves = record {
   changed = store-changed v d old new (marks_of (node_does (seen_database old) call)) lt at serves.changed
-      ∙ ap (λ x. after_facts (seen_world v) (map (within d) (marks_of (node_does x call)))) (sym (ap seen_database (store-there v d old lt at)))
-      ∙ ap (λ (w : WorldView). after_facts (seen_world w) (call_facts (seen_world w) d call)) same;
-  sessions = ap (λ (w : WorldView). w.sessions.names) same;
-  databases = ap (λ (w : WorldView). w.databases.names) same;
-  failed = ap (λ (w : WorldView). w.has_failed) same;
+      ∙ ap (λ x. after_facts (seen_state v) (map (within d) (marks_of (node_does x call)))) (sym (ap seen_database (store-there v d old lt at)))
+      ∙ ap (λ (w : StateView). after_facts (seen_state w) (call_facts (seen_state w) d call)) same;
+  sessions = ap (λ (w : StateView). w.sessions.names) same;
+  databases = ap (λ (w : StateView). w.databases.names) same;
+  whole = whole-with v now d old new same lt at whole (whole-served (length now.sessions.names) (seen_database old) (seen_database new) call serves);
 }
 
 -- nothing
-pub stays-there : (v now : WorldView) (d : ℕ) (old new : DbView) → v ≡ now → d < length v.databases.values → old ≡ get_or v.databases.values d old → seen_database new ≡ seen_database old
+pub stays-there : (v now : StateView) (d : ℕ) (old new : DbView) → v ≡ now → d < length v.databases.values → old ≡ get_or v.databases.values d old → IsWhole now → seen_database new ≡ seen_database old
     → Stays now (record v { databases = with_value v.databases d new })
-stays-there v now d old new same lt at is = record {
-  shown = store-changed v d old new [] lt at is ∙ ap seen_world same;
-  failed = ap (λ (w : WorldView). w.has_failed) same;
+stays-there v now d old new same lt at whole is = record {
+  shown = store-changed v d old new [] lt at is ∙ ap seen_state same;
+  whole = whole-with v now d old new same lt at whole (whole-same (length now.sessions.names) (seen_database old) (seen_database new) is);
 }
 
 -- a consumer joins
-pub joined-there : (v now : WorldView) (d tick : ℕ) (old new : DbView) (consumer : List ℕ) → v ≡ now → d < length v.databases.values → old ≡ get_or v.databases.values d old
+pub joined-there : (v now : StateView) (d tick : ℕ) (old new : DbView) (consumer : List ℕ) → v ≡ now → d < length v.databases.values → old ≡ get_or v.databases.values d old → IsWhole now
     → set_tick (seen_database old) ≡ Some tick → Serves (seen_database old) (seen_database new) (joining consumer)
     → Joins now (record v { databases = with_value v.databases d new }) d tick consumer
-joined-there v now d tick old new consumer same lt at newest serves =
-    let there : seen_database old ≡ (seen_world now).database d = shown-there v now d old same lt at in record {
+joined-there v now d tick old new consumer same lt at whole newest serves =
+    let there : seen_database old ≡ (seen_state now).database d = shown-there v now d old same lt at in record {
       newest = subst (λ x. set_tick x ≡ Some tick) there newest;
       accepted = subst (λ x. is_ok (node_does x (joining consumer)) ≡ true) there serves.accepted;
-      happened = served-there v now d old new (joining consumer) same lt at serves;
+      happened = served-there v now d old new (joining consumer) same lt at whole serves;
     }
 
 -- a call is refused
-pub refused-there : (v now : WorldView) (d : ℕ) (old new : DbView) (call : NodeCall) (refusal : Refusal) → v ≡ now → d < length v.databases.values → old ≡ get_or v.databases.values d old
+pub refused-there : (v now : StateView) (d : ℕ) (old new : DbView) (call : NodeCall) (refusal : Refusal) → v ≡ now → d < length v.databases.values → old ≡ get_or v.databases.values d old → IsWhole now
     → node_does (seen_database old) call ≡ Err refusal → seen_database new ≡ seen_database old
-    → (node_does ((seen_world now).database d) call ≡ Err refusal) × Stays now (record v { databases = with_value v.databases d new })
-refused-there v now d old new call refusal same lt at refused is =
-    (subst (λ x. node_does x call ≡ Err refusal) (shown-there v now d old same lt at) refused, stays-there v now d old new same lt at is)
+    → (node_does ((seen_state now).database d) call ≡ Err refusal) × Stays now (record v { databases = with_value v.databases d new })
+refused-there v now d old new call refusal same lt at whole refused is =
+    (subst (λ x. node_does x call ≡ Err refusal) (shown-there v now d old same lt at) refused, stays-there v now d old new same lt at whole is)
 
 -- what is done in a database with `ok`, or isn't
 done-outcome : (d : ℕ) (c : Checked Outcome) → is_ok c ≡ true → done_in d Done c ≡ Ok (record { replies = Done ∷ []; facts = map (within d) (marks_of c) })
 done-outcome d (Ok outcome) ok = refl
 done-outcome d (Err refusal) ok = absurd (cc)
 
-pub done-there : (v now : WorldView) (d : ℕ) (old new : DbView) (call : NodeCall) → v ≡ now → d < length v.databases.values → old ≡ get_or v.databases.values d old
+pub done-there : (v now : StateView) (d : ℕ) (old new : DbView) (call : NodeCall) → v ≡ now → d < length v.databases.values → old ≡ get_or v.databases.values d old → IsWhole now
     → Serves (seen_database old) (seen_database new) call
-    → Does now (record v { databases = with_value v.databases d new }) Done (done_in d Done (node_does ((seen_world now).database d) call))
-done-there v now d old new call same lt at serves = record {
-  facts = call_facts (seen_world now) d call;
-  outcome = done-outcome d (node_does ((seen_world now).database d) call) (subst (λ x. is_ok (node_does x call) ≡ true) (shown-there v now d old same lt at) serves.accepted);
+    → Does now (record v { databases = with_value v.databases d new }) Done (done_in d Done (node_does ((seen_state now).database d) call))
+done-there v now d old new call same lt at whole serves = record {
+  facts = call_facts (seen_state now) d call;
+  outcome = done-outcome d (node_does ((seen_state now).database d) call) (subst (λ x. is_ok (node_does x call) ≡ true) (shown-there v now d old same lt at) serves.accepted);
   moments = tt;
-  happened = served-there v now d old new call same lt at serves;
+  happened = served-there v now d old new call same lt at whole serves;
 }
 
-pub undone-there : (v now : WorldView) (d : ℕ) (old new : DbView) (call : NodeCall) (refusal : Refusal) → v ≡ now → d < length v.databases.values → old ≡ get_or v.databases.values d old
+pub undone-there : (v now : StateView) (d : ℕ) (old new : DbView) (call : NodeCall) (refusal : Refusal) → v ≡ now → d < length v.databases.values → old ≡ get_or v.databases.values d old → IsWhole now
     → node_does (seen_database old) call ≡ Err refusal → seen_database new ≡ seen_database old
-    → (done_in d Done (node_does ((seen_world now).database d) call) ≡ Err refusal) × Stays now (record v { databases = with_value v.databases d new })
-undone-there v now d old new call refusal same lt at refused is =
-    let both : (node_does ((seen_world now).database d) call ≡ Err refusal) × Stays now (record v { databases = with_value v.databases d new })
-    = refused-there v now d old new call refusal same lt at refused is in (ap (done_in d Done) both.0, both.1)
+    → (done_in d Done (node_does ((seen_state now).database d) call) ≡ Err refusal) × Stays now (record v { databases = with_value v.databases d new })
+undone-there v now d old new call refusal same lt at whole refused is =
+    let both : (node_does ((seen_state now).database d) call ≡ Err refusal) × Stays now (record v { databases = with_value v.databases d new })
+    = refused-there v now d old new call refusal same lt at whole refused is in (ap (done_in d Done) both.0, both.1)
+
+-- what the code gives is this
+pub ran-as : (old new : StateView) (ran given : Result Reply Stop) (checked : Checked WorldOutcome) → ran ≡ given → Ran old new given checked → Ran old new ran checked
+ran-as old new ran given checked same is = subst (λ r. Ran old new r checked) (sym same) is
+
+pub joined-as : (old new : StateView) (d : ℕ) (joined given : Result ℕ Stop) (consumer : List ℕ) → joined ≡ given → Joined old new d given consumer → Joined old new d joined consumer
+joined-as old new d joined given consumer same is = subst (λ r. Joined old new d r consumer) (sym same) is
 
 -- ---- whether a session may make a statement
 
@@ -164,130 +128,25 @@ pub entered-same : (old new : Database) (who : ℕ) (refusal : Option Refusal) �
 entered-same old new who None enters but = but ∙ (λ i. record old { part = enters.1 i })
 entered-same old new who (Some refusal) enters but = but ∙ (λ i. record old { part = enters.1 i })
 
-pub entered-allowed : (old new : Database) (who : ℕ) (refusal : Option Refusal) → Enters old.part new.part who (entry_place true) refusal → outside_allowed old who ≡ refused_by refusal
+pub entered-allowed : (old new : Database) (who : ℕ) (refusal : Option Refusal) → Enters old.part new.part who (entry_place true) refusal → allowed_outside old who ≡ refused_by refusal
 entered-allowed old new who None enters = enters.0
 entered-allowed old new who (Some refusal) enters = enters.0
 
 -- in a database
-pub allowed-there : (v now : WorldView) (d who : ℕ) (old new : DbView) (refusal : Option Refusal) → v ≡ now → d < length v.databases.values → old ≡ get_or v.databases.values d old
-    → Enters (seen_database old).part (seen_database new).part who (entry_place true) refusal → outside_allowed ((seen_world now).database d) who ≡ refused_by refusal
+pub allowed-there : (v now : StateView) (d who : ℕ) (old new : DbView) (refusal : Option Refusal) → v ≡ now → d < length v.databases.values → old ≡ get_or v.databases.values d old
+    → Enters (seen_database old).part (seen_database new).part who (entry_place true) refusal → allowed_outside ((seen_state now).database d) who ≡ refused_by refusal
 allowed-there v now d who old new refusal same lt at enters =
-    ap (λ x. outside_allowed x who) (sym (shown-there v now d old same lt at)) ∙ entered-allowed (seen_database old) (seen_database new) who refusal enters
+    ap (λ x. allowed_outside x who) (sym (shown-there v now d old same lt at)) ∙ entered-allowed (seen_database old) (seen_database new) who refusal enters
 
-pub entered-stays : {E : Type 0} → (v now : WorldView) (d who : ℕ) (old new : DbView) (result : Result (Option Refusal) E) → v ≡ now → d < length v.databases.values → old ≡ get_or v.databases.values d old
+pub entered-stays : {E : Type 0} → (v now : StateView) (d who : ℕ) (old new : DbView) (result : Result (Option Refusal) E) → v ≡ now → d < length v.databases.values → old ≡ get_or v.databases.values d old → IsWhole now
     → IfOk result (λ refusal. Enters (seen_database old).part (seen_database new).part who (entry_place true) refusal)
     → seen_database new ≡ record (seen_database old) { part = (seen_database new).part }
     → OnOk result (Stays now (record v { databases = with_value v.databases d new }))
-entered-stays v now d who old new (Ok refusal) same lt at enters but =
-    stays-there v now d old new same lt at (entered-same (seen_database old) (seen_database new) who refusal enters but)
-entered-stays v now d who old new (Err fault) same lt at enters but = tt
+entered-stays v now d who old new (Ok refusal) same lt at whole enters but =
+    stays-there v now d old new same lt at whole (entered-same (seen_database old) (seen_database new) who refusal enters but)
+entered-stays v now d who old new (Err fault) same lt at whole enters but = tt
 
--- it may if there is no refusal
-pub may-by : (d : Database) (who : ℕ) (refusal : Option Refusal) → outside_allowed d who ≡ refused_by refusal → is_none refusal ≡ may_outside d who
-may-by d who None is = sym (ap is_ok is)
-may-by d who (Some refusal) is = sym (ap is_ok is)
-
--- ---- `create_root`
-
--- there is a node of its name
-pub root-taken : (old s : WorldView) (d who : ℕ) (stmt : Stmt) (name : List ℕ) (taken : Bool) (before after : List (ℕ × Reply)) → root_name stmt ≡ Some name → who < length old.sessions.names
-    → taken ≡ (may_outside ((seen_world old).database d) who && is_some (node_called (seen_world old) name)) → taken ≡ true → Stays old s
-    → after ≡ before ++ (who, Refused (NodeExists name)) ∷ [] → AddsDeed old s before after (session_does by_world (seen_world old) who stmt (Some d))
-root-taken old s d who (stmts.CreateRoot root queue) name taken before after named lt is holds stays added =
-    subst (λ n. AddsDeed old s before after (root_does by_world (seen_world old) who n queue d)) (sym same)
-    (subst (λ b. AddsDeed old s before after (if b then refuses who (NodeExists name) else made)) (sym holds ∙ is)
-    (answers-alone old s who (Refused (NodeExists name)) [] before after lt tt stays.shown (ap (λ (w : World). w.sessions) stays.shown) added))
-  where
-    same : root ≡ name
-    same = cc
-
-    made : Deed
-    made = roots_in d ((seen_world old).database d) (database_turn (within_database by_world d) (seen_world old) (seen_world old).now who (stmts.CreateRoot name queue))
-root-taken old s d who _ name taken before after named lt is holds stays added = absurd (cc)
-
--- there is none, or its session may not make it
-pub root-free : (old s new : WorldView) (d who : ℕ) (stmt : Stmt) (name : List ℕ) (taken : Bool) (before after : List (ℕ × Reply)) → root_name stmt ≡ Some name
-    → taken ≡ (may_outside ((seen_world old).database d) who && is_some (node_called (seen_world old) name)) → taken ≡ false → Stays old s
-    → AddsDeed s new before after (roots_in d ((seen_world s).database d) (database_turn (within_database by_world d) (seen_world s) (seen_world s).now who stmt))
-    → AddsDeed old new before after (session_does by_world (seen_world old) who stmt (Some d))
-root-free old s new d who (stmts.CreateRoot root queue) name taken before after named is not_so stays adds =
-    subst (λ b. AddsDeed old new before after (if b then refuses who (NodeExists root) else roots_in d ((seen_world old).database d) (database_turn (within_database by_world d) (seen_world old) (seen_world old).now who (stmts.CreateRoot root queue))))
-    (sym not_so ∙ is ∙ ap (λ n. may_outside ((seen_world old).database d) who && is_some (node_called (seen_world old) n)) same)
-    (adds-after old s new (λ w. roots_in d (w.database d) (database_turn (within_database by_world d) w w.now who (stmts.CreateRoot root queue))) before after stays adds)
-  where
-    same : name ≡ root
-    same = cc
-root-free old s new d who _ name taken before after named is not_so stays adds = absurd (cc)
-
--- whether the database got its node
-root-there : (old s : WorldView) (d : ℕ) (before after : List (ℕ × Reply)) (turn : Turn) → AddsDeed old s before after (deed_in d [] turn)
-    → gets_node ((seen_world old).database d) turn ≡ (not (is_some ((seen_world old).database d).node) && is_some ((seen_world s).database d).node)
-root-there old s d before after turn adds = ap (λ n. not (is_some x.node) && is_some n) (sym node_is)
-  where
-    w : World
-    w = seen_world old
-
-    x : Database
-    x = w.database d
-
-    node_is : ((seen_world s).database d).node ≡ (after_marks x turn.marks).node
-    node_is =
-        ap (λ (v : World). (v.database d).node) (adds.changed ∙ ap (λ facts. after_facts w facts) (append-nil (map (within d) turn.marks)) ∙ after_facts-within w d turn.marks)
-        ∙ ap (λ b. (if b then after_marks x turn.marks else x).node) (same-session d)
-
--- it has its node from then on, or it had one, or the statement was refused
-pub root-done : (old s new : WorldView) (d : ℕ) (had has : Bool) (before after : List (ℕ × Reply)) (turn : Turn)
-    → had ≡ is_some ((seen_world old).database d).node → has ≡ is_some ((seen_world s).database d).node
-    → AddsDeed old s before after (deed_in d [] turn)
-    → Happened s new (node_if (not had && has) d) → AddsDeed old new before after (roots_in d ((seen_world old).database d) turn)
-root-done old s new d had has before after turn was is adds gets =
-    subst (λ b. AddsDeed old new before after (deed_in d (node_if b d) turn)) (sym (root-there old s d before after turn adds ∙ (λ i. not (sym was i) && sym is i))) (by (not had && has) gets)
-  where
-    by : (b : Bool) → Happened s new (node_if b d) → AddsDeed old new before after (deed_in d (node_if b d) turn)
-    by true gets = adds-moved old s new d (node_made d) before after turn adds gets.changed gets.sessions
-    by false gets = record {
-      answered = adds.answered;
-      known = adds.known;
-      moments = adds.moments;
-      changed = gets.changed ∙ adds.changed;
-      sessions = gets.sessions ∙ adds.sessions;
-    }
-
-pub found-if : {A B : Type 0} → (f : A → B) (found : Option A) → is_some found ≡ is_some (option_map f found)
-found-if f None = refl
-found-if f (Some a) = refl
-
-pub nothing-happened : (v : WorldView) → Happened v v []
-nothing-happened v = record { changed = refl; sessions = refl; databases = refl; failed = refl }
-
--- such a statement isn't one that the world decides
-pub root-kind : (stmt : Stmt) → is_some (root_name stmt) ≡ true → is_worlds stmt ≡ false
-root-kind (stmts.CreateRoot name queue) root = refl
-root-kind _ root = absurd (cc)
-
--- ---- the other statements
-
--- one that its session may make
-pub node-allowed : (old s new : WorldView) (d who : ℕ) (stmt : NodeStmt) (found : Option Refusal) (before after : List (ℕ × Reply)) → outside_allowed ((seen_world old).database d) who ≡ refused_by found → found ≡ None → Stays old s
-    → AddsDeed s new before after (world_does who (node_form (seen_world s) d stmt)) → AddsDeed old new before after (node_stmt_does by_world (seen_world old) who stmt d)
-node-allowed old s new d who stmt found before after is none stays adds =
-    subst (λ b. AddsDeed old new before after (if b then world_does who (node_form (seen_world old) d stmt)
-    else deed_in d [] (database_turn (within_database by_world d) (seen_world old) (seen_world old).now who (stmts.Node stmt))))
-    (sym (may-outside (seen_world old) d who (stmts.Node stmt) (refused_by found) refl is ∙ ap (λ o. is_ok (refused_by o)) none))
-    (adds-after old s new (λ w. world_does who (node_form w d stmt)) before after stays adds)
-
--- or may not
-pub node-refused : (old s new : WorldView) (d who : ℕ) (stmt : NodeStmt) (found : Option Refusal) (refusal : Refusal) (before after : List (ℕ × Reply))
-    → outside_allowed ((seen_world old).database d) who ≡ refused_by found → found ≡ Some refusal → Stays old s
-    → AddsDeed s new before after (deed_in d [] (refused_turn ((seen_world s).database d) s.now who refusal))
-    → AddsDeed old new before after (node_stmt_does by_world (seen_world old) who stmt d)
-node-refused old s new d who stmt found refusal before after is there stays adds =
-    let refused : outside_allowed ((seen_world old).database d) who ≡ Err refusal = is ∙ ap refused_by there in
-    subst (λ b. AddsDeed old new before after (if b then world_does who (node_form (seen_world old) d stmt)
-    else deed_in d [] (database_turn (within_database by_world d) (seen_world old) (seen_world old).now who (stmts.Node stmt))))
-    (sym (may-outside (seen_world old) d who (stmts.Node stmt) (Err refusal) refl refused))
-    (subst (λ t. AddsDeed old new before after (deed_in d [] t)) (sym (turn-refused (seen_world old) d who (stmts.Node stmt) refusal refl refused))
-    (adds-after old s new (λ w. deed_in d [] (refused_turn (w.database d) w.now who refusal)) before after stays adds))
+-- ---- what a statement answers
 
 -- its answers
 known-all : (who count : ℕ) (replies : List Reply) → who < count → All (λ (answer : ℕ × Reply). answer.0 < count) (map (λ reply. (who, reply)) replies)
@@ -301,7 +160,7 @@ moments-all who (reply ∷ replies) all =
     All-cons (λ (answer : ℕ × Reply). ReplyHasMoments answer.1) (who, reply) (map (λ r. (who, r)) replies) (All-head ReplyHasMoments reply replies all)
     (moments-all who replies (All-tail ReplyHasMoments reply replies all))
 
-pub form-done : (old s : WorldView) (who : ℕ) (replies : List Reply) (checked : Checked WorldOutcome) (before after : List (ℕ × Reply)) → who < length old.sessions.names → DoesAll old s replies checked
+pub form-done : (old s : StateView) (who : ℕ) (replies : List Reply) (checked : Checked WorldOutcome) (before after : List (ℕ × Reply)) → who < length old.sessions.names → DoesAll old s replies checked
     → after ≡ before ++ map (λ reply. (who, reply)) replies → AddsDeed old s before after (world_does who checked)
 form-done old s who replies checked before after lt does added =
     subst (λ c. AddsDeed old s before after (world_does who c)) (sym does.outcome) (record {
@@ -310,6 +169,7 @@ form-done old s who replies checked before after lt does added =
       moments = moments-all who replies does.moments;
       changed = does.happened.changed;
       sessions = does.happened.sessions;
+      whole = does.happened.whole;
     })
 
 -- no answer is left
@@ -318,7 +178,7 @@ none-left who before [] none = sym (append-nil before)
 none-left who before (reply ∷ left) none = absurd (omega (arith, none))
 
 -- one answer as a list
-pub does-alone : (old s : WorldView) (ran : Result Reply Stop) (replies : List Reply) (checked : Checked WorldOutcome) → Ran old s ran checked → as_list ran ≡ Ok replies → DoesAll old s replies checked
+pub does-alone : (old s : StateView) (ran : Result Reply Stop) (replies : List Reply) (checked : Checked WorldOutcome) → Ran old s ran checked → as_list ran ≡ Ok replies → DoesAll old s replies checked
 does-alone old s (Err stop) replies checked does is = absurd (cc is)
 does-alone old s (Ok reply) replies checked does is = subst (λ rs. DoesAll old s rs checked) (let one : reply ∷ [] ≡ replies = cc is in one) (record {
   facts = does.facts;
@@ -328,27 +188,73 @@ does-alone old s (Ok reply) replies checked does is = subst (λ rs. DoesAll old 
 })
 
 -- or why there is none
-pub stops-alone : (old s : WorldView) (ran : Result Reply Stop) (stop : Stop) (checked : Checked WorldOutcome) → Ran old s ran checked → StopsLike ran stop → Stopped old s stop checked
+pub stops-alone : (old s : StateView) (ran : Result Reply Stop) (stop : Stop) (checked : Checked WorldOutcome) → Ran old s ran checked → StopsLike ran stop → Stopped old s stop checked
 stops-alone old s ran NoMemory checked does is = tt
 stops-alone old s ran (halt.Refused refusal) checked does is = subst (λ r. Ran old s r checked) is does
 
 -- or its refusal
-pub form-refused : (old s : WorldView) (who : ℕ) (refusal : Refusal) (checked : Checked WorldOutcome) (before after : List (ℕ × Reply)) → who < length old.sessions.names → checked ≡ Err refusal → Stays old s
+pub form-refused : (old s : StateView) (who : ℕ) (refusal : Refusal) (checked : Checked WorldOutcome) (before after : List (ℕ × Reply)) → who < length old.sessions.names → checked ≡ Err refusal → Stays old s
     → after ≡ before ++ (who, Refused refusal) ∷ [] → AddsDeed old s before after (world_does who checked)
 form-refused old s who refusal checked before after lt refused stays added =
     subst (λ c. AddsDeed old s before after (world_does who c)) (sym refused)
-    (answers-alone old s who (Refused refusal) [] before after lt tt stays.shown (ap (λ (w : World). w.sessions) stays.shown) added)
+    (answers-alone old s who (Refused refusal) [] before after lt tt stays.shown (ap (λ (w : World). w.sessions) stays.shown) stays.whole added)
+
+-- ---- `create_root`
+
+-- a database without a node gets a root
+pub root-there : (v now new : StateView) (d : ℕ) (was is : DbView) (name queue : List ℕ) (moment t : ℤ) → v ≡ now → d < length v.databases.values → was ≡ get_or v.databases.values d was
+    → ((seen_state now).database d).node ≡ None → IsWhole now → t ≡ moment → Serves (seen_database was) (seen_database is) (making_root name queue t)
+    → Happened (record v { databases = with_value v.databases d is }) new (node_made d ∷ []) → Does now new Done (root_of d (makes_root ((seen_state now).database d) moment name queue))
+root-there v now new d was is name queue moment t same lt at bare whole time serves gets = record {
+  facts = map (within d) (marks_of made) ++ node_made d ∷ [];
+  outcome = by made (subst (λ c. is_ok c ≡ true) call_is (subst (λ x. is_ok (node_does x call) ≡ true) (shown-there v now d was same lt at) serves.accepted));
+  moments = tt;
+  happened = record {
+    changed = gets.changed ∙ ap (λ w. after_facts w (node_made d ∷ [])) served.changed ∙ sym (after_facts-append (seen_state now) (map (within d) (marks_of made)) (node_made d ∷ []));
+    sessions = gets.sessions ∙ served.sessions;
+    databases = gets.databases ∙ served.databases;
+    whole = gets.whole;
+  };
+}
+  where
+    call : NodeCall
+    call = making_root name queue t
+
+    made : Checked Outcome
+    made = makes_root ((seen_state now).database d) moment name queue
+
+    call_is : node_does ((seen_state now).database d) call ≡ made
+    call_is = is-served ((seen_state now).database d) call (ap (may_serve call) bare) ∙ ap (λ m. makes_root ((seen_state now).database d) m name queue) time
+
+    served : Happened now (record v { databases = with_value v.databases d is }) (map (within d) (marks_of made))
+    served = subst (λ c. Happened now (record v { databases = with_value v.databases d is }) (map (within d) (marks_of c))) call_is (served-there v now d was is call same lt at whole serves)
+
+    by : (c : Checked Outcome) → is_ok c ≡ true → root_of d c ≡ Ok (record { replies = Done ∷ []; facts = map (within d) (marks_of c) ++ node_made d ∷ [] })
+    by (Ok outcome) ok = refl
+    by (Err refusal) ok = absurd (cc)
+
+-- it is refused there
+pub root-refused : (v now : StateView) (d : ℕ) (was is : DbView) (name queue : List ℕ) (moment t : ℤ) (refusal : Refusal) → v ≡ now → d < length v.databases.values → was ≡ get_or v.databases.values d was
+    → ((seen_state now).database d).node ≡ None → IsWhole now → t ≡ moment → Refuses (seen_database was) (seen_database is) refusal (node_does (seen_database was) (making_root name queue t))
+    → (root_of d (makes_root ((seen_state now).database d) moment name queue) ≡ Err refusal) × Stays now (record v { databases = with_value v.databases d is })
+root-refused v now d was is name queue moment t refusal same lt at bare whole time refuses =
+    let both : (node_does ((seen_state now).database d) call ≡ Err refusal) × Stays now (record v { databases = with_value v.databases d is })
+    = refused-there v now d was is call refusal same lt at whole refuses.refused refuses.same in
+    (ap (root_of d) (sym (is-served ((seen_state now).database d) call (ap (may_serve call) bare) ∙ ap (λ m. makes_root ((seen_state now).database d) m name queue) time) ∙ both.0), both.1)
+  where
+    call : NodeCall
+    call = making_root name queue t
 
 -- ---- `create_leaf`
 
 -- a database other than the provider's has no node still
-pub free-still : (old s : WorldView) (d from tick : ℕ) (consumer : List ℕ) → ((seen_world old).database d).node ≡ None → is_some (set_queue ((seen_world old).database from)) ≡ true
-    → Joins old s from tick consumer → ((seen_world s).database d).node ≡ None
+pub free-still : (old s : StateView) (d from tick : ℕ) (consumer : List ℕ) → ((seen_state old).database d).node ≡ None → is_some (set_queue ((seen_state old).database from)) ≡ true
+    → Joins old s from tick consumer → ((seen_state s).database d).node ≡ None
 free-still old s d from tick consumer free provider joins =
-    ap (λ (w : World). (w.database d).node) (joins.happened.changed ∙ after_facts-within (seen_world old) from marks) ∙ by (from == d) refl
+    ap (λ (w : World). (w.database d).node) (joins.happened.changed ∙ after_facts-within (seen_state old) from marks) ∙ by (from == d) refl
   where
     marks : List Mark
-    marks = marks_of (node_does ((seen_world old).database from) (joining consumer))
+    marks = marks_of (node_does ((seen_state old).database from) (joining consumer))
 
     none : (x : Database) → x.node ≡ None → is_some (set_queue x) ≡ false
     none x e = ap (λ n. is_some (set_queue_of x n)) e
@@ -356,28 +262,28 @@ free-still old s d from tick consumer free provider joins =
     apart : (o : Option ℕ) → is_some o ≡ true → is_some o ≡ false → ⊥
     apart o there gone = cc
 
-    by : (b : Bool) → (from == d) ≡ b → (if b then after_marks ((seen_world old).database d) marks else (seen_world old).database d).node ≡ None
+    by : (b : Bool) → (from == d) ≡ b → (if b then after_marks ((seen_state old).database d) marks else (seen_state old).database d).node ≡ None
     by true e =
         let one : from ≡ d = grind (arith, nat_tests) in
-        absurd (apart (set_queue ((seen_world old).database from)) provider (none ((seen_world old).database from) (ap (λ n. ((seen_world old).database n).node) one ∙ free)))
+        absurd (apart (set_queue ((seen_state old).database from)) provider (none ((seen_state old).database from) (ap (λ n. ((seen_state old).database n).node) one ∙ free)))
     by false e = free
 
 -- a database without a node gets a leaf
-pub leaf-there : (v now new : WorldView) (d tick : ℕ) (was is : DbView) (name provider : List ℕ) → v ≡ now → d < length v.databases.values → was ≡ get_or v.databases.values d was
-    → ((seen_world now).database d).node ≡ None → Serves (seen_database was) (seen_database is) (making_leaf name provider tick)
+pub leaf-there : (v now new : StateView) (d tick : ℕ) (was is : DbView) (name provider : List ℕ) → v ≡ now → d < length v.databases.values → was ≡ get_or v.databases.values d was
+    → ((seen_state now).database d).node ≡ None → IsWhole now → Serves (seen_database was) (seen_database is) (making_leaf name provider tick)
     → Happened (record v { databases = with_value v.databases d is }) new (node_made d ∷ []) → Happened now new (within d (noded (leaf_made name provider tick)) ∷ node_made d ∷ [])
-leaf-there v now new d tick was is name provider same lt at free serves gets = record {
+leaf-there v now new d tick was is name provider same lt at free whole serves gets = record {
   changed = gets.changed ∙ ap (λ w. after_facts w (node_made d ∷ [])) made.changed;
   sessions = gets.sessions ∙ made.sessions;
   databases = gets.databases ∙ made.databases;
-  failed = gets.failed ∙ made.failed;
+  whole = gets.whole;
 }
   where
     made : Happened now (record v { databases = with_value v.databases d is }) (within d (noded (leaf_made name provider tick)) ∷ [])
     made =
         subst (λ c. Happened now (record v { databases = with_value v.databases d is }) (map (within d) (marks_of c)))
-        (is-served ((seen_world now).database d) (making_leaf name provider tick) (ap (may_serve (making_leaf name provider tick)) free))
-        (served-there v now d was is (making_leaf name provider tick) same lt at serves)
+        (is-served ((seen_state now).database d) (making_leaf name provider tick) (ap (may_serve (making_leaf name provider tick)) free))
+        (served-there v now d was is (making_leaf name provider tick) same lt at whole serves)
 
 leaf-outcome : (d from tick : ℕ) (name provider : List ℕ) (c : Checked Outcome) → is_ok c ≡ true
     → leaf_of d from name provider tick c ≡ Ok (record { replies = Done ∷ []; facts = map (within from) (marks_of c) ++ within d (noded (leaf_made name provider tick)) ∷ node_made d ∷ [] })
@@ -393,17 +299,17 @@ leaf-given w d from tick name provider (Some q) newest ok =
     let same : newest_id ((w.database from).queue q) ≡ tick = cc in
     ap (λ n. leaf_of d from name provider n (joins (w.database from) q name)) same ∙ leaf-outcome d from tick name provider (joins (w.database from) q name) ok
 
-pub leaf-made : (old s new : WorldView) (d from tick : ℕ) (name provider : List ℕ) (checked : Checked WorldOutcome) → checked ≡ leaf_from (seen_world old) d name provider from
+pub leaf-made : (old s new : StateView) (d from tick : ℕ) (name provider : List ℕ) (checked : Checked WorldOutcome) → checked ≡ leaf_from (seen_state old) d name provider from
     → Joins old s from tick name → Happened s new (within d (noded (leaf_made name provider tick)) ∷ node_made d ∷ []) → Does old new Done checked
 leaf-made old s new d from tick name provider checked is joins made = record {
-  facts = call_facts (seen_world old) from (joining name) ++ rest;
-  outcome = is ∙ leaf-given (seen_world old) d from tick name provider (set_queue ((seen_world old).database from)) joins.newest joins.accepted;
+  facts = call_facts (seen_state old) from (joining name) ++ rest;
+  outcome = is ∙ leaf-given (seen_state old) d from tick name provider (set_queue ((seen_state old).database from)) joins.newest joins.accepted;
   moments = tt;
   happened = record {
-    changed = made.changed ∙ ap (λ w. after_facts w rest) joins.happened.changed ∙ sym (after_facts-append (seen_world old) (call_facts (seen_world old) from (joining name)) rest);
+    changed = made.changed ∙ ap (λ w. after_facts w rest) joins.happened.changed ∙ sym (after_facts-append (seen_state old) (call_facts (seen_state old) from (joining name)) rest);
     sessions = made.sessions ∙ joins.happened.sessions;
     databases = made.databases ∙ joins.happened.databases;
-    failed = made.failed ∙ joins.happened.failed;
+    whole = made.whole;
   };
 }
   where
@@ -411,13 +317,13 @@ leaf-made old s new d from tick name provider checked is joins made = record {
     rest = within d (noded (leaf_made name provider tick)) ∷ node_made d ∷ []
 
 -- its consumer may not join
-pub leaf-refused : (old s : WorldView) (d from : ℕ) (name provider : List ℕ) (stop : Stop) (checked : Checked WorldOutcome) → checked ≡ leaf_from (seen_world old) d name provider from
-    → is_some (set_queue ((seen_world old).database from)) ≡ true → Joined old s from (Err stop) name → Ran old s (Err stop) checked
+pub leaf-refused : (old s : StateView) (d from : ℕ) (name provider : List ℕ) (stop : Stop) (checked : Checked WorldOutcome) → checked ≡ leaf_from (seen_state old) d name provider from
+    → is_some (set_queue ((seen_state old).database from)) ≡ true → Joined old s from (Err stop) name → Ran old s (Err stop) checked
 leaf-refused old s d from name provider NoMemory checked is provides joined = tt
-leaf-refused old s d from name provider (halt.Refused refusal) checked is provides joined = (is ∙ by (set_queue ((seen_world old).database from)) provides joined.0, joined.1)
+leaf-refused old s d from name provider (halt.Refused refusal) checked is provides joined = (is ∙ by (set_queue ((seen_state old).database from)) provides joined.0, joined.1)
   where
     w : World
-    w = seen_world old
+    w = seen_state old
 
     by : (o : Option ℕ) → is_some o ≡ true → if_there o (λ q. joins (w.database from) q name) ≡ Err refusal
         → (found_or o (NotProvider provider) >>= (λ q. leaf_of d from name provider (newest_id ((w.database from).queue q)) (joins (w.database from) q name))) ≡ Err refusal
@@ -427,20 +333,20 @@ leaf-refused old s d from name provider (halt.Refused refusal) checked is provid
 -- ---- a check that changes nothing
 
 -- what stops it stops the statement
-pub stops-then : {A : Type 0} (v : WorldView) (result : Result Reply Stop) (stop : Stop) (check : Checked A) (rest : A → Checked WorldOutcome) (checked : Checked WorldOutcome) → checked ≡ (check >>= rest)
+pub stops-then : {A : Type 0} (v : StateView) (result : Result Reply Stop) (stop : Stop) (check : Checked A) (rest : A → Checked WorldOutcome) (checked : Checked WorldOutcome) → IsWhole v → checked ≡ (check >>= rest)
     → IsErrAnd result (λ e. e ≡ stop) → StopsAs stop check → Ran v v result checked
-stops-then v (Ok reply) stop check rest checked is errs stops = absurd errs
-stops-then v (Err e) stop check rest checked is errs stops = subst (λ r. Ran v v (Err r) checked) (sym errs) (by stop stops)
+stops-then v (Ok reply) stop check rest checked whole is errs stops = absurd errs
+stops-then v (Err e) stop check rest checked whole is errs stops = subst (λ r. Ran v v (Err r) checked) (sym errs) (by stop stops)
   where
     by : (r : Stop) → StopsAs r check → Ran v v (Err r) checked
     by NoMemory none = tt
-    by (halt.Refused refusal) refused = (is ∙ ap (λ c. c >>= rest) refused, record { shown = refl; failed = refl })
+    by (halt.Refused refusal) refused = (is ∙ ap (λ c. c >>= rest) refused, record { shown = refl; whole = whole })
 
 -- the same of one that answers something else
-pub halts-then : {A B : Type 0} (v : WorldView) (result : Result B Stop) (stop : Stop) (check : Checked A) (rest : A → Checked WorldOutcome) (checked : Checked WorldOutcome) → checked ≡ (check >>= rest)
+pub halts-then : {A B : Type 0} (v : StateView) (result : Result B Stop) (stop : Stop) (check : Checked A) (rest : A → Checked WorldOutcome) (checked : Checked WorldOutcome) → IsWhole v → checked ≡ (check >>= rest)
     → IsErrAnd result (λ e. e ≡ stop) → StopsAs stop check → IfErr result (λ s. Stopped v v s checked)
-halts-then v (Ok b) stop check rest checked is errs stops = tt
-halts-then v (Err e) stop check rest checked is errs stops = stops-then v (Err e) stop check rest checked is errs stops
+halts-then v (Ok b) stop check rest checked whole is errs stops = tt
+halts-then v (Err e) stop check rest checked whole is errs stops = stops-then v (Err e) stop check rest checked whole is errs stops
 
 -- ---- `add_table` and `remove_table`
 

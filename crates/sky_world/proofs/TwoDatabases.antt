@@ -15,8 +15,9 @@ use Rattle.pgq_db.specs.Views.{DbView}
 use Rattle.pgq_db.specs.Seen.{seen_database, no_database}
 use Rattle.londiste_batches.specs.Moved.{after_calls}
 use Rattle.sky_world.specs.Hands.{HandAt, hand_at, batch_at}
-use Rattle.sky_world.specs.Views.{WorldView}
-use Rattle.sky_world.specs.Seen.{seen_world}
+use Rattle.sky_world.specs.Views.{StateView}
+use Rattle.sky_world.specs.Seen.{seen_state}
+use Rattle.sky_world.specs.Whole.{AreWhole}
 use Rattle.sky_world.specs.Nodes.{Happened}
 use Rattle.sky_world.proofs.Worlds.{get_or-changed, after_facts-within, after_facts-append}
 use Rattle.sky_world.proofs.CallsInTurn.{marks_of_all, after-all, facts-all, unchanged-there}
@@ -82,22 +83,22 @@ both-kept P stores p d empty p_old p_new d_old d_new p_lt d_lt apart p_at d_at n
 -- ---- what the world shows then
 
 -- what is kept as in hand is what a fact puts there
-abbrev pub PutInHand : WorldView → List HandAt → List (ℕ × BatchHand) → Fact → Type 0
+abbrev pub PutInHand : StateView → List HandAt → List (ℕ × BatchHand) → Fact → Type 0
 PutInHand v hands batches last =
-    (stores : ℕ → Database) → record (seen_world v) { database = stores; hands = hand_at hands; batches = batch_at batches } ≡ after_fact (record (seen_world v) { database = stores }) last
+    (stores : ℕ → Database) → record (seen_state v) { database = stores; hands = hand_at hands; batches = batch_at batches } ≡ after_fact (record (seen_state v) { database = stores }) last
 
-shows-both : (v : WorldView) (p d : ℕ) (last : Fact) (ps ds : List Mark) (empty p_old p_new d_old d_new : DbView) (hands : List HandAt) (batches : List (ℕ × BatchHand)) → p < length v.databases.values
+shows-both : (v : StateView) (p d : ℕ) (last : Fact) (ps ds : List Mark) (empty p_old p_new d_old d_new : DbView) (hands : List HandAt) (batches : List (ℕ × BatchHand)) → p < length v.databases.values
     → d < length v.databases.values → (p == d) ≡ false → p_old ≡ get_or v.databases.values p p_old → d_old ≡ get_or (slice_set v.databases.values p empty) d d_old
     → seen_database p_new ≡ after_marks (seen_database p_old) ps → seen_database d_new ≡ after_marks (seen_database d_old) ds → PutInHand v hands batches last
-    → seen_world (record v { databases = with_value (with_value (with_value v.databases p empty) d d_new) p p_new; hands = hands; batches = batches })
-    ≡ after_fact (record (seen_world v) { database = changed_at d (λ x. after_marks x ds) (changed_at p (λ x. after_marks x ps) (seen_world v).database) }) last
+    → seen_state (record v { databases = with_value (with_value (with_value v.databases p empty) d d_new) p p_new; hands = hands; batches = batches })
+    ≡ after_fact (record (seen_state v) { database = changed_at d (λ x. after_marks x ds) (changed_at p (λ x. after_marks x ps) (seen_state v).database) }) last
 shows-both v p d last ps ds empty p_old p_new d_old d_new hands batches p_lt d_lt apart p_at d_at p_is d_is put =
-    (λ i. record (seen_world v) {
+    (λ i. record (seen_state v) {
       database = λ n. (ap seen_database (read-both v.databases.values p d n empty d_new p_new p_lt d_lt) ∙ by n (p == n) (d == n) refl refl) i;
       hands = hand_at hands;
       batches = batch_at batches;
     })
-    ∙ put (changed_at d (λ x. after_marks x ds) (changed_at p (λ x. after_marks x ps) (seen_world v).database))
+    ∙ put (changed_at d (λ x. after_marks x ds) (changed_at p (λ x. after_marks x ps) (seen_state v).database))
   where
     stores : List DbView
     stores = v.databases.values
@@ -114,28 +115,28 @@ shows-both v p d last ps ds empty p_old p_new d_old d_new hands batches p_lt d_l
         d_is ∙ ap (λ (x : DbView). after_marks (seen_database x) ds) (sym (second-there stores p d empty d_old d_lt apart d_at)) ∙ ap (λ k. after_marks (seen_database (get_or stores k no_database)) ds) same
     by n false false one also = refl
 
-pub moved-there : {H : Type 0} (v now : WorldView) (p d : ℕ) (handed : Option H → Fact) (move : Move H) (empty p_old p_new d_old d_new : DbView) (hands : List HandAt) (batches : List (ℕ × BatchHand)) → v ≡ now
+pub moved-there : {H : Type 0} (v now : StateView) (p d : ℕ) (handed : Option H → Fact) (move : Move H) (empty p_old p_new d_old d_new : DbView) (hands : List HandAt) (batches : List (ℕ × BatchHand)) → v ≡ now
     → p < length v.databases.values → d < length v.databases.values → (p == d) ≡ false → p_old ≡ get_or v.databases.values p p_old → d_old ≡ get_or (slice_set v.databases.values p empty) d d_old
     → seen_database p_new ≡ after_calls (seen_database p_old) move.provider → seen_database d_new ≡ after_calls (seen_database d_old) move.replica → PutInHand v hands batches (handed move.hand)
-    → Happened now (record v { databases = with_value (with_value (with_value v.databases p empty) d d_new) p p_new; hands = hands; batches = batches }) (move_facts (seen_world now) p d handed move)
-moved-there v now p d handed move empty p_old p_new d_old d_new hands batches same p_lt d_lt apart p_at d_at p_is d_is put =
-    subst (λ (w : WorldView). Happened w (record v { databases = with_value (with_value (with_value v.databases p empty) d d_new) p p_new; hands = hands; batches = batches }) (move_facts (seen_world w) p d handed move)) same (record {
+    → AreWhole (length v.sessions.names) (with_both v.databases.values p d empty d_new p_new) → Happened now (record v { databases = with_value (with_value (with_value v.databases p empty) d d_new) p p_new; hands = hands; batches = batches }) (move_facts (seen_state now) p d handed move)
+moved-there v now p d handed move empty p_old p_new d_old d_new hands batches same p_lt d_lt apart p_at d_at p_is d_is put whole =
+    subst (λ (w : StateView). Happened w (record v { databases = with_value (with_value (with_value v.databases p empty) d d_new) p p_new; hands = hands; batches = batches }) (move_facts (seen_state w) p d handed move)) same (record {
       changed = shows-both v p d (handed move.hand) ps ds empty p_old p_new d_old d_new hands batches p_lt d_lt apart p_at d_at
           (p_is ∙ after-all (seen_database p_old) move.provider ∙ ap (λ (x : DbView). after_marks (seen_database p_old) (marks_of_all (seen_database x) move.provider)) (sym (first-there stores p p_old p_lt p_at)))
           (d_is ∙ after-all (seen_database d_old) move.replica ∙ ap (λ (x : DbView). after_marks (seen_database d_old) (marks_of_all (seen_database x) move.replica)) (sym (second-there stores p d empty d_old d_lt apart d_at)))
           put
-          ∙ sym (after-moved (seen_world v) p d ps ds (handed move.hand))
-          ∙ ap (after_facts (seen_world v)) (sym (moved-facts (seen_world v) p d handed move apart));
+          ∙ sym (after-moved (seen_state v) p d ps ds (handed move.hand))
+          ∙ ap (after_facts (seen_state v)) (sym (moved-facts (seen_state v) p d handed move apart));
       sessions = refl;
       databases = refl;
-      failed = refl;
+      whole = whole;
     })
   where
     stores : List DbView
     stores = v.databases.values
 
     ps : List Mark
-    ps = marks_of_all ((seen_world v).database p) move.provider
+    ps = marks_of_all ((seen_state v).database p) move.provider
 
     ds : List Mark
-    ds = marks_of_all ((seen_world v).database d) move.replica
+    ds = marks_of_all ((seen_state v).database d) move.replica

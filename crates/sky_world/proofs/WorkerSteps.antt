@@ -15,8 +15,6 @@ use Rattle.sky_model.specs.History.{Fact, in_hand, batch_in_hand}
 use Rattle.sky_model.specs.State.{Database, database_of, after_marks, changed_at, changed_for}
 use Rattle.sky_model.specs.Printed.{ReplyHasMoments}
 use Rattle.sky_model.specs.Outcome.{Outcome, Checked, marks_of}
-use Rattle.sky_model.specs.Settling.{ready}
-use Rattle.sky_model.specs.DatabaseSteps.{IsMade}
 use Rattle.sky_model.specs.StepNode.{NodeCall, node_does}
 use Rattle.sky_model.specs.WorkerMoves.{Move}
 use Rattle.sky_model.specs.CopyMoves.{copy_move, gives_up_in}
@@ -27,24 +25,17 @@ use Rattle.sky_model.specs.WorkersOfWorld.{move_facts, moves, restarting}
 use Rattle.sky_model.specs.NodesOfWorld.{WorldOutcome}
 use Rattle.pgq_db.specs.Views.{DbView}
 use Rattle.pgq_db.specs.Seen.{seen_database}
-use Rattle.pgq_db.specs.Waiters.{WaitersWithin}
 use Rattle.pgq_db.specs.declared.faults.WorkerFault.{WorkerFault}
 use Rattle.pgq_db.specs.declared.faults.WorkerFault.TheVariants as fault
 use Rattle.londiste_batches.specs.Moved.{after_call, after_calls, MovesAs, MovesBy, MoveRefused}
-use Rattle.sky_model.specs.Daemon.{quietly}
-use Rattle.sky_model.specs.DatabaseCalls.{served}
-use Rattle.sky_histories.proofs.MadeCopies.{made-after}
-use Rattle.pgq_db.proofs.NodeSteps.{serves-steps}
 use Rattle.sky_world.specs.Hands.{HandAt, hand_at, batch_at}
-use Rattle.sky_world.specs.Views.{WorldView}
-use Rattle.sky_world.specs.Seen.{seen_world}
-use Rattle.sky_world.specs.Waiters.{AllWaitersWithin, AllAtRest}
-use Rattle.sky_world.specs.Made.{AllMade}
+use Rattle.sky_world.specs.Views.{StateView}
+use Rattle.sky_world.specs.Seen.{seen_state}
+use Rattle.sky_world.specs.Whole.{IsWholeIn, AreWhole, IsWhole}
 use Rattle.sky_world.specs.Nodes.{Happened, DoesAll, Stays, Stopped}
-use Rattle.sky_world.specs.Workers.{is_out_of_memory, leaf_in, stop_of, stopping}
-use Rattle.sky_world.proofs.Made.{made-new}
+use Rattle.sky_world.specs.Workers.{leaf_in, stop_of, stopping}
+use Rattle.sky_world.proofs.Whole.{HasWhole, whole-new, whole-served}
 use Rattle.sky_world.proofs.HandsAt.{put-back, batch-back, changed-twice}
-use Rattle.sky_world.proofs.CallsInTurn.{waits-all, ready-all}
 use Rattle.sky_world.proofs.TwoDatabases.{PutInHand, with_both, first-there, second-there, both-kept, moved-there}
 use Rattle.sky_world.proofs.MoveMoments.{moments-moved, moments-replayed}
 
@@ -56,19 +47,17 @@ pub record Both (p p_new d d_new : Database) : Type 0 where
   pub provider : p_new ≡ after_calls p ps
   pub replica : d_new ≡ after_calls d ds
 
--- a database that calls have made is one after each call, refused or not
-made-call : (d : Database) (call : NodeCall) → IsMade d → IsMade (after_call d call)
-made-call d call made = by (node_does d call) refl
+-- a database is whole after each call, refused or not
+whole-call : (sessions : ℕ) (d : Database) (call : NodeCall) → IsWholeIn sessions d → IsWholeIn sessions (after_call d call)
+whole-call sessions d call whole = by (node_does d call) refl
   where
-    by : (c : Checked Outcome) → node_does d call ≡ c → IsMade (after_marks d (marks_of c))
-    by (Ok outcome) is =
-        made-after d (after_marks d outcome.marks) (served call) (quietly (node_does d call)) made tt
-        (serves-steps d (after_marks d outcome.marks) call (record { accepted = ap is_ok is; changed = ap (λ c. after_marks d (marks_of c)) (sym is) }))
-    by (Err refusal) is = made
+    by : (c : Checked Outcome) → node_does d call ≡ c → IsWholeIn sessions (after_marks d (marks_of c))
+    by (Ok outcome) is = whole-served sessions d (after_marks d outcome.marks) call (record { accepted = ap is_ok is; changed = ap (λ c. after_marks d (marks_of c)) (sym is) }) whole
+    by (Err refusal) is = whole
 
-made-calls : (old new : Database) (calls : List NodeCall) → new ≡ after_calls old calls → IsMade old → IsMade new
-made-calls old new [] is made = subst IsMade (sym is) made
-made-calls old new (call ∷ calls) is made = made-calls (after_call old call) new calls is (made-call old call made)
+whole-calls : (sessions : ℕ) (old new : Database) (calls : List NodeCall) → new ≡ after_calls old calls → IsWholeIn sessions old → IsWholeIn sessions new
+whole-calls sessions old new [] is whole = subst (IsWholeIn sessions) (sym is) whole
+whole-calls sessions old new (call ∷ calls) is whole = whole-calls sessions (after_call old call) new calls is (whole-call sessions old call whole)
 
 -- one database was exchanged for a spare one while the other was changed, and then came back
 pub record Went (stores : List DbView) (p d : ℕ) (spare p_old d_old : DbView) : Type 0 where
@@ -77,36 +66,27 @@ pub record Went (stores : List DbView) (p d : ℕ) (spare p_old d_old : DbView) 
   pub apart : (p == d) ≡ false
   pub p_at : p_old ≡ get_or stores p p_old
   pub d_at : d_old ≡ get_or (slice_set stores p spare) d d_old
+  pub empty : seen_database spare ≡ database_of []
 
 -- so it went, as the code finds it
 pub went-as : (stores : List DbView) (p d : ℕ) (spare p_was p_old d_old : DbView) → p < length stores → d < length (slice_set stores p spare) → (p == d) ≡ false → p_was ≡ get_or stores p p_was → p_old ≡ p_was
-    → d_old ≡ get_or (slice_set stores p spare) d d_old → Went stores p d spare p_old d_old
-went-as stores p d spare p_was p_old d_old p_lt d_lt apart p_at is d_at = record {
+    → d_old ≡ get_or (slice_set stores p spare) d d_old → seen_database spare ≡ database_of [] → Went stores p d spare p_old d_old
+went-as stores p d spare p_was p_old d_old p_lt d_lt apart p_at is d_at empty = record {
   p_lt = p_lt;
   d_lt = subst (λ n. d < n) (length-set stores p spare) d_lt;
   apart = apart;
   p_at = subst (λ x. x ≡ get_or stores p x) (sym is) p_at;
   d_at = d_at;
+  empty = empty;
 }
 
-module _ {stores : List DbView} {p d : ℕ} {spare p_old d_old : DbView} (p_new d_new : DbView) (went : Went stores p d spare p_old d_old) (none : seen_database spare ≡ database_of [])
-    (both : Both (seen_database p_old) (seen_database p_new) (seen_database d_old) (seen_database d_new)) where
-  pub waiters-both : (count : ℕ) → AllWaitersWithin count stores → AllWaitersWithin count (with_both stores p d spare d_new p_new)
-  waiters-both count all =
-      both-kept (λ x. WaitersWithin count (seen_database x).part.waiting) stores p d spare p_old p_new d_old d_new went.p_lt went.d_lt went.apart went.p_at went.d_at
-      (subst (λ (x : Database). WaitersWithin count x.part.waiting) (sym none) (λ k w at. absurd (omega arith)))
-      (subst (WaitersWithin count) (sym (waits-all (seen_database p_old) (seen_database p_new) both.ps both.provider)))
-      (subst (WaitersWithin count) (sym (waits-all (seen_database d_old) (seen_database d_new) both.ds both.replica))) all
-
-  pub rests-both : AllAtRest stores → AllAtRest (with_both stores p d spare d_new p_new)
-  rests-both all =
-      both-kept (λ x. ready (seen_database x).part ≡ None) stores p d spare p_old p_new d_old d_new went.p_lt went.d_lt went.apart went.p_at went.d_at (ap (λ (x : Database). ready x.part) none)
-      (λ rests. ready-all (seen_database p_old) (seen_database p_new) both.ps both.provider ∙ rests) (λ rests. ready-all (seen_database d_old) (seen_database d_new) both.ds both.replica ∙ rests) all
-
-  pub made-both : AllMade stores → AllMade (with_both stores p d spare d_new p_new)
-  made-both all =
-      both-kept (λ x. IsMade (seen_database x)) stores p d spare p_old p_new d_old d_new went.p_lt went.d_lt went.apart went.p_at went.d_at (made-new (seen_database spare) none)
-      (made-calls (seen_database p_old) (seen_database p_new) both.ps both.provider) (made-calls (seen_database d_old) (seen_database d_new) both.ds both.replica) all
+-- what holds of all databases still does
+whole-both : (sessions : ℕ) (stores : List DbView) (p d : ℕ) (spare p_old p_new d_old d_new : DbView) → Went stores p d spare p_old d_old → Both (seen_database p_old) (seen_database p_new) (seen_database d_old) (seen_database d_new)
+    → AreWhole sessions stores → AreWhole sessions (with_both stores p d spare d_new p_new)
+whole-both sessions stores p d spare p_old p_new d_old d_new went both whole = record {
+  each = both-kept (HasWhole sessions) stores p d spare p_old p_new d_old d_new went.p_lt went.d_lt went.apart went.p_at went.d_at (whole-new sessions (seen_database spare) went.empty)
+      (whole-calls sessions (seen_database p_old) (seen_database p_new) both.ps both.provider) (whole-calls sessions (seen_database d_old) (seen_database d_new) both.ds both.replica) whole.each;
+}
 
 -- what was put in its place comes back
 pub spare-back : (stores : List DbView) (p d : ℕ) (spare d_new x : DbView) → p < length stores → (p == d) ≡ false → x ≡ get_or (slice_set (slice_set stores p spare) d d_new) p x → seen_database spare ≡ database_of []
@@ -151,13 +131,11 @@ steps k w p d = moves w p d k.handed (k.does (w.database p) (w.database d) (k.ha
 
 -- ---- a move that was tried
 
+-- whether memory ran out
 abbrev run_out : {A : Type 0} → Result A Stop → Bool
 run_out (Ok a) = false
-run_out (Err s) = is_out_of_memory s
-
-pub ran-out : {A : Type 0} (given : Result A Stop) (b : Bool) → IfOk given (λ _. b ≡ false) → IfErr given (λ s. b ≡ is_out_of_memory s) → b ≡ run_out given
-ran-out (Ok a) b ok err = ok
-ran-out (Err s) b ok err = err
+run_out (Err stop.NoMemory) = true
+run_out (Err (stop.Refused refusal)) = false
 
 -- what it gave, or else this; and why it stopped
 abbrev value_or : {A : Type 0} → A → Result A Stop → A
@@ -179,159 +157,134 @@ pub put-then : {E : Type 0} (kept : Result (Unit {0}) E) {T : Type 0} → is_ok 
 put-then (Ok _) ok t = t
 put-then (Err e) ok t = absurd (cc)
 
-pub both-moved : {H A : Type 0} (moved : Result A WorkerFault) (items : A → List Reply) (checked : Checked (Move H)) (p p_new r r_new : Database) (hand hand_new : Option H)
-    → IfOk moved (λ a. MovesBy checked p p_new r r_new (items a) hand_new) → IfErr moved (λ f. MoveRefused f checked p p_new r r_new hand hand_new) → run_out (stopping moved) ≡ false → Both p p_new r r_new
-both-moved (Ok a) items checked p p_new r r_new hand hand_new by not sound =
-    record { ps = by.move.provider; ds = by.move.replica; provider = by.moved.provider.changed; replica = by.moved.replica.changed }
-both-moved (Err fault.TooManyConsumers) items checked p p_new r r_new hand hand_new by not sound =
-    record { ps = []; ds = []; provider = ap (λ all. all.0) not.same; replica = ap (λ all. all.1) not.same }
-both-moved (Err fault.IdsSpent) items checked p p_new r r_new hand hand_new by not sound =
-    record { ps = []; ds = []; provider = ap (λ all. all.0) not.same; replica = ap (λ all. all.1) not.same }
-both-moved (Err fault.TxidsSpent) items checked p p_new r r_new hand hand_new by not sound =
-    record { ps = []; ds = []; provider = ap (λ all. all.0) not.same; replica = ap (λ all. all.1) not.same }
-both-moved (Err fault.NoMemory) items checked p p_new r r_new hand hand_new by not sound = absurd (cc)
-
 -- ---- what it did
 
 -- the world as it is kept is the one that is shown, with these databases and this in hand
-shown-parts : {H : Type 0} (k : Worker H) (v : WorldView) (p d : ℕ) (spare p_old d_old : DbView) (hand : Option H) → p < length v.databases.values → d < length v.databases.values → (p == d) ≡ false
-    → p_old ≡ get_or v.databases.values p p_old → d_old ≡ get_or (slice_set v.databases.values p spare) d d_old → hand ≡ k.has (seen_world v)
-    → k.does (seen_database p_old) (seen_database d_old) hand ≡ k.does ((seen_world v).database p) ((seen_world v).database d) (k.has (seen_world v))
+shown-parts : {H : Type 0} (k : Worker H) (v : StateView) (p d : ℕ) (spare p_old d_old : DbView) (hand : Option H) → p < length v.databases.values → d < length v.databases.values → (p == d) ≡ false
+    → p_old ≡ get_or v.databases.values p p_old → d_old ≡ get_or (slice_set v.databases.values p spare) d d_old → hand ≡ k.has (seen_state v)
+    → k.does (seen_database p_old) (seen_database d_old) hand ≡ k.does ((seen_state v).database p) ((seen_state v).database d) (k.has (seen_state v))
 shown-parts k v p d spare p_old d_old hand p_lt d_lt apart p_at d_at in_hand_is = λ i.
     k.does (seen_database (sym (first-there v.databases.values p p_old p_lt p_at) i)) (seen_database (sym (second-there v.databases.values p d spare d_old d_lt apart d_at) i)) (in_hand_is i)
 
--- the world after a move, whatever it says of memory
-abbrev after_step : (v : WorldView) (p d : ℕ) (spare p_new d_new : DbView) (hands : List HandAt) (batches : List (ℕ × BatchHand)) → Bool → WorldView
-after_step v p d spare p_new d_new hands batches failed =
-    record v { databases = with_value (with_value (with_value v.databases p spare) d d_new) p p_new; hands = hands; batches = batches; has_failed = failed }
+-- the world after a move
+abbrev after_step : (v : StateView) (p d : ℕ) (spare p_new d_new : DbView) (hands : List HandAt) (batches : List (ℕ × BatchHand)) → StateView
+after_step v p d spare p_new d_new hands batches =
+    record v { databases = with_value (with_value (with_value v.databases p spare) d d_new) p p_new; hands = hands; batches = batches }
 
--- it has failed if it had
-with-failed : (now x : WorldView) (facts : List Fact) (failed : Bool) → failed ≡ x.has_failed → Happened now x facts → Happened now (record x { has_failed = failed }) facts
-with-failed now x facts failed same happened = record { changed = happened.changed; sessions = happened.sessions; databases = happened.databases; failed = same ∙ happened.failed }
+module _ {H : Type 0} (k : Worker H) (v now : StateView) (p d : ℕ) (spare p_old p_new d_old d_new : DbView) (hand hand_new : Option H) (hands : List HandAt) (batches : List (ℕ × BatchHand)) (same : v ≡ now) (whole : IsWhole now)
+    (went : Went v.databases.values p d spare p_old d_old) (was : hand ≡ k.has (seen_state v)) (put : PutInHand v hands batches (k.handed hand_new)) where
+  abbrev new : StateView
+  new = after_step v p d spare p_new d_new hands batches
 
-module _ {H : Type 0} (k : Worker H) (v now : WorldView) (p d : ℕ) (spare p_old p_new d_old d_new : DbView) (hand hand_new : Option H) (hands : List HandAt) (batches : List (ℕ × BatchHand)) (failed : Bool) (same : v ≡ now)
-    (went : Went v.databases.values p d spare p_old d_old) (was : hand ≡ k.has (seen_world v)) (put : PutInHand v hands batches (k.handed hand_new)) where
-  abbrev new : WorldView
-  new = after_step v p d spare p_new d_new hands batches failed
-
-  parts : k.does (seen_database p_old) (seen_database d_old) hand ≡ k.does ((seen_world now).database p) ((seen_world now).database d) (k.has (seen_world now))
-  parts = shown-parts k v p d spare p_old d_old hand went.p_lt went.d_lt went.apart went.p_at went.d_at was ∙ ap (λ (w : WorldView). k.does ((seen_world w).database p) ((seen_world w).database d) (k.has (seen_world w))) same
+  parts : k.does (seen_database p_old) (seen_database d_old) hand ≡ k.does ((seen_state now).database p) ((seen_state now).database d) (k.has (seen_state now))
+  parts = shown-parts k v p d spare p_old d_old hand went.p_lt went.d_lt went.apart went.p_at went.d_at was ∙ ap (λ (w : StateView). k.does ((seen_state w).database p) ((seen_state w).database d) (k.has (seen_state w))) same
 
   -- a move
-  happens : (move : Move H) → failed ≡ v.has_failed → seen_database p_new ≡ after_calls (seen_database p_old) move.provider → seen_database d_new ≡ after_calls (seen_database d_old) move.replica → hand_new ≡ move.hand
-      → Happened now new (move_facts (seen_world now) p d k.handed move)
-  happens move sound p_is d_is in_hand_is =
-      with-failed now (record v { databases = with_value (with_value (with_value v.databases p spare) d d_new) p p_new; hands = hands; batches = batches }) (move_facts (seen_world now) p d k.handed move) failed sound
-      (moved-there v now p d k.handed move spare p_old p_new d_old d_new hands batches same went.p_lt went.d_lt went.apart went.p_at went.d_at p_is d_is (subst (λ h. PutInHand v hands batches (k.handed h)) in_hand_is put))
+  happens : (move : Move H) → seen_database p_new ≡ after_calls (seen_database p_old) move.provider → seen_database d_new ≡ after_calls (seen_database d_old) move.replica → hand_new ≡ move.hand
+      → Happened now new (move_facts (seen_state now) p d k.handed move)
+  happens move p_is d_is in_hand_is =
+      moved-there v now p d k.handed move spare p_old p_new d_old d_new hands batches same went.p_lt went.d_lt went.apart went.p_at went.d_at p_is d_is (subst (λ h. PutInHand v hands batches (k.handed h)) in_hand_is put)
+      (whole-both (length v.sessions.names) v.databases.values p d spare p_old p_new d_old d_new went (record { ps = move.provider; ds = move.replica; provider = p_is; replica = d_is }) (subst IsWhole (sym same) whole))
 
-  pub step-done : (replies : List Reply) → failed ≡ v.has_failed → MovesBy (k.does (seen_database p_old) (seen_database d_old) hand) (seen_database p_old) (seen_database p_new) (seen_database d_old) (seen_database d_new) replies hand_new
-      → DoesAll now new replies (steps k (seen_world now) p d)
-  step-done replies sound by = record {
-    facts = move_facts (seen_world now) p d k.handed by.move;
-    outcome = ap (moves (seen_world now) p d k.handed) (sym parts ∙ by.is) ∙ ap (λ rs. Ok (record { replies = rs; facts = move_facts (seen_world now) p d k.handed by.move })) (sym by.moved.printed);
+  pub step-done : (replies : List Reply) → MovesBy (k.does (seen_database p_old) (seen_database d_old) hand) (seen_database p_old) (seen_database p_new) (seen_database d_old) (seen_database d_new) replies hand_new
+      → DoesAll now new replies (steps k (seen_state now) p d)
+  step-done replies by = record {
+    facts = move_facts (seen_state now) p d k.handed by.move;
+    outcome = ap (moves (seen_state now) p d k.handed) (sym parts ∙ by.is) ∙ ap (λ rs. Ok (record { replies = rs; facts = move_facts (seen_state now) p d k.handed by.move })) (sym by.moved.printed);
     moments = subst (All ReplyHasMoments) (sym by.moved.printed) (subst (λ c. IfOk c (λ move. All ReplyHasMoments move.replies)) by.is (k.moments (seen_database p_old) (seen_database d_old) hand));
-    happened = happens by.move sound by.moved.provider.changed by.moved.replica.changed by.moved.in_hand;
+    happened = happens by.move by.moved.provider.changed by.moved.replica.changed by.moved.in_hand;
   }
 
   -- nothing
-  stays : failed ≡ v.has_failed → seen_database p_new ≡ seen_database p_old → seen_database d_new ≡ seen_database d_old → hand_new ≡ hand → Stays now new
-  stays sound p_is d_is in_hand_is =
+  stays : seen_database p_new ≡ seen_database p_old → seen_database d_new ≡ seen_database d_old → hand_new ≡ hand → Stays now new
+  stays p_is d_is in_hand_is =
       let nothing : Move H = record { provider = []; replica = []; replies = []; hand = hand_new } in
-      let happened : Happened now new (k.handed hand_new ∷ []) = happens nothing sound p_is d_is refl in record {
-        shown = happened.changed ∙ ap (λ h. after_fact (seen_world now) (k.handed h)) (in_hand_is ∙ was ∙ ap (λ (w : WorldView). k.has (seen_world w)) same) ∙ k.back (seen_world now);
-        failed = happened.failed;
+      let happened : Happened now new (k.handed hand_new ∷ []) = happens nothing p_is d_is refl in record {
+        shown = happened.changed ∙ ap (λ h. after_fact (seen_state now) (k.handed h)) (in_hand_is ∙ was ∙ ap (λ (w : StateView). k.has (seen_state w)) same) ∙ k.back (seen_state now);
+        whole = happened.whole;
       }
 
-  refused-as : (refusal : Refusal) → failed ≡ v.has_failed
+  refused-as : (refusal : Refusal)
       → Refuses {S = Database × Database × Option H} (seen_database p_old, seen_database d_old, hand) (seen_database p_new, seen_database d_new, hand_new) refusal (k.does (seen_database p_old) (seen_database d_old) hand)
-      → (steps k (seen_world now) p d ≡ Err refusal) × Stays now new
-  refused-as refusal sound not =
-      (ap (moves (seen_world now) p d k.handed) (sym parts ∙ not.refused), stays sound (ap (λ all. all.0) not.same) (ap (λ all. all.1) not.same) (ap (λ all. all.2) not.same))
+      → (steps k (seen_state now) p d ≡ Err refusal) × Stays now new
+  refused-as refusal not =
+      (ap (moves (seen_state now) p d k.handed) (sym parts ∙ not.refused), stays (ap (λ all. all.0) not.same) (ap (λ all. all.1) not.same) (ap (λ all. all.2) not.same))
 
-  pub step-refused : (f : WorkerFault) → (is_out_of_memory (stop_of f) ≡ false → failed ≡ v.has_failed)
-      → MoveRefused f (k.does (seen_database p_old) (seen_database d_old) hand) (seen_database p_old) (seen_database p_new) (seen_database d_old) (seen_database d_new) hand hand_new
-      → Stopped now new (stop_of f) (steps k (seen_world now) p d)
-  step-refused fault.TooManyConsumers sound not = refused-as (TooMany Consumers) (sound refl) not
-  step-refused fault.IdsSpent sound not = refused-as IdsSpent (sound refl) not
-  step-refused fault.TxidsSpent sound not = refused-as TxidsSpent (sound refl) not
-  step-refused fault.NoMemory sound not = tt
+  pub step-refused : (f : WorkerFault) → MoveRefused f (k.does (seen_database p_old) (seen_database d_old) hand) (seen_database p_old) (seen_database p_new) (seen_database d_old) (seen_database d_new) hand hand_new
+      → Stopped now new (stop_of f) (steps k (seen_state now) p d)
+  step-refused fault.TooManyConsumers not = refused-as (TooMany Consumers) not
+  step-refused fault.IdsSpent not = refused-as IdsSpent not
+  step-refused fault.TxidsSpent not = refused-as TxidsSpent not
+  step-refused fault.NoMemory not = tt
 
 -- ---- a move as the code makes it
 
-pub record Tried {H A E : Type 0} (k : Worker H) (v now : WorldView) (p d : ℕ) (spare p_old p_new d_old d_new : DbView) (hand hand_new : Option H) (hands : List HandAt) (batches : List (ℕ × BatchHand)) (failed : Bool)
+pub record Tried {H A E : Type 0} (k : Worker H) (v now : StateView) (p d : ℕ) (spare p_old p_new d_old d_new : DbView) (hand hand_new : Option H) (hands : List HandAt) (batches : List (ℕ × BatchHand))
     (items : A → List Reply) (moved : Result A WorkerFault) (given : Result A Stop) (kept : Result (Unit {0}) E) : Type 0 where
   pub same : v ≡ now
-  pub sound : v.has_failed ≡ false
+  pub whole : IsWhole now
   pub went : Went v.databases.values p d spare p_old d_old
-  pub was : hand ≡ k.has (seen_world v)
+  pub was : hand ≡ k.has (seen_state v)
   pub put : OnOk kept (PutInHand v hands batches (k.handed hand_new))
   pub keeps : OnOk kept (given ≡ stopping moved)
   pub lost : OnErr kept (given ≡ Err stop.NoMemory)
-  pub tells : failed ≡ run_out given
   pub moves : IfOk moved (λ a. MovesBy (k.does (seen_database p_old) (seen_database d_old) hand) (seen_database p_old) (seen_database p_new) (seen_database d_old) (seen_database d_new) (items a) hand_new)
   pub stops : IfErr moved (λ f. MoveRefused f (k.does (seen_database p_old) (seen_database d_old) hand) (seen_database p_old) (seen_database p_new) (seen_database d_old) (seen_database d_new) hand hand_new)
 
-module _ {H A E : Type 0} {k : Worker H} {v now : WorldView} {p d : ℕ} {spare p_old p_new d_old d_new : DbView} {hand hand_new : Option H} {hands : List HandAt} {batches : List (ℕ × BatchHand)} {failed : Bool}
-    {items : A → List Reply} {moved : Result A WorkerFault} {given : Result A Stop} {kept : Result (Unit {0}) E} (tried : Tried k v now p d spare p_old p_new d_old d_new hand hand_new hands batches failed items moved given kept) where
+module _ {H A E : Type 0} {k : Worker H} {v now : StateView} {p d : ℕ} {spare p_old p_new d_old d_new : DbView} {hand hand_new : Option H} {hands : List HandAt} {batches : List (ℕ × BatchHand)}
+    {items : A → List Reply} {moved : Result A WorkerFault} {given : Result A Stop} {kept : Result (Unit {0}) E} (tried : Tried k v now p d spare p_old p_new d_old d_new hand hand_new hands batches items moved given kept) where
   kept-given : run_out given ≡ false → (given ≡ stopping moved) × (is_ok kept ≡ true)
   kept-given sound = kept-moved kept moved given tried.keeps tried.lost sound
 
-  pub both-tried : failed ≡ false → Both (seen_database p_old) (seen_database p_new) (seen_database d_old) (seen_database d_new)
-  both-tried whole =
-      let ran : run_out given ≡ false = sym tried.tells ∙ whole in
-      both-moved moved items (k.does (seen_database p_old) (seen_database d_old) hand) (seen_database p_old) (seen_database p_new) (seen_database d_old) (seen_database d_new) hand hand_new tried.moves tried.stops
-      (ap run_out (sym (kept-given ran).0) ∙ ran)
+  abbrev after : StateView
+  after = after_step v p d spare p_new d_new hands batches
 
-  abbrev after : WorldView
-  after = after_step v p d spare p_new d_new hands batches failed
-
-  pub tried-ok : IfOk given (λ a. DoesAll now after (items a) (steps k (seen_world now) p d))
+  pub tried-ok : IfOk given (λ a. DoesAll now after (items a) (steps k (seen_state now) p d))
   tried-ok = by given refl
     where
-      done : (a : A) (m : Result A WorkerFault) → moved ≡ m → given ≡ Ok a → stopping m ≡ Ok a → is_ok kept ≡ true → DoesAll now after (items a) (steps k (seen_world now) p d)
+      done : (a : A) (m : Result A WorkerFault) → moved ≡ m → given ≡ Ok a → stopping m ≡ Ok a → is_ok kept ≡ true → DoesAll now after (items a) (steps k (seen_state now) p d)
       done a (Ok b) same is e ok =
-          subst (λ x. DoesAll now after (items x) (steps k (seen_world now) p d)) (ap (value_or b) e)
-          (step-done k v now p d spare p_old p_new d_old d_new hand hand_new hands batches failed tried.same tried.went tried.was (put-then kept ok tried.put) (items b) (tried.tells ∙ ap run_out is ∙ sym tried.sound)
+          subst (λ x. DoesAll now after (items x) (steps k (seen_state now) p d)) (ap (value_or b) e)
+          (step-done k v now p d spare p_old p_new d_old d_new hand hand_new hands batches tried.same tried.whole tried.went tried.was (put-then kept ok tried.put) (items b)
           (subst (λ m. IfOk m (λ x. MovesBy (k.does (seen_database p_old) (seen_database d_old) hand) (seen_database p_old) (seen_database p_new) (seen_database d_old) (seen_database d_new) (items x) hand_new)) same tried.moves))
       done a (Err f) same is e ok = absurd (cc)
 
-      by : (g : Result A Stop) → given ≡ g → IfOk g (λ a. DoesAll now after (items a) (steps k (seen_world now) p d))
+      by : (g : Result A Stop) → given ≡ g → IfOk g (λ a. DoesAll now after (items a) (steps k (seen_state now) p d))
       by (Err s) is = tt
       by (Ok a) is = let both = kept-given (ap run_out is) in done a moved refl is (sym both.0 ∙ is) both.1
 
-  pub tried-err : IfErr given (λ s. Stopped now after s (steps k (seen_world now) p d))
+  pub tried-err : IfErr given (λ s. Stopped now after s (steps k (seen_state now) p d))
   tried-err = by given refl
     where
       refused : (refusal : Refusal) (m : Result A WorkerFault) → moved ≡ m → given ≡ Err (stop.Refused refusal) → stopping m ≡ Err (stop.Refused refusal) → is_ok kept ≡ true
-          → Stopped now after (stop.Refused refusal) (steps k (seen_world now) p d)
+          → Stopped now after (stop.Refused refusal) (steps k (seen_state now) p d)
       refused refusal (Ok a) same is e ok = absurd (cc)
       refused refusal (Err f) same is e ok =
-          subst (λ s. Stopped now after s (steps k (seen_world now) p d)) (ap stop_in e)
-          (step-refused k v now p d spare p_old p_new d_old d_new hand hand_new hands batches failed tried.same tried.went tried.was (put-then kept ok tried.put) f (λ _. tried.tells ∙ ap run_out is ∙ sym tried.sound)
+          subst (λ s. Stopped now after s (steps k (seen_state now) p d)) (ap stop_in e)
+          (step-refused k v now p d spare p_old p_new d_old d_new hand hand_new hands batches tried.same tried.whole tried.went tried.was (put-then kept ok tried.put) f
           (subst (λ m. IfErr m (λ x. MoveRefused x (k.does (seen_database p_old) (seen_database d_old) hand) (seen_database p_old) (seen_database p_new) (seen_database d_old) (seen_database d_new) hand hand_new)) same tried.stops))
 
-      by : (g : Result A Stop) → given ≡ g → IfErr g (λ s. Stopped now after s (steps k (seen_world now) p d))
+      by : (g : Result A Stop) → given ≡ g → IfErr g (λ s. Stopped now after s (steps k (seen_state now) p d))
       by (Ok a) is = tt
       by (Err stop.NoMemory) is = tt
       by (Err (stop.Refused refusal)) is = let both = kept-given (ap run_out is) in refused refusal moved refl is (sym both.0 ∙ is) both.1
 
 -- so it was tried, as the code finds it
-tried-as : {H A E : Type 0} (k : Worker H) (v now : WorldView) (p d : ℕ) (spare p_old stepped p_new d_old d_new : DbView) (hand hand_new : Option H) (hands : List HandAt) (batches : List (ℕ × BatchHand)) (failed : Bool)
-    (items : A → List Reply) (moved : Result A WorkerFault) (given : Result A Stop) (kept : Result (Unit {0}) E) → v ≡ now → v.has_failed ≡ false → Went v.databases.values p d spare p_old d_old → hand ≡ k.has (seen_world v)
-    → OnOk kept (PutInHand v hands batches (k.handed hand_new)) → OnOk kept (given ≡ stopping moved) → OnErr kept (given ≡ Err stop.NoMemory) → IfOk given (λ _. failed ≡ false) → IfErr given (λ s. failed ≡ is_out_of_memory s)
+tried-as : {H A E : Type 0} (k : Worker H) (v now : StateView) (p d : ℕ) (spare p_old stepped p_new d_old d_new : DbView) (hand hand_new : Option H) (hands : List HandAt) (batches : List (ℕ × BatchHand))
+    (items : A → List Reply) (moved : Result A WorkerFault) (given : Result A Stop) (kept : Result (Unit {0}) E) → v ≡ now → IsWhole now → Went v.databases.values p d spare p_old d_old → hand ≡ k.has (seen_state v)
+    → OnOk kept (PutInHand v hands batches (k.handed hand_new)) → OnOk kept (given ≡ stopping moved) → OnErr kept (given ≡ Err stop.NoMemory)
     → p_new ≡ stepped
     → IfOk moved (λ a. MovesBy (k.does (seen_database p_old) (seen_database d_old) hand) (seen_database p_old) (seen_database stepped) (seen_database d_old) (seen_database d_new) (items a) hand_new)
     → IfErr moved (λ f. MoveRefused f (k.does (seen_database p_old) (seen_database d_old) hand) (seen_database p_old) (seen_database stepped) (seen_database d_old) (seen_database d_new) hand hand_new)
-    → Tried k v now p d spare p_old p_new d_old d_new hand hand_new hands batches failed items moved given kept
-tried-as k v now p d spare p_old stepped p_new d_old d_new hand hand_new hands batches failed items moved given kept same sound went was put keeps lost ok err back by not = record {
+    → Tried k v now p d spare p_old p_new d_old d_new hand hand_new hands batches items moved given kept
+tried-as k v now p d spare p_old stepped p_new d_old d_new hand hand_new hands batches items moved given kept same whole went was put keeps lost back by not = record {
   same = same;
-  sound = sound;
+  whole = whole;
   went = went;
   was = was;
   put = put;
   keeps = keeps;
   lost = lost;
-  tells = ran-out given failed ok err;
   moves = subst (λ x. IfOk moved (λ a. MovesBy (k.does (seen_database p_old) (seen_database d_old) hand) (seen_database p_old) (seen_database x) (seen_database d_old) (seen_database d_new) (items a) hand_new)) (sym back) by;
   stops = subst (λ x. IfErr moved (λ f. MoveRefused f (k.does (seen_database p_old) (seen_database d_old) hand) (seen_database p_old) (seen_database x) (seen_database d_old) (seen_database d_new) hand hand_new)) (sym back) not;
 }
@@ -341,51 +294,47 @@ hands-set : (d : ℕ) (table : List ℕ) (hand : Option Hand) (old taken set : L
     → hand_at set ≡ changed_at d (changed_for table (λ _. hand)) (hand_at taken) → hand_at set ≡ changed_at d (changed_for table (λ _. hand)) (hand_at old)
 hands-set d table hand old taken set took put = put ∙ ap (changed_at d (changed_for table (λ _. hand))) took ∙ changed-twice d table hand None (hand_at old)
 
-put-copy : {E : Type 0} (kept : Result (Unit {0}) E) (v : WorldView) (d : ℕ) (table : List ℕ) (set hand_new : Option Hand) (taken hands : List HandAt) → hand_at taken ≡ changed_at d (changed_for table (λ _. None)) (hand_at v.hands)
+put-copy : {E : Type 0} (kept : Result (Unit {0}) E) (v : StateView) (d : ℕ) (table : List ℕ) (set hand_new : Option Hand) (taken hands : List HandAt) → hand_at taken ≡ changed_at d (changed_for table (λ _. None)) (hand_at v.hands)
     → set ≡ hand_new → OnOk kept (hand_at hands ≡ changed_at d (changed_for table (λ _. set)) (hand_at taken)) → OnOk kept (PutInHand v hands v.batches (in_hand d table hand_new))
 put-copy (Err e) v d table set hand_new taken hands took is put = tt
 put-copy (Ok _) v d table set hand_new taken hands took is put = λ stores i.
-    record (seen_world v) { database = stores; hands = (hands-set d table set v.hands taken hands took put ∙ ap (λ h. changed_at d (changed_for table (λ _. h)) (hand_at v.hands)) is) i }
+    record (seen_state v) { database = stores; hands = (hands-set d table set v.hands taken hands took put ∙ ap (λ h. changed_at d (changed_for table (λ _. h)) (hand_at v.hands)) is) i }
 
 -- so it was tried for a table
-pub copy-tried : {A E : Type 0} (v now : WorldView) (p d : ℕ) (table : List ℕ) (spare p_old stepped p_new d_old d_new : DbView) (hand hand_new set : Option Hand) (taken hands : List HandAt) (failed : Bool) (items : A → List Reply)
-    (moved : Result A WorkerFault) (given : Result A Stop) (kept : Result (Unit {0}) E) → v ≡ now → v.has_failed ≡ false → Went v.databases.values p d spare p_old d_old → hand ≡ hand_at v.hands d table
+pub copy-tried : {A E : Type 0} (v now : StateView) (p d : ℕ) (table : List ℕ) (spare p_old stepped p_new d_old d_new : DbView) (hand hand_new set : Option Hand) (taken hands : List HandAt) (items : A → List Reply)
+    (moved : Result A WorkerFault) (given : Result A Stop) (kept : Result (Unit {0}) E) → v ≡ now → IsWhole now → Went v.databases.values p d spare p_old d_old → hand ≡ hand_at v.hands d table
     → hand_at taken ≡ changed_at d (changed_for table (λ _. None)) (hand_at v.hands) → set ≡ hand_new → OnOk kept (hand_at hands ≡ changed_at d (changed_for table (λ _. set)) (hand_at taken)) → OnOk kept (given ≡ stopping moved)
-    → OnErr kept (given ≡ Err stop.NoMemory) → IfOk given (λ _. failed ≡ false) → IfErr given (λ s. failed ≡ is_out_of_memory s) → p_new ≡ stepped
+    → OnErr kept (given ≡ Err stop.NoMemory) → p_new ≡ stepped
     → IfOk moved (λ a. MovesBy (copy_move (seen_database p_old) (seen_database d_old) table hand) (seen_database p_old) (seen_database stepped) (seen_database d_old) (seen_database d_new) (items a) hand_new)
     → IfErr moved (λ f. MoveRefused f (copy_move (seen_database p_old) (seen_database d_old) table hand) (seen_database p_old) (seen_database stepped) (seen_database d_old) (seen_database d_new) hand hand_new)
-    → Tried (copier_of d table) v now p d spare p_old p_new d_old d_new hand hand_new hands v.batches failed items moved given kept
-copy-tried v now p d table spare p_old stepped p_new d_old d_new hand hand_new set taken hands failed items moved given kept same sound went was took is put =
-    tried-as (copier_of d table) v now p d spare p_old stepped p_new d_old d_new hand hand_new hands v.batches failed items moved given kept same sound went was (put-copy kept v d table set hand_new taken hands took is put)
+    → Tried (copier_of d table) v now p d spare p_old p_new d_old d_new hand hand_new hands v.batches items moved given kept
+copy-tried v now p d table spare p_old stepped p_new d_old d_new hand hand_new set taken hands items moved given kept same whole went was took is put =
+    tried-as (copier_of d table) v now p d spare p_old stepped p_new d_old d_new hand hand_new hands v.batches items moved given kept same whole went was (put-copy kept v d table set hand_new taken hands took is put)
 
 -- a leaf's worker put down what it has
-put-batch : {E : Type 0} (kept : Result (Unit {0}) E) (v : WorldView) (d : ℕ) (set hand_new : Option BatchHand) (batches : List (ℕ × BatchHand)) → set ≡ hand_new
+put-batch : {E : Type 0} (kept : Result (Unit {0}) E) (v : StateView) (d : ℕ) (set hand_new : Option BatchHand) (batches : List (ℕ × BatchHand)) → set ≡ hand_new
     → OnOk kept (batch_at batches ≡ changed_at d (λ _. set) (batch_at v.batches)) → OnOk kept (PutInHand v v.hands batches (batch_in_hand d hand_new))
 put-batch (Err e) v d set hand_new batches is put = tt
-put-batch (Ok _) v d set hand_new batches is put = λ stores i. record (seen_world v) { database = stores; batches = (put ∙ ap (λ h. changed_at d (λ _. h) (batch_at v.batches)) is) i }
+put-batch (Ok _) v d set hand_new batches is put = λ stores i. record (seen_state v) { database = stores; batches = (put ∙ ap (λ h. changed_at d (λ _. h) (batch_at v.batches)) is) i }
 
 -- so it was tried for a leaf
-pub batch-tried : {A E : Type 0} (v now : WorldView) (p d : ℕ) (spare p_old stepped p_new d_old d_new : DbView) (hand hand_new set : Option BatchHand) (batches : List (ℕ × BatchHand)) (failed : Bool) (items : A → List Reply)
-    (moved : Result A WorkerFault) (given : Result A Stop) (kept : Result (Unit {0}) E) → v ≡ now → v.has_failed ≡ false → Went v.databases.values p d spare p_old d_old → hand ≡ batch_at v.batches d
+pub batch-tried : {A E : Type 0} (v now : StateView) (p d : ℕ) (spare p_old stepped p_new d_old d_new : DbView) (hand hand_new set : Option BatchHand) (batches : List (ℕ × BatchHand)) (items : A → List Reply)
+    (moved : Result A WorkerFault) (given : Result A Stop) (kept : Result (Unit {0}) E) → v ≡ now → IsWhole now → Went v.databases.values p d spare p_old d_old → hand ≡ batch_at v.batches d
     → set ≡ hand_new → OnOk kept (batch_at batches ≡ changed_at d (λ _. set) (batch_at v.batches)) → OnOk kept (given ≡ stopping moved)
-    → OnErr kept (given ≡ Err stop.NoMemory) → IfOk given (λ _. failed ≡ false) → IfErr given (λ s. failed ≡ is_out_of_memory s) → p_new ≡ stepped
+    → OnErr kept (given ≡ Err stop.NoMemory) → p_new ≡ stepped
     → IfOk moved (λ a. MovesBy (replay_move (seen_database p_old) (seen_database d_old) (leaf_in (seen_database d_old).node) hand) (seen_database p_old) (seen_database stepped) (seen_database d_old) (seen_database d_new) (items a) hand_new)
     → IfErr moved (λ f. MoveRefused f (replay_move (seen_database p_old) (seen_database d_old) (leaf_in (seen_database d_old).node) hand) (seen_database p_old) (seen_database stepped) (seen_database d_old) (seen_database d_new) hand hand_new)
-    → Tried (replayer_of d) v now p d spare p_old p_new d_old d_new hand hand_new v.hands batches failed items moved given kept
-batch-tried v now p d spare p_old stepped p_new d_old d_new hand hand_new set batches failed items moved given kept same sound went was is put =
-    tried-as (replayer_of d) v now p d spare p_old stepped p_new d_old d_new hand hand_new v.hands batches failed items moved given kept same sound went was (put-batch kept v d set hand_new batches is put)
+    → Tried (replayer_of d) v now p d spare p_old p_new d_old d_new hand hand_new v.hands batches items moved given kept
+batch-tried v now p d spare p_old stepped p_new d_old d_new hand hand_new set batches items moved given kept same whole went was is put =
+    tried-as (replayer_of d) v now p d spare p_old stepped p_new d_old d_new hand hand_new v.hands batches items moved given kept same whole went was (put-batch kept v d set hand_new batches is put)
 
 -- ---- what is in hand is lost
 
-pub restart-both : {H : Type 0} {move : Move H} {replies : List Reply} {hand : Option H} (p_old stepped p_new d_old d_new : DbView) → p_new ≡ stepped
-    → MovesAs move (seen_database p_old) (seen_database stepped) (seen_database d_old) (seen_database d_new) replies hand → Both (seen_database p_old) (seen_database p_new) (seen_database d_old) (seen_database d_new)
-restart-both {move = move} p_old stepped p_new d_old d_new back moved = record { ps = move.provider; ds = move.replica; provider = ap seen_database back ∙ moved.provider.changed; replica = moved.replica.changed }
-
-pub restart-there : (v now : WorldView) (p d : ℕ) (table : List ℕ) (spare p_old stepped p_new d_old d_new : DbView) (hand hand_new : Option Hand) (hands : List HandAt) → v ≡ now
+pub restart-there : (v now : StateView) (p d : ℕ) (table : List ℕ) (spare p_old stepped p_new d_old d_new : DbView) (hand hand_new : Option Hand) (hands : List HandAt) → v ≡ now → IsWhole now
     → Went v.databases.values p d spare p_old d_old → hand ≡ hand_at v.hands d table → hand_at hands ≡ changed_at d (changed_for table (λ _. None)) (hand_at v.hands) → p_new ≡ stepped
     → MovesAs (gives_up_in table hand) (seen_database p_old) (seen_database stepped) (seen_database d_old) (seen_database d_new) [] hand_new
-    → Happened now (after_step v p d spare p_new d_new hands v.batches v.has_failed) (move_facts (seen_world now) p d (in_hand d table) (restarting table (hand_at now.hands d table)))
-restart-there v now p d table spare p_old stepped p_new d_old d_new hand hand_new hands same went was took back moved =
-    subst (λ o. Happened now (after_step v p d spare p_new d_new hands v.batches v.has_failed) (move_facts (seen_world now) p d (in_hand d table) (restarting table o))) (was ∙ ap (λ (w : WorldView). hand_at w.hands d table) same)
-    (happens (copier_of d table) v now p d spare p_old p_new d_old d_new hand None hands v.batches v.has_failed same went was (λ stores i. record (seen_world v) { database = stores; hands = took i })
-    (restarting table hand) refl (ap seen_database back ∙ moved.provider.changed) moved.replica.changed refl)
+    → Happened now (after_step v p d spare p_new d_new hands v.batches) (move_facts (seen_state now) p d (in_hand d table) (restarting table (hand_at now.hands d table)))
+restart-there v now p d table spare p_old stepped p_new d_old d_new hand hand_new hands same whole went was took back moved =
+    subst (λ o. Happened now (after_step v p d spare p_new d_new hands v.batches) (move_facts (seen_state now) p d (in_hand d table) (restarting table o))) (was ∙ ap (λ (w : StateView). hand_at w.hands d table) same)
+    (happens (copier_of d table) v now p d spare p_old p_new d_old d_new hand None hands v.batches same whole went was (λ stores i. record (seen_state v) { database = stores; hands = took i })
+    (restarting table hand) (ap seen_database back ∙ moved.provider.changed) moved.replica.changed refl)

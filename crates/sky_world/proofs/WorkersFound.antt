@@ -18,8 +18,8 @@ use Rattle.sky_model.specs.State.{Database}
 use Rattle.sky_model.specs.World.{World}
 use Rattle.londiste_copy.specs.Copying.{SameTable}
 use Rattle.sky_model.specs.WorkersOfWorld.{leaf_table, source, source_alike, are_alike, moves, copy_step, restarts, restart, restart_table, restarting, provider_of, leaf_steps, londiste_step}
-use Rattle.sky_world.specs.Views.{WorldView}
-use Rattle.sky_world.specs.Seen.{seen_world}
+use Rattle.sky_world.specs.Views.{StateView}
+use Rattle.sky_world.specs.Seen.{seen_state}
 use Rattle.sky_world.specs.Nodes.{Happened, Does}
 use Rattle.sky_world.specs.Workers.{if_leaf, leaf_called, leaf_with, leaf_in, copies, replays}
 
@@ -93,10 +93,10 @@ restarts-by_leaf w name = in-leaf w name (λ d n. restarts d name n) (λ d l. Ok
     each d (of_root r) = refl
     each d (of_leaf l) = refl
 
-pub restarted : (old new : WorldView) (name : List ℕ) (d : ℕ) (l : Leaf) → leaf_called (seen_world old) name ≡ Ok (d, l) → Happened old new (batch_in_hand d None ∷ []) → Does old new Done (restart (seen_world old) name)
+pub restarted : (old new : StateView) (name : List ℕ) (d : ℕ) (l : Leaf) → leaf_called (seen_state old) name ≡ Ok (d, l) → Happened old new (batch_in_hand d None ∷ []) → Does old new Done (restart (seen_state old) name)
 restarted old new name d l is happened = record {
   facts = batch_in_hand d None ∷ [];
-  outcome = restarts-by_leaf (seen_world old) name ∙ ap (λ c. c >>= (λ x. Ok (batch_lost x.0))) is;
+  outcome = restarts-by_leaf (seen_state old) name ∙ ap (λ c. c >>= (λ x. Ok (batch_lost x.0))) is;
   moments = tt;
   happened = happened;
 }

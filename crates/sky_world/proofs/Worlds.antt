@@ -8,9 +8,8 @@ use Rattle.std.proofs.lemmas.List.{get_or_past}
 use Rattle.std.proofs.lemmas.Option.{get_or_from_slice_get, slice_get_read}
 use Rattle.sky_names.specs.Places.{place_of}
 use Rattle.sky_names.specs.Named.{NamedView, with_value}
-use Rattle.sky_keys.specs.Waits.{is_waiting, Waiting}
-use Rattle.sky_model.specs.declared.stmt.Stmt.{Stmt}
-use Rattle.sky_model.specs.declared.stmt.Stmt.TheVariants.{Row, CreateRoot, Node, PgqdOn, PgqdOff}
+use Rattle.sky_keys.specs.Waits.{is_waiting}
+use Rattle.sky_model.specs.declared.stmt.DbStmt.{DbStmt}
 use Rattle.sky_model.specs.declared.reply.Refusal.TheVariants.{TooMany}
 use Rattle.sky_model.specs.declared.reply.Limit.TheVariants.{Sessions, Databases}
 use Rattle.sky_model.specs.declared.reply.Reply.{Reply}
@@ -22,22 +21,20 @@ use Rattle.sky_model.specs.Printed.{HaveMoments}
 use Rattle.sky_model.specs.Reader.{database_by_itself, within_database, by_world, Deed, refuses, appears, founds, deed_with, followed}
 use Rattle.sky_model.specs.Settling.{Turn}
 use Rattle.sky_model.specs.Clock.{deed_in}
-use Rattle.sky_model.specs.Calls.{Call, database_turn, opening, is_leaving, left_if, may_make, beside, of_daemon_if, opens_in, opens, session_does, turn, called}
+use Rattle.sky_model.specs.Calls.{Call, database_turn, is_leaving, left_if, db_stmt_does, fails_if, opens_in, opens, turn, called}
 use Rattle.sky_model.specs.Steps.{Steps, deed_at}
 use Rattle.sky_histories.proofs.Standing.{steps_from_exact}
-use Rattle.sky_histories.proofs.RowStanding.{turn-within}
+use Rattle.sky_histories.proofs.RowStanding.{turn-within, fails-within}
 use Rattle.pgq_db.specs.Views.{DbView}
 use Rattle.pgq_db.specs.Seen.{seen_database, no_database}
-use Rattle.pgq_db.specs.Waiters.{WaitersWithin, StaysWithin}
-use Rattle.pgq_db.specs.Gives.{is_worlds, Adds}
+use Rattle.pgq_db.specs.Gives.{Adds}
 use Rattle.pgq_db.proofs.Empty.{no_database-is}
 use Rattle.sky_world.specs.Hands.{HandAt}
-use Rattle.sky_world.specs.Views.{WorldView}
-use Rattle.sky_world.specs.Seen.{seen_world}
+use Rattle.sky_world.specs.Views.{StateView}
+use Rattle.sky_world.specs.Seen.{seen_state}
 use Rattle.sky_world.specs.Homes.{HomesWithin, NodesWithin}
-use Rattle.sky_world.specs.Waiters.{AllWaitersWithin}
+use Rattle.sky_world.specs.Whole.{IsWhole}
 use Rattle.sky_world.specs.Adds.{AddsDeed, AddsCall}
-use Rattle.sky_world.specs.Works.{is_pgqd, is_on_nodes}
 
 -- marks in a database change that database alone
 pub after_facts-within : (w : World) (d : ℕ) (marks : List Mark) → after_facts w (map (within d) marks) ≡ record w { database = changed_at d (λ x. after_marks x marks) w.database }
@@ -76,16 +73,16 @@ pub nodes-more : (count more : ℕ) (nodes : List ℕ) → count ≤ more → No
 nodes-more count more nodes le all = All-weaker (λ d. d < count) (λ d. d < more) (λ d lt. omega (arith, lt, le)) nodes all
 
 -- a session opens one of them, or none
-pub homes-set : (v now : WorldView) (who : ℕ) (home : Option ℕ) → v ≡ now → HomesWithin (length v.databases.names) v.sessions.values → IfSome home (λ d. d < length now.databases.names)
+pub homes-set : (v now : StateView) (who : ℕ) (home : Option ℕ) → v ≡ now → HomesWithin (length v.databases.names) v.sessions.values → IfSome home (λ d. d < length now.databases.names)
     → HomesWithin (length v.databases.names) (slice_set v.sessions.values who home)
 homes-set v now who home same all is =
-    All-set (IsHome (length v.databases.names)) v.sessions.values who home (subst (λ (w : WorldView). IsHome (length w.databases.names) home) (sym same) is) all
+    All-set (IsHome (length v.databases.names)) v.sessions.values who home (subst (λ (w : StateView). IsHome (length w.databases.names) home) (sym same) is) all
 
 -- what the world keeps of a session
-pub homes-at : (v now : WorldView) (who : ℕ) (home : Option ℕ) → v ≡ now → HomesWithin (length v.databases.names) v.sessions.values → who < length v.sessions.values → home ≡ get_or v.sessions.values who home
+pub homes-at : (v now : StateView) (who : ℕ) (home : Option ℕ) → v ≡ now → HomesWithin (length v.databases.names) v.sessions.values → who < length v.sessions.values → home ≡ get_or v.sessions.values who home
     → IfSome home (λ d. d < length now.databases.names)
 homes-at v now who home same all lt is =
-    subst (λ (w : WorldView). IsHome (length w.databases.names) home) same
+    subst (λ (w : StateView). IsHome (length w.databases.names) home) same
     (subst (IsHome (length v.databases.names)) (sym is) (All-get_or (IsHome (length v.databases.names)) v.sessions.values who home lt all))
 
 -- ---- what is shown
@@ -95,9 +92,9 @@ none-there n d = get_or_past [] n d (omega arith)
 
 pub world-new : (sessions : NamedView (Option ℕ)) (databases : NamedView DbView) (daemons : List (ℕ × ℤ)) (nodes : List ℕ) (hands : List HandAt) (batches : List (ℕ × BatchHand)) → sessions ≡ record { names = []; values = [] } → databases ≡ record { names = []; values = [] }
     → daemons ≡ [] → nodes ≡ [] → hands ≡ [] → batches ≡ []
-    → seen_world (record { now = pos 0; sessions = sessions; databases = databases; daemons = daemons; nodes = nodes; hands = hands; batches = batches; has_failed = false }) ≡ world_of []
+    → seen_state (record { now = pos 0; sessions = sessions; databases = databases; daemons = daemons; nodes = nodes; hands = hands; batches = batches }) ≡ world_of []
 world-new sessions databases daemons nodes hands batches nobody nothing none no_node no_hand no_batch =
-    (λ i. seen_world (record { now = pos 0; sessions = nobody i; databases = nothing i; daemons = none i; nodes = no_node i; hands = no_hand i; batches = no_batch i; has_failed = false }))
+    (λ i. seen_state (record { now = pos 0; sessions = nobody i; databases = nothing i; daemons = none i; nodes = no_node i; hands = no_hand i; batches = no_batch i }))
     ∙ (λ i. record (world_of []) { homes = λ who. none-there who None i; database = λ d. (ap seen_database (none-there d no_database) ∙ no_database-is) i })
 
 -- appending an entry that is read as those past the end changes nothing that is shown
@@ -131,30 +128,30 @@ entries-updated old new d o updates = λ i n. pointwise n i
     pointwise n = updates n ∙ ap (λ b. cond b o (lookup (is_at (nat_cmp n)) old)) (is_at-nat d n) ∙ by n (d == n)
 
 -- a session that opened a database, or left it
-pub home-as : (v now : WorldView) (who : ℕ) (home : Option ℕ) → v ≡ now → who < length v.sessions.values
-    → seen_world (record v { sessions = with_value v.sessions who home }) ≡ record (seen_world now) { homes = changed_at who (λ _. home) (seen_world now).homes }
+pub home-as : (v now : StateView) (who : ℕ) (home : Option ℕ) → v ≡ now → who < length v.sessions.values
+    → seen_state (record v { sessions = with_value v.sessions who home }) ≡ record (seen_state now) { homes = changed_at who (λ _. home) (seen_state now).homes }
 home-as v now who home same lt =
-    (λ i. record (seen_world v) { homes = λ n. get_or-changed v.sessions.values who n home None lt i })
-    ∙ ap (λ w. record (seen_world w) { homes = changed_at who (λ _. home) (seen_world w).homes }) same
+    (λ i. record (seen_state v) { homes = λ n. get_or-changed v.sessions.values who n home None lt i })
+    ∙ ap (λ w. record (seen_state w) { homes = changed_at who (λ _. home) (seen_state w).homes }) same
 
 -- a session that appeared has none open
-pub appeared-as : (v now : WorldView) (sessions : NamedView (Option ℕ)) (name copied : List ℕ) → v ≡ now → sessions ≡ record { names = v.sessions.names ++ copied ∷ []; values = v.sessions.values ++ None ∷ [] } → copied ≡ name
-    → seen_world (record v { sessions = sessions }) ≡ after_fact (seen_world now) (appeared name)
+pub appeared-as : (v now : StateView) (sessions : NamedView (Option ℕ)) (name copied : List ℕ) → v ≡ now → sessions ≡ record { names = v.sessions.names ++ copied ∷ []; values = v.sessions.values ++ None ∷ [] } → copied ≡ name
+    → seen_state (record v { sessions = sessions }) ≡ after_fact (seen_state now) (appeared name)
 appeared-as v now sessions name copied same more is =
-    (λ i. seen_world (record v { sessions = more i }))
-    ∙ (λ i. record (seen_world v) { sessions = v.sessions.names ++ is i ∷ []; homes = λ n. seen-push (λ (home : Option ℕ). home) v.sessions.values None None n refl i })
-    ∙ ap (λ w. after_fact (seen_world w) (appeared name)) same
+    (λ i. seen_state (record v { sessions = more i }))
+    ∙ (λ i. record (seen_state v) { sessions = v.sessions.names ++ is i ∷ []; homes = λ n. seen-push (λ (home : Option ℕ). home) v.sessions.values None None n refl i })
+    ∙ ap (λ w. after_fact (seen_state w) (appeared name)) same
 
 -- a database that is made shows nothing yet
-pub founded-as : (v now : WorldView) (databases : NamedView DbView) (new : DbView) (name copied : List ℕ) → v ≡ now → databases ≡ record { names = v.databases.names ++ copied ∷ []; values = v.databases.values ++ new ∷ [] }
-    → copied ≡ name → seen_database new ≡ database_of [] → seen_world (record v { databases = databases }) ≡ after_fact (seen_world now) (founded name)
+pub founded-as : (v now : StateView) (databases : NamedView DbView) (new : DbView) (name copied : List ℕ) → v ≡ now → databases ≡ record { names = v.databases.names ++ copied ∷ []; values = v.databases.values ++ new ∷ [] }
+    → copied ≡ name → seen_database new ≡ database_of [] → seen_state (record v { databases = databases }) ≡ after_fact (seen_state now) (founded name)
 founded-as v now databases new name copied same more is empty =
-    (λ i. seen_world (record v { databases = more i }))
-    ∙ (λ i. record (seen_world v) {
+    (λ i. seen_state (record v { databases = more i }))
+    ∙ (λ i. record (seen_state v) {
       databases = v.databases.names ++ is i ∷ [];
       database = λ n. seen-push seen_database v.databases.values new no_database n (empty ∙ sym no_database-is) i;
     })
-    ∙ ap (λ w. after_fact (seen_world w) (founded name)) same
+    ∙ ap (λ w. after_fact (seen_state w) (founded name)) same
 
 -- facts one after the other
 pub after_facts-append : (w : World) (xs ys : List Fact) → after_facts w (xs ++ ys) ≡ after_facts (after_facts w xs) ys
@@ -172,13 +169,13 @@ known-numbered : (count more : ℕ) (replies : List (ℕ × Reply)) → count �
 known-numbered count more replies le all = All-weaker (IsKnown count) (IsWithin more) (λ answer lt. omega (arith, lt, le)) replies all
 
 -- the database that is kept at a place
-pub store-there : (v : WorldView) (d : ℕ) (old : DbView) → d < length v.databases.values → old ≡ get_or v.databases.values d old → get_or v.databases.values d no_database ≡ old
+pub store-there : (v : StateView) (d : ℕ) (old : DbView) → d < length v.databases.values → old ≡ get_or v.databases.values d old → get_or v.databases.values d no_database ≡ old
 store-there v d old lt at = get_or_from_slice_get v.databases.values d old no_database (slice_get_read v.databases.values (length v.databases.values) d old refl lt at)
 
 -- marks in it
-pub store-changed : (v : WorldView) (d : ℕ) (old new : DbView) (marks : List Mark) → d < length v.databases.values → old ≡ get_or v.databases.values d old → seen_database new ≡ after_marks (seen_database old) marks
-    → seen_world (record v { databases = with_value v.databases d new }) ≡ after_facts (seen_world v) (map (within d) marks)
-store-changed v d old new marks lt at is = shown ∙ sym (after_facts-within (seen_world v) d marks)
+pub store-changed : (v : StateView) (d : ℕ) (old new : DbView) (marks : List Mark) → d < length v.databases.values → old ≡ get_or v.databases.values d old → seen_database new ≡ after_marks (seen_database old) marks
+    → seen_state (record v { databases = with_value v.databases d new }) ≡ after_facts (seen_state v) (map (within d) marks)
+store-changed v d old new marks lt at is = shown ∙ sym (after_facts-within (seen_state v) d marks)
   where
     there : get_or v.databases.values d no_database ≡ old
     there = store-there v d old lt at
@@ -192,180 +189,156 @@ store-changed v d old new marks lt at is = shown ∙ sym (after_facts-within (se
         ∙ ap (λ m. after_marks (seen_database (get_or v.databases.values m no_database)) marks) one
     by n false e = refl
 
-    shown : seen_world (record v { databases = with_value v.databases d new }) ≡ record (seen_world v) { database = changed_at d (λ y. after_marks y marks) (seen_world v).database }
-    shown = λ i. record (seen_world v) {
+    shown : seen_state (record v { databases = with_value v.databases d new }) ≡ record (seen_state v) { database = changed_at d (λ y. after_marks y marks) (seen_state v).database }
+    shown = λ i. record (seen_state v) {
       database = λ n. (ap seen_database (get_or-changed v.databases.values d n new no_database lt) ∙ by n (d == n) refl) i;
     }
 
 -- what is done in a database at a moment adds in the world
-pub adds-in : (turn : Database → ℤ → Turn) (v now : WorldView) (d : ℕ) (old new : DbView) (before after : List (ℕ × Reply)) (t : ℤ) → v ≡ now → d < length v.databases.values
+pub adds-in : (turn : Database → ℤ → Turn) (v now : StateView) (d : ℕ) (old new : DbView) (before after : List (ℕ × Reply)) (t : ℤ) → v ≡ now → d < length v.databases.values
     → old ≡ get_or v.databases.values d old → t ≡ v.now → Adds (seen_database old) (seen_database new) before after (turn (seen_database old) t) → HaveMoments (turn (seen_database old) t).answers
-    → All (λ (answer : ℕ × Reply). answer.0 < length now.sessions.names) (turn (seen_database old) t).answers
-    → AddsDeed now (record v { databases = with_value v.databases d new }) before after (deed_in d [] (turn ((seen_world now).database d) now.now))
-adds-in turn v now d old new before after t same lt at is adds moments known = record {
+    → All (λ (answer : ℕ × Reply). answer.0 < length now.sessions.names) (turn (seen_database old) t).answers → IsWhole (record v { databases = with_value v.databases d new })
+    → AddsDeed now (record v { databases = with_value v.databases d new }) before after (deed_in d [] (turn ((seen_state now).database d) now.now))
+adds-in turn v now d old new before after t same lt at is adds moments known whole = record {
   answered = adds.replied ∙ ap (λ (u : Turn). before ++ u.answers) turn_is;
   known = subst (λ (u : Turn). All (IsKnown (length now.sessions.names)) u.answers) turn_is known;
   moments = subst (λ (u : Turn). HaveMoments u.answers) turn_is moments;
   changed = store-changed v d old new (turn (seen_database old) t).marks lt at adds.changed
-      ∙ ap (λ (u : Turn). after_facts (seen_world v) (map (within d) u.marks)) turn_is
-      ∙ ap (λ w. after_facts (seen_world w) (map (within d) whole.marks)) same
-      ∙ ap (λ facts. after_facts (seen_world now) facts) (sym (append-nil (map (within d) whole.marks)));
-  sessions = ap (λ (w : WorldView). w.sessions.names) same;
+      ∙ ap (λ (u : Turn). after_facts (seen_state v) (map (within d) u.marks)) turn_is
+      ∙ ap (λ w. after_facts (seen_state w) (map (within d) turned.marks)) same
+      ∙ ap (λ facts. after_facts (seen_state now) facts) (sym (append-nil (map (within d) turned.marks)));
+  sessions = ap (λ (w : StateView). w.sessions.names) same;
+  whole = whole;
 }
   where
-    whole : Turn
-    whole = turn ((seen_world now).database d) now.now
+    turned : Turn
+    turned = turn ((seen_state now).database d) now.now
 
-    turn_is : turn (seen_database old) t ≡ whole
+    turn_is : turn (seen_database old) t ≡ turned
     turn_is =
         ap (turn (seen_database old)) is
         ∙ ap (λ x. turn (seen_database x) v.now) (sym (store-there v d old lt at))
-        ∙ ap (λ (w : WorldView). turn ((seen_world w).database d) w.now) same
+        ∙ ap (λ (w : StateView). turn ((seen_state w).database d) w.now) same
 
 -- what a statement does there
-pub adds-within : (v now : WorldView) (d who : ℕ) (old new : DbView) (stmt : Stmt) (before after : List (ℕ × Reply)) (t : ℤ) → v ≡ now → d < length v.databases.values
+pub adds-within : (v now : StateView) (d who : ℕ) (old new : DbView) (stmt : DbStmt) (before after : List (ℕ × Reply)) (t : ℤ) → v ≡ now → d < length v.databases.values
     → old ≡ get_or v.databases.values d old → t ≡ v.now
     → Adds (seen_database old) (seen_database new) before after (database_turn database_by_itself (seen_database old) t who stmt)
     → HaveMoments (database_turn database_by_itself (seen_database old) t who stmt).answers
-    → All (λ (answer : ℕ × Reply). answer.0 < length now.sessions.names) (database_turn database_by_itself (seen_database old) t who stmt).answers
+    → All (λ (answer : ℕ × Reply). answer.0 < length now.sessions.names) (database_turn database_by_itself (seen_database old) t who stmt).answers → IsWhole (record v { databases = with_value v.databases d new })
     → AddsDeed now (record v { databases = with_value v.databases d new }) before after
-    (deed_in d [] (database_turn (within_database by_world d) (seen_world now) (seen_world now).now who stmt))
-adds-within v now d who old new stmt before after t same lt at is adds moments known =
-    subst (λ u. AddsDeed now (record v { databases = with_value v.databases d new }) before after (deed_in d [] u)) (sym (turn-within (seen_world now) d (seen_world now).now who stmt))
-    (adds-in (λ x moment. database_turn database_by_itself x moment who stmt) v now d old new before after t same lt at is adds moments known)
+    (deed_in d [] (database_turn (within_database by_world d) (seen_state now) (seen_state now).now who stmt))
+adds-within v now d who old new stmt before after t same lt at is adds moments known whole =
+    subst (λ u. AddsDeed now (record v { databases = with_value v.databases d new }) before after (deed_in d [] u)) (sym (turn-within (seen_state now) d (seen_state now).now who stmt))
+    (adds-in (λ x moment. database_turn database_by_itself x moment who stmt) v now d old new before after t same lt at is adds moments known whole)
+
+-- and what fails there in a session's name
+pub adds-failed : (v now : StateView) (d who : ℕ) (old new : DbView) (before after : List (ℕ × Reply)) (t : ℤ) → v ≡ now → d < length v.databases.values
+    → old ≡ get_or v.databases.values d old → t ≡ v.now
+    → Adds (seen_database old) (seen_database new) before after (fails_if database_by_itself (seen_database old) t who true)
+    → HaveMoments (fails_if database_by_itself (seen_database old) t who true).answers
+    → All (λ (answer : ℕ × Reply). answer.0 < length now.sessions.names) (fails_if database_by_itself (seen_database old) t who true).answers → IsWhole (record v { databases = with_value v.databases d new })
+    → AddsDeed now (record v { databases = with_value v.databases d new }) before after
+    (deed_in d [] (fails_if (within_database by_world d) (seen_state now) (seen_state now).now who true))
+adds-failed v now d who old new before after t same lt at is adds moments known whole =
+    subst (λ u. AddsDeed now (record v { databases = with_value v.databases d new }) before after (deed_in d [] u)) (sym (fails-within (seen_state now) d (seen_state now).now who true))
+    (adds-in (λ x moment. fails_if database_by_itself x moment who true) v now d old new before after t same lt at is adds moments known whole)
 
 -- and what it changes outside of databases
-pub adds-moved : (old s new : WorldView) (d : ℕ) (fact : Fact) (before after : List (ℕ × Reply)) (turn : Turn) → AddsDeed old s before after (deed_in d [] turn)
-    → seen_world new ≡ after_fact (seen_world s) fact → new.sessions.names ≡ s.sessions.names → AddsDeed old new before after (deed_in d (fact ∷ []) turn)
-adds-moved old s new d fact before after turn adds is same = record {
+pub adds-moved : (old s new : StateView) (d : ℕ) (fact : Fact) (before after : List (ℕ × Reply)) (turn : Turn) → AddsDeed old s before after (deed_in d [] turn)
+    → seen_state new ≡ after_fact (seen_state s) fact → new.sessions.names ≡ s.sessions.names → IsWhole new → AddsDeed old new before after (deed_in d (fact ∷ []) turn)
+adds-moved old s new d fact before after turn adds is same whole = record {
   answered = adds.answered;
   known = adds.known;
   moments = adds.moments;
-  changed = is ∙ ap (λ w. after_fact w fact) (adds.changed ∙ ap (λ facts. after_facts (seen_world old) facts) (append-nil (map (within d) turn.marks)))
-      ∙ sym (after_facts-append (seen_world old) (map (within d) turn.marks) (fact ∷ []));
+  changed = is ∙ ap (λ w. after_fact w fact) (adds.changed ∙ ap (λ facts. after_facts (seen_state old) facts) (append-nil (map (within d) turn.marks)))
+      ∙ sym (after_facts-append (seen_state old) (map (within d) turn.marks) (fact ∷ []));
   sessions = same ∙ adds.sessions;
+  whole = whole;
 }
 
--- one that the world doesn't decide isn't on the daemon
-pub other-pgqd : (stmt : Stmt) → is_worlds stmt ≡ false → is_pgqd stmt ≡ false
-other-pgqd PgqdOn other = absurd (cc)
-other-pgqd PgqdOff other = absurd (cc)
-other-pgqd _ other = refl
-
--- one that opens a database is none that the world decides
-pub opening-kind : (stmt : Stmt) (name : List ℕ) → opening stmt ≡ Some name → is_worlds stmt ≡ false
-opening-kind (Row stmt) name opens = refl
-opening-kind _ name opens = absurd (cc)
-
--- a statement that isn't on the daemon leaves it as it is
-of_daemon-none : (may : Bool) (d : ℕ) (start : Option ℤ) (stmt : Stmt) → is_pgqd stmt ≡ false → of_daemon_if may d start stmt ≡ []
-of_daemon-none false d start stmt other = refl
-of_daemon-none true d None PgqdOn other = absurd (cc)
-of_daemon-none true d (Some start) PgqdOn other = absurd (cc)
-of_daemon-none true d None PgqdOff other = absurd (cc)
-of_daemon-none true d (Some start) PgqdOff other = absurd (cc)
-of_daemon-none true d None _ other = refl
-of_daemon-none true d (Some start) _ other = refl
-
--- a statement that isn't on nodes is run in its database alone
-does-there : (w : World) (who : ℕ) (stmt : Stmt) (d : ℕ) → is_on_nodes stmt ≡ false
-    → deed_in d (beside w who stmt d) (database_turn (within_database by_world d) w w.now who stmt) ≡ session_does by_world w who stmt (Some d)
-does-there w who (CreateRoot name queue) d other = absurd (cc)
-does-there w who (Node s) d other = absurd (cc)
-does-there w who _ d other = refl
-
-beside-leaving : (w : World) (who : ℕ) (stmt : Stmt) (d : ℕ) (leaving : Bool) → is_pgqd stmt ≡ false → leaving ≡ is_leaving (is_waiting who (w.database d).part.waiting) stmt → left_if who leaving ≡ beside w who stmt d
-beside-leaving w who stmt d leaving other is =
-    ap (left_if who) is
-    ∙ sym (append-nil (left_if who (is_leaving (is_waiting who (w.database d).part.waiting) stmt)))
-    ∙ ap (λ facts. left_if who (is_leaving (is_waiting who (w.database d).part.waiting) stmt) ++ facts) (sym (of_daemon-none (may_make (w.database d) who stmt) d (w.daemons d) stmt other))
-
 -- a statement by which its session leaves
-pub adds-left : (old s new : WorldView) (d who : ℕ) (stmt : Stmt) (leaving : Bool) (before after : List (ℕ × Reply)) → is_pgqd stmt ≡ false → is_on_nodes stmt ≡ false
-    → leaving ≡ is_leaving (is_waiting who ((seen_world old).database d).part.waiting) stmt → leaving ≡ true
-    → AddsDeed old s before after (deed_in d [] (database_turn (within_database by_world d) (seen_world old) (seen_world old).now who stmt))
-    → seen_world new ≡ after_fact (seen_world s) (left who) → new.sessions.names ≡ s.sessions.names → AddsDeed old new before after (session_does by_world (seen_world old) who stmt (Some d))
-adds-left old s new d who stmt leaving before after other nodes is leaves adds shows same =
-    subst (AddsDeed old new before after) (does-there (seen_world old) who stmt d nodes)
-    (subst (λ facts. AddsDeed old new before after (deed_in d facts turn))
-    (ap (left_if who) (sym leaves) ∙ beside-leaving (seen_world old) who stmt d leaving other is)
-    (adds-moved old s new d (left who) before after turn adds shows same))
+pub adds-left : (old s new : StateView) (d who : ℕ) (stmt : DbStmt) (leaving : Bool) (before after : List (ℕ × Reply))
+    → leaving ≡ is_leaving (is_waiting who ((seen_state old).database d).part.waiting) stmt → leaving ≡ true
+    → AddsDeed old s before after (deed_in d [] (database_turn (within_database by_world d) (seen_state old) (seen_state old).now who stmt))
+    → seen_state new ≡ after_fact (seen_state s) (left who) → new.sessions.names ≡ s.sessions.names → IsWhole new → AddsDeed old new before after (db_stmt_does by_world (seen_state old) who stmt (Some d))
+adds-left old s new d who stmt leaving before after is leaves adds shows same whole =
+    subst (λ facts. AddsDeed old new before after (deed_in d facts turn)) (ap (left_if who) (sym leaves ∙ is)) (adds-moved old s new d (left who) before after turn adds shows same whole)
   where
     turn : Turn
-    turn = database_turn (within_database by_world d) (seen_world old) (seen_world old).now who stmt
+    turn = database_turn (within_database by_world d) (seen_state old) (seen_state old).now who stmt
 
 -- or stays
-pub adds-stayed : (old new : WorldView) (d who : ℕ) (stmt : Stmt) (leaving : Bool) (before after : List (ℕ × Reply)) → is_pgqd stmt ≡ false → is_on_nodes stmt ≡ false
-    → leaving ≡ is_leaving (is_waiting who ((seen_world old).database d).part.waiting) stmt → leaving ≡ false
-    → AddsDeed old new before after (deed_in d [] (database_turn (within_database by_world d) (seen_world old) (seen_world old).now who stmt))
-    → AddsDeed old new before after (session_does by_world (seen_world old) who stmt (Some d))
-adds-stayed old new d who stmt leaving before after other nodes is stays adds =
-    subst (AddsDeed old new before after) (does-there (seen_world old) who stmt d nodes)
-    (subst (λ facts. AddsDeed old new before after (deed_in d facts (database_turn (within_database by_world d) (seen_world old) (seen_world old).now who stmt)))
-    (ap (left_if who) (sym stays) ∙ beside-leaving (seen_world old) who stmt d leaving other is) adds)
+pub adds-stayed : (old new : StateView) (d who : ℕ) (stmt : DbStmt) (leaving : Bool) (before after : List (ℕ × Reply))
+    → leaving ≡ is_leaving (is_waiting who ((seen_state old).database d).part.waiting) stmt → leaving ≡ false
+    → AddsDeed old new before after (deed_in d [] (database_turn (within_database by_world d) (seen_state old) (seen_state old).now who stmt))
+    → AddsDeed old new before after (db_stmt_does by_world (seen_state old) who stmt (Some d))
+adds-stayed old new d who stmt leaving before after is stays adds =
+    subst (λ facts. AddsDeed old new before after (deed_in d facts (database_turn (within_database by_world d) (seen_state old) (seen_state old).now who stmt))) (ap (left_if who) (sym stays ∙ is)) adds
 
 -- `open` of a database that it creates
-pub opens-new : (old s new : WorldView) (who number : ℕ) (stmt : Stmt) (name : List ℕ) (before after : List (ℕ × Reply)) → length old.databases.names < 16 → number ≡ length old.databases.names
-    → seen_world s ≡ after_fact (seen_world old) (founded name) → s.sessions.names ≡ old.sessions.names
-    → AddsDeed s new before after (opens_in by_world who stmt number (seen_world s)) → AddsDeed old new before after (opens by_world (seen_world old) who stmt name None)
+pub opens-new : (old s new : StateView) (who number : ℕ) (stmt : DbStmt) (name : List ℕ) (before after : List (ℕ × Reply)) → length old.databases.names < 16 → number ≡ length old.databases.names
+    → seen_state s ≡ after_fact (seen_state old) (founded name) → s.sessions.names ≡ old.sessions.names
+    → AddsDeed s new before after (opens_in by_world who stmt number (seen_state s)) → AddsDeed old new before after (opens by_world (seen_state old) who stmt name None)
 opens-new old s new who number stmt name before after room numbered is same adds = subst (AddsDeed old new before after) (sym whole) (record {
   answered = adds.answered ∙ ap (λ (x : Deed). before ++ x.answers) there;
   known = subst (λ n. All (IsKnown n) then_does.answers) (ap length same) (subst (λ (x : Deed). All (IsKnown (length s.sessions.names)) x.answers) there adds.known);
   moments = subst (λ (x : Deed). HaveMoments x.answers) there adds.moments;
-  changed = adds.changed ∙ ap (λ (x : Deed). after_facts (seen_world s) x.facts) there ∙ ap (λ w. after_facts w then_does.facts) is;
+  changed = adds.changed ∙ ap (λ (x : Deed). after_facts (seen_state s) x.facts) there ∙ ap (λ w. after_facts w then_does.facts) is;
   sessions = adds.sessions ∙ same;
+  whole = adds.whole;
 })
   where
     then_does : Deed
-    then_does = opens_in by_world who stmt (length old.databases.names) (after_fact (seen_world old) (founded name))
+    then_does = opens_in by_world who stmt (length old.databases.names) (after_fact (seen_state old) (founded name))
 
-    there : opens_in by_world who stmt number (seen_world s) ≡ then_does
-    there = ap (λ n. opens_in by_world who stmt n (seen_world s)) numbered ∙ ap (opens_in by_world who stmt (length old.databases.names)) is
+    there : opens_in by_world who stmt number (seen_state s) ≡ then_does
+    there = ap (λ n. opens_in by_world who stmt n (seen_state s)) numbered ∙ ap (opens_in by_world who stmt (length old.databases.names)) is
 
     left_over : nat_le 16 (length old.databases.names) ≡ false
     left_over = grind (arith, nat_tests)
 
-    whole : opens by_world (seen_world old) who stmt name None ≡ followed by_world (seen_world old) (opens_in by_world who stmt (length old.databases.names)) (founds name)
-    whole = ap (λ b. if b then refuses who (TooMany Databases) else followed by_world (seen_world old) (opens_in by_world who stmt (length old.databases.names)) (founds name)) left_over
+    whole : opens by_world (seen_state old) who stmt name None ≡ followed by_world (seen_state old) (opens_in by_world who stmt (length old.databases.names)) (founds name)
+    whole = ap (λ b. if b then refuses who (TooMany Databases) else followed by_world (seen_state old) (opens_in by_world who stmt (length old.databases.names)) (founds name)) left_over
 
 -- a call of a known session
-pub answers-known : (old new : WorldView) (call : Call) (who : ℕ) (before after : List (ℕ × Reply)) → Some who ≡ place_of call.who old.sessions.names
-    → AddsDeed old new before after (turn by_world who call.stmt (seen_world old)) → AddsCall (seen_world old) (seen_world new) call before after
+pub answers-known : (old new : StateView) (call : Call) (who : ℕ) (before after : List (ℕ × Reply)) → Some who ≡ place_of call.who old.sessions.names
+    → AddsDeed old new before after (turn by_world who call.stmt (seen_state old)) → AddsCall (seen_state old) (seen_state new) call before after
 answers-known old new call who before after place adds = record {
-  replies = (turn by_world who call.stmt (seen_world old)).answers;
+  replies = (turn by_world who call.stmt (seen_state old)).answers;
   answered = adds.answered;
-  steps = steps_from_exact (seen_world old) (seen_world new) call _ (ap Deed.answers whole) (adds.changed ∙ ap (λ (x : Deed). after_facts (seen_world old) x.facts) whole);
+  steps = steps_from_exact (seen_state old) (seen_state new) call _ (ap Deed.answers whole) (adds.changed ∙ ap (λ (x : Deed). after_facts (seen_state old) x.facts) whole);
   numbered = known-numbered _ _ _ (omega (arith, ap length adds.sessions)) adds.known;
   moments = adds.moments;
 }
   where
-    whole : turn by_world who call.stmt (seen_world old) ≡ deed_at (seen_world old) call
-    whole = ap (called by_world (seen_world old) call) place
+    whole : turn by_world who call.stmt (seen_state old) ≡ deed_at (seen_state old) call
+    whole = ap (called by_world (seen_state old) call) place
 
 -- what a session does that isn't known: it is refused, or appears and makes its turn
 abbrev unknown : World → Call → Bool → Deed
 unknown w call full = if full then refuses (length w.sessions) (TooMany Sessions) else followed by_world w (turn by_world (length w.sessions) call.stmt) (appears call.who)
 
 -- the first call of a session
-pub answers-new : (old with_it new : WorldView) (call : Call) (who : ℕ) (before after : List (ℕ × Reply)) → place_of call.who old.sessions.names ≡ None → length old.sessions.names < 256
-    → seen_world with_it ≡ after_fact (seen_world old) (appeared call.who) → who ≡ length old.sessions.names
-    → AddsDeed with_it new before after (turn by_world who call.stmt (seen_world with_it)) → AddsCall (seen_world old) (seen_world new) call before after
+pub answers-new : (old with_it new : StateView) (call : Call) (who : ℕ) (before after : List (ℕ × Reply)) → place_of call.who old.sessions.names ≡ None → length old.sessions.names < 256
+    → seen_state with_it ≡ after_fact (seen_state old) (appeared call.who) → who ≡ length old.sessions.names
+    → AddsDeed with_it new before after (turn by_world who call.stmt (seen_state with_it)) → AddsCall (seen_state old) (seen_state new) call before after
 answers-new old with_it new call who before after place room is number adds = record {
-  replies = (turn by_world who call.stmt (seen_world with_it)).answers;
+  replies = (turn by_world who call.stmt (seen_state with_it)).answers;
   answered = adds.answered;
-  steps = steps_from_exact (seen_world old) (seen_world new) call _ (sym (ap Deed.answers (whole ∙ same)))
-      (adds.changed ∙ ap (λ w. after_facts w (turn by_world who call.stmt (seen_world with_it)).facts) is ∙ ap (λ (x : Deed). after_facts (seen_world old) x.facts) (sym (whole ∙ same)));
+  steps = steps_from_exact (seen_state old) (seen_state new) call _ (sym (ap Deed.answers (whole ∙ same)))
+      (adds.changed ∙ ap (λ w. after_facts w (turn by_world who call.stmt (seen_state with_it)).facts) is ∙ ap (λ (x : Deed). after_facts (seen_state old) x.facts) (sym (whole ∙ same)));
   numbered = known-numbered _ _ _ (omega (arith, ap length adds.sessions)) adds.known;
   moments = adds.moments;
 }
   where
-    whole : deed_at (seen_world old) call ≡ followed by_world (seen_world old) (turn by_world (length old.sessions.names) call.stmt) (appears call.who)
+    whole : deed_at (seen_state old) call ≡ followed by_world (seen_state old) (turn by_world (length old.sessions.names) call.stmt) (appears call.who)
     whole =
         let few : nat_le 256 (length old.sessions.names) ≡ false = grind (arith, nat_tests) in
-        ap (called by_world (seen_world old) call) place ∙ ap (unknown (seen_world old) call) few
+        ap (called by_world (seen_state old) call) place ∙ ap (unknown (seen_state old) call) few
 
-    same : followed by_world (seen_world old) (turn by_world (length old.sessions.names) call.stmt) (appears call.who) ≡ deed_with (appears call.who) (turn by_world who call.stmt (seen_world with_it))
-    same = ap (deed_with (appears call.who)) (ap (λ n. turn by_world n call.stmt (after_fact (seen_world old) (appeared call.who))) (sym number) ∙ ap (turn by_world who call.stmt) (sym is))
+    same : followed by_world (seen_state old) (turn by_world (length old.sessions.names) call.stmt) (appears call.who) ≡ deed_with (appears call.who) (turn by_world who call.stmt (seen_state with_it))
+    same = ap (deed_with (appears call.who)) (ap (λ n. turn by_world n call.stmt (after_fact (seen_state old) (appeared call.who))) (sym number) ∙ ap (turn by_world who call.stmt) (sym is))
 
 -- a call's replies in a list that was empty
 pub added-alone : (old new : World) (call : Call) (before after : List (ℕ × Reply)) → before ≡ [] → AddsCall old new call before after
@@ -373,54 +346,3 @@ pub added-alone : (old new : World) (call : Call) (before after : List (ℕ × R
 added-alone old new call before after none adds =
     let same : adds.replies ≡ after = sym (adds.answered ∙ ap (λ xs. xs ++ adds.replies) none) in
     (subst (Steps old new call) same adds.steps, subst (All (IsWithin (length new.sessions))) same adds.numbered, subst HaveMoments same adds.moments)
-
--- ---- the sessions that wait
-
-abbrev HasWaitersWithin : ℕ → DbView → Type 0
-HasWaitersWithin count d = WaitersWithin count (seen_database d).part.waiting
-
-abbrev WaitsWithin : ℕ → Waiting → Type 0
-WaitsWithin count w = w.who < count
-
--- with more sessions
-pub waiters-more : (count more : ℕ) (stores : List DbView) → count ≤ more → AllWaitersWithin count stores → AllWaitersWithin more stores
-waiters-more count more stores le all =
-    All-weaker (HasWaitersWithin count) (HasWaitersWithin more)
-    (λ d within. All-weaker (WaitsWithin count) (WaitsWithin more) (λ w lt. omega (arith, lt, le)) (seen_database d).part.waiting within) stores all
-
--- with a new database
-pub waiters-founded : (count : ℕ) (old longer : List DbView) (new : DbView) → longer ≡ old ++ new ∷ [] → seen_database new ≡ database_of [] → AllWaitersWithin count old
-    → AllWaitersWithin count longer
-waiters-founded count old longer new is empty all =
-    subst (All (HasWaitersWithin count)) (sym is)
-    (All-append (HasWaitersWithin count) old (new ∷ []) all
-    (All-from_recursion (HasWaitersWithin count) (new ∷ []) (subst (λ (d : Database). WaitersWithin count d.part.waiting) (sym empty) (λ k w at. absurd (omega arith)), tt)))
-
--- with a database in which the same wait as before
-pub waiters-same : (count d : ℕ) (stores : List DbView) (old new : DbView) → d < length stores → old ≡ get_or stores d old → (seen_database new).part.waiting ≡ (seen_database old).part.waiting
-    → AllWaitersWithin count stores → AllWaitersWithin count (slice_set stores d new)
-waiters-same count d stores old new lt at same all = All-set (HasWaitersWithin count) stores d new (subst (WaitersWithin count) (sym same) within) all
-  where
-    there : get_or stores d no_database ≡ old
-    there = get_or_from_slice_get stores d old no_database (slice_get_read stores (length stores) d old refl lt at)
-
-    within : WaitersWithin count (seen_database old).part.waiting
-    within = subst (HasWaitersWithin count) there (All-get_or (HasWaitersWithin count) stores d no_database lt all)
-
--- a statement of a database is answered to sessions that exist, and leaves none waiting that doesn't
-pub known-within : (v now : WorldView) (d who : ℕ) (old new : DbView) (replies : List (ℕ × Reply)) → v ≡ now → d < length v.databases.values
-    → old ≡ get_or v.databases.values d old → who < length now.sessions.names → AllWaitersWithin (length v.sessions.names) v.databases.values → StaysWithin (seen_database old) (seen_database new) who replies
-    → All (λ (answer : ℕ × Reply). answer.0 < length now.sessions.names) replies × AllWaitersWithin (length v.sessions.names) (slice_set v.databases.values d new)
-known-within v now d who old new replies same lt at known all stays = (
-  subst (λ (w : WorldView). All (IsKnown (length w.sessions.names)) replies) same (stays.answers (length v.sessions.names) known_there within),
-  All-set (HasWaitersWithin (length v.sessions.names)) v.databases.values d new (stays.waiters (length v.sessions.names) known_there within) all,
-)
-  where
-    there : get_or v.databases.values d no_database ≡ old
-    there = get_or_from_slice_get v.databases.values d old no_database (slice_get_read v.databases.values (length v.databases.values) d old refl lt at)
-
-    known_there : who < length v.sessions.names
-    known_there = subst (λ (w : WorldView). who < length w.sessions.names) (sym same) known
-
-    within : WaitersWithin (length v.sessions.names) (seen_database old).part.waiting
-    within = subst (HasWaitersWithin (length v.sessions.names)) there (All-get_or (HasWaitersWithin (length v.sessions.names)) v.databases.values d no_database lt all)

@@ -3,8 +3,8 @@ use Rattle.std.specs.Prelude.{◌≡◌, ℕ, ◌<◌, ℤ, pos, ◌+ℤ◌, ◌
 use Rattle.sky_model.specs.Moment.{last_moment}
 use Rattle.sky_model.specs.World.{World}
 use Rattle.pgq_db.specs.Idle.{IsIdleUntil}
-use Rattle.sky_world.specs.Views.{WorldView}
-use Rattle.sky_world.specs.Seen.{seen_world}
+use Rattle.sky_world.specs.Views.{StateView}
+use Rattle.sky_world.specs.Seen.{seen_state}
 
 -- no daemon that is on changes anything in its database at a moment, or at one before it
 abbrev pub AreIdle : ℤ → World → Type 0
@@ -19,8 +19,8 @@ abbrev pub IsReach : ℤ → Type 0
 IsReach leap = (pos 1_000_000 ≤ℤ leap) × (leap ≤ℤ (last_moment +ℤ last_moment))
 
 -- only the clock is moved on, not beyond a moment, and no daemon changes anything on the way
-pub record Skips (old new : WorldView) (last : ℤ) : Type 0 where
+pub record Skips (old new : StateView) (last : ℤ) : Type 0 where
   pub only : new ≡ record old { now = new.now }
   pub later : old.now ≤ℤ new.now
   pub most : new.now ≤ℤ last
-  pub idle : (moment : ℤ) → old.now <ℤ moment → moment ≤ℤ new.now → AreIdle moment (seen_world old)
+  pub idle : (moment : ℤ) → old.now <ℤ moment → moment ≤ℤ new.now → AreIdle moment (seen_state old)

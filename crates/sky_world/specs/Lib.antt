@@ -3,10 +3,11 @@ pub mod Views
 pub mod Seen
 pub mod Homes
 pub mod Daemons
+pub mod Consistent
+pub mod Whole
 pub mod Works
-pub mod Waiters
-pub mod Made
 pub mod Adds
 pub mod Nodes
+pub mod Outside
 pub mod Workers
 pub mod Idle

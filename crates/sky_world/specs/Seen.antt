@@ -6,10 +6,10 @@ use Rattle.std.specs.Map.{lookup}
 use Rattle.sky_model.specs.World.{World}
 use Rattle.pgq_db.specs.Seen.{seen_database, no_database}
 use Rattle.sky_world.specs.Hands.{hand_at, batch_at}
-use Rattle.sky_world.specs.Views.{WorldView}
+use Rattle.sky_world.specs.Views.{StateView, WorldView}
 
-abbrev pub seen_world : WorldView → World
-seen_world w = record {
+abbrev pub seen_state : StateView → World
+seen_state w = record {
   now = w.now;
   sessions = w.sessions.names;
   databases = w.databases.names;
@@ -20,3 +20,7 @@ seen_world w = record {
   hands = hand_at w.hands;
   batches = batch_at w.batches;
 }
+
+-- of the world it is what is kept of its state
+abbrev pub seen_world : WorldView → World
+seen_world w = seen_state w.state

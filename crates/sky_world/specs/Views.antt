@@ -1,11 +1,11 @@
--- What contracts see of the world, as the code keeps it.
+-- What contracts see of the world, as the code keeps it: its state, and whether memory has run out.
 use Rattle.std.specs.Prelude.{ℕ, ℤ, Bool, List, Option}
 use Rattle.sky_names.specs.Named.{NamedView}
 use Rattle.sky_model.specs.Hands.{BatchHand}
 use Rattle.pgq_db.specs.Views.{DbView}
 use Rattle.sky_world.specs.Hands.{HandAt}
 
-pub record WorldView : Type 0 where
+pub record StateView : Type 0 where
   pub now : ℤ
   -- the database that each session has open
   pub sessions : NamedView (Option ℕ)
@@ -18,5 +18,8 @@ pub record WorldView : Type 0 where
   pub hands : List HandAt
   -- the databases whose leaf's worker has a batch in hand, each with it
   pub batches : List (ℕ × BatchHand)
+
+pub record WorldView : Type 0 where
+  pub state : StateView
   -- whether memory ran out once
   pub has_failed : Bool

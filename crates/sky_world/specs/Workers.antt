@@ -1,5 +1,5 @@
 -- What the world's methods on the workers of leaves give, by what the world showed.
-use Rattle.std.specs.Prelude.{ℕ, List, [], ◌∷◌, ◌++◌, Bool, true, false, not, Option, Some, None, Result, Ok, Err}
+use Rattle.std.specs.Prelude.{ℕ, List, [], ◌∷◌, ◌++◌, not, Option, Some, None, Result, Ok, Err}
 use Rattle.londiste_state.specs.Nodes.{Node, of_root, of_leaf, Leaf, is_among, tables_of}
 use Rattle.sky_model.specs.declared.reply.Reply.TheVariants.{Done}
 use Rattle.sky_model.specs.declared.reply.Refusal.TheVariants.{IdsSpent, NoNode, NotInSet, NotLeaf, TooMany, TxidsSpent}
@@ -75,8 +75,3 @@ stop_of fault.NoMemory = stop.NoMemory
 abbrev pub stopping : {A : Type 0} → Result A WorkerFault → Result A Stop
 stopping (Ok a) = Ok a
 stopping (Err f) = Err (stop_of f)
-
--- whether a statement ran out of memory
-abbrev pub is_out_of_memory : Stop → Bool
-is_out_of_memory stop.NoMemory = true
-is_out_of_memory (stop.Refused refusal) = false

@@ -1,23 +1,28 @@
-//! The clock, and the daemons that are due as it moves.
+//! The statements that belong to no database: `clock`, with the work of the daemons that are due as the clock moves, and
+//! `pgqd`.
 
-ghost use Rattle.std.specs.Prelude.{◌≡◌, ◌⊎◌, ◌<◌, ◌+ℤ◌, ◌-ℤ◌, ◌≤ℤ◌, ◌<ℤ◌, true, pos, Some, OnOk, IfSome, length, option_map, unsigned_abs};
+ghost use Rattle.std.specs.Prelude.{[], ◌∷◌, ◌≡◌, ◌⊎◌, ◌<◌, ◌+ℤ◌, ◌-ℤ◌, ◌≤ℤ◌, ◌<ℤ◌, true, pos, Some, OnOk, IfSome, length, option_map, unsigned_abs};
 ghost use Rattle.sky_model.specs.Moment.{HasMoment, IsTime, last_moment};
 ghost use Rattle.sky_model.specs.Kinds.{Advance};
-ghost use Rattle.sky_model.specs.InForm.{IsOf};
+ghost use Rattle.sky_model.specs.InForm.{IsOf, IsWorldInForm};
+ghost use Rattle.sky_model.specs.declared.stmt.WorldStmt.TheVariants.{PgqdOn, PgqdOff};
+ghost use Rattle.sky_model.specs.Calls.{on_unless, world_stmt_does};
 ghost use Rattle.sky_model.specs.Reader.{by_world};
-ghost use Rattle.sky_model.specs.History.{clock_at};
+ghost use Rattle.sky_model.specs.History.{clock_at, daemon_off};
 ghost use Rattle.sky_model.specs.World.{after_fact, after_facts};
 ghost use Rattle.sky_model.specs.LawsOfDaemons.{AreOnSince};
 ghost use Rattle.sky_model.specs.Daemon.{period, is_due_at, first_after, earlier, next_due};
 ghost use Rattle.sky_model.specs.Clock.{part_works, daemon_works, at_moment, through, clock, waits_at};
-ghost use Rattle.sky_world.specs.Seen.{seen_world};
+ghost use Rattle.sky_world.specs.Seen.{seen_state};
 ghost use Rattle.sky_world.specs.Adds.{AddsDeed};
+ghost use Rattle.sky_world.specs.Nodes.{Happened};
 ghost use Rattle.sky_world.specs.Works.{Works};
+ghost use Rattle.sky_world.specs.Whole.{IsWhole};
 ghost use Rattle.pgq_db.specs.Idle.{IsIdleUntil};
 ghost use Rattle.sky_world.specs.Idle.{AreIdle, IsLeap, IsReach, Skips};
 
-use crate::world::World;
-use sky_model::{DaemonPart, Refusal, Replies, Reply};
+use crate::state::State;
+use sky_model::{DaemonPart, Refusal, Replies, Reply, WorldStmt};
 use sky_val::{NoMemory, SessionId};
 
 /// The last moment of the clock, in the year 2043.
@@ -29,10 +34,77 @@ const SECOND: u64 = 1_000_000;
 /// The leap with which skipping begins, in microseconds, and the longest that isn't halved any more: a second.
 const LEAST_REACH: i64 = 1_000_000;
 
-impl World {
+impl State {
+    /// Runs a statement on the clock or on the daemon of its session's database.
+    pub(crate) fn run_in_world(
+        &mut self,
+        who: SessionId,
+        stmt: WorldStmt,
+        replies: &mut Replies,
+    ) -> Result<(), NoMemory>
+        requires who { who < length self.old.sessions.names }
+        requires form { IsWorldInForm stmt }
+        requires whole { IsWhole self.old }
+        ensures { OnOk result (AddsDeed self.old self.new replies.old replies.new (world_stmt_does by_world (seen_state self.old) who stmt ((seen_state self.old).homes who))) }
+    {
+        match stmt {
+            WorldStmt::Clock { time } => self.move_clock(who, time, replies),
+            WorldStmt::PgqdOn => self.pgqd_on(who, replies),
+            WorldStmt::PgqdOff => self.pgqd_off(who, replies),
+        }
+    }
+
+    /// Runs `pgqd on`.
+    fn pgqd_on(&mut self, who: SessionId, replies: &mut Replies) -> Result<(), NoMemory>
+        requires who { who < length self.old.sessions.names }
+        requires whole { IsWhole self.old }
+        ensures { OnOk result (AddsDeed self.old self.new replies.old replies.new (world_stmt_does by_world (seen_state self.old) who PgqdOn ((seen_state self.old).homes who))) }
+    {
+        let Some(database) = self.enter_outside(who, replies)? else {
+            return Ok(());
+        };
+        self.start_daemon(database)?;
+        replies.push(who, Reply::Done)?;
+        Ok(())
+    }
+
+    /// Runs `pgqd off`.
+    fn pgqd_off(&mut self, who: SessionId, replies: &mut Replies) -> Result<(), NoMemory>
+        requires who { who < length self.old.sessions.names }
+        requires whole { IsWhole self.old }
+        ensures { OnOk result (AddsDeed self.old self.new replies.old replies.new (world_stmt_does by_world (seen_state self.old) who PgqdOff ((seen_state self.old).homes who))) }
+    {
+        let Some(database) = self.enter_outside(who, replies)? else {
+            return Ok(());
+        };
+        self.stop_daemon(database);
+        replies.push(who, Reply::Done)?;
+        Ok(())
+    }
+
+    /// Switches the daemon of a database on, from the present moment, unless it is on already.
+    fn start_daemon(&mut self, database: usize) -> Result<(), NoMemory>
+        requires { IsWhole self.old }
+        ensures { OnOk result (Happened self.old self.new (on_unless database ((seen_state self.old).daemons database))) }
+    {
+        if self.daemons.contains_key(&database) {
+            return Ok(());
+        }
+        self.daemons.insert(database, self.clock)?;
+        Ok(())
+    }
+
+    /// Switches it off.
+    fn stop_daemon(&mut self, database: usize)
+        requires { IsWhole self.old }
+        ensures { Happened self.old self.new (daemon_off database ∷ []) }
+    {
+        self.daemons.remove(&database);
+    }
+
     /// Runs `clock`. It is refused if its session waits, or if the clock would pass its last moment. Otherwise the
     /// daemons work at each moment up to the new one at which one is due, and then the clock is set to the new one.
-    pub(crate) fn move_clock(
+    fn move_clock(
         &mut self,
         who: SessionId,
         time: i64,
@@ -40,9 +112,9 @@ impl World {
     ) -> Result<(), NoMemory>
         requires who { who < length self.old.sessions.names }
         requires time { IsOf Advance time }
-        ensures adds { OnOk result (AddsDeed self.old self.new replies.old replies.new
-            (clock by_world (seen_world self.old) who time (waits_at (seen_world self.old) who ((seen_world self.old).homes who)))) }
-        ensures failed { OnOk result (self.new.has_failed ≡ self.old.has_failed) }
+        requires whole { IsWhole self.old }
+        ensures { OnOk result (AddsDeed self.old self.new replies.old replies.new
+            (clock by_world (seen_state self.old) who time (waits_at (seen_state self.old) who ((seen_state self.old).homes who)))) }
     {
         if self.is_waiting(who) {
             replies.push(who, Reply::Refused(Refusal::Busy))?;
@@ -72,10 +144,11 @@ impl World {
     fn work_until(&mut self, last: i64) -> Result<(), NoMemory>
         requires last { IsTime last }
         requires later { self.old.now ≤ℤ last }
-        ensures changed { OnOk result (seen_world self.new
-            ≡ after_fact (after_facts (seen_world self.old) (through by_world last (unsigned_abs (last -ℤ self.old.now)) (seen_world self.old)).facts) (clock_at last)) }
+        requires whole { IsWhole self.old }
+        ensures changed { OnOk result (seen_state self.new
+            ≡ after_fact (after_facts (seen_state self.old) (through by_world last (unsigned_abs (last -ℤ self.old.now)) (seen_state self.old)).facts) (clock_at last)) }
         ensures sessions { OnOk result (self.new.sessions.names ≡ self.old.sessions.names) }
-        ensures failed { OnOk result (self.new.has_failed ≡ self.old.has_failed) }
+        ensures whole { OnOk result (IsWhole self.new) }
     {
         let mut reach = LEAST_REACH;
         while let Some(moment) = self.next_due() {
@@ -96,7 +169,7 @@ impl World {
         requires last { IsTime last }
         requires later { self.old.now ≤ℤ last }
         ensures skips { Skips self.old self.new last }
-        ensures since { AreOnSince self.old.now (seen_world self.old).daemons }
+        ensures since { AreOnSince self.old.now (seen_state self.old).daemons }
         ensures reach { IsReach result }
     {
         let start = self.clock;
@@ -168,7 +241,7 @@ impl World {
     /// Whether no daemon that is on would change anything at a moment, or at one before it.
     fn is_idle_until(&self, moment: i64) -> bool
         requires { IsTime moment }
-        ensures { result ≡ true → AreIdle moment (seen_world self.now) }
+        ensures { result ≡ true → AreIdle moment (seen_state self.now) }
     {
         for database in 0..self.databases.len() {
             if !self.is_idle_in(database, moment) {
@@ -182,14 +255,14 @@ impl World {
     fn is_idle_in(&self, database: usize, moment: i64) -> bool
         requires database { database < length self.now.databases.names }
         requires time { IsTime moment }
-        ensures { result ≡ true → IfSome ((seen_world self.now).daemons database) (λ start. IsIdleUntil moment ((seen_world self.now).database database)) }
+        ensures { result ≡ true → IfSome ((seen_state self.now).daemons database) (λ start. IsIdleUntil moment ((seen_state self.now).database database)) }
     {
         !self.daemons.contains_key(&database) || self.store(database).is_idle_until(moment)
     }
 
     /// The first moment after the present one at which a daemon is due.
     fn next_due(&self) -> Option<i64>
-        ensures next { result ≡ next_due self.now.now (seen_world self.now).daemons (length self.now.databases.names) }
+        ensures next { result ≡ next_due self.now.now (seen_state self.now).daemons (length self.now.databases.names) }
         ensures later { IfSome result (λ moment. self.now.now <ℤ moment) }
         ensures time { IfSome result HasMoment }
     {
@@ -202,7 +275,7 @@ impl World {
 
     /// The same for the daemon of a database alone.
     fn first_due(&self, database: usize) -> Option<i64>
-        ensures first { result ≡ option_map (first_after self.now.now) ((seen_world self.now).daemons database) }
+        ensures first { result ≡ option_map (first_after self.now.now) ((seen_state self.now).daemons database) }
         ensures later { IfSome result (λ moment. self.now.now <ℤ moment) }
         ensures time { IfSome result HasMoment }
     {
@@ -214,10 +287,11 @@ impl World {
     fn work_at(&mut self, moment: i64) -> Result<(), NoMemory>
         requires time { IsTime moment }
         requires later { self.old.now ≤ℤ moment }
-        ensures changed { OnOk result (seen_world self.new ≡ after_facts (seen_world self.old) (at_moment by_world moment (seen_world self.old)).facts) }
+        requires whole { IsWhole self.old }
+        ensures changed { OnOk result (seen_state self.new ≡ after_facts (seen_state self.old) (at_moment by_world moment (seen_state self.old)).facts) }
         ensures now { OnOk result (self.new.now ≡ moment) }
         ensures sessions { OnOk result (self.new.sessions.names ≡ self.old.sessions.names) }
-        ensures failed { OnOk result (self.new.has_failed ≡ self.old.has_failed) }
+        ensures whole { OnOk result (IsWhole self.new) }
     {
         self.stand_at(moment);
         for database in 0..self.databases.len() {
@@ -228,9 +302,9 @@ impl World {
 
     /// The daemon of a database, if it is on, does those parts of its work that are due, in their order.
     fn work_in(&mut self, database: usize) -> Result<(), NoMemory>
-        requires { database < length self.old.databases.names }
-        ensures works { OnOk result (Works self.old self.new (daemon_works by_world database (seen_world self.old))) }
-        ensures failed { OnOk result (self.new.has_failed ≡ self.old.has_failed) }
+        requires database { database < length self.old.databases.names }
+        requires whole { IsWhole self.old }
+        ensures { OnOk result (Works self.old self.new (daemon_works by_world database (seen_state self.old))) }
     {
         let Some(start) = self.daemons.get(&database) else {
             return Ok(());
@@ -245,11 +319,11 @@ impl World {
     /// The daemon of a database, which was started at a moment, does a part of its work, if that is due.
     fn work_part(&mut self, database: usize, part: DaemonPart, start: i64) -> Result<(), NoMemory>
         requires database { database < length self.old.databases.names }
-        requires started { (seen_world self.old).daemons database ≡ Some start }
+        requires started { (seen_state self.old).daemons database ≡ Some start }
         requires time { IsTime start }
-        ensures works { OnOk result (Works self.old self.new (part_works by_world database part (seen_world self.old))) }
+        requires whole { IsWhole self.old }
+        ensures works { OnOk result (Works self.old self.new (part_works by_world database part (seen_state self.old))) }
         ensures daemons { OnOk result (self.new.daemons ≡ self.old.daemons) }
-        ensures failed { OnOk result (self.new.has_failed ≡ self.old.has_failed) }
     {
         if !is_due(self.clock, part, start) {
             return Ok(());
@@ -260,24 +334,19 @@ impl World {
 
     fn do_part(&mut self, database: usize, part: DaemonPart) -> Result<(), NoMemory>
         requires database { database < length self.old.databases.names }
-        requires due { is_due_at self.old.now part ((seen_world self.old).daemons database) ≡ true }
-        ensures works { OnOk result (Works self.old self.new (part_works by_world database part (seen_world self.old))) }
+        requires due { is_due_at self.old.now part ((seen_state self.old).daemons database) ≡ true }
+        requires whole { IsWhole self.old }
+        ensures works { OnOk result (Works self.old self.new (part_works by_world database part (seen_state self.old))) }
         ensures daemons { OnOk result (self.new.daemons ≡ self.old.daemons) }
-        ensures failed { OnOk result (self.new.has_failed ≡ self.old.has_failed) }
     {
         let store = self.databases.get_mut(database);
-        match store.daemon(part, self.clock) {
-            Ok(()) => Ok(()),
-            Err(fault) => {
-                self.has_failed = true;
-                Err(fault)
-            }
-        }
+        store.daemon(part, self.clock)?;
+        Ok(())
     }
 
     fn is_waiting(&self, who: SessionId) -> bool
         requires { who < length self.now.sessions.names }
-        ensures { result ≡ waits_at (seen_world self.now) who ((seen_world self.now).homes who) }
+        ensures { result ≡ waits_at (seen_state self.now) who ((seen_state self.now).homes who) }
     {
         match self.home(who) {
             Some(database) => self.store(database).waits(who),

@@ -9,6 +9,7 @@
 mod clock;
 mod hands;
 mod nodes;
+mod state;
 mod workers;
 mod world;
 

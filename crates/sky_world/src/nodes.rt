@@ -1,113 +1,48 @@
-//! The nodes of sets: `create_root`, and the statements that concern two databases, or the database whose node has a
-//! given name.
+//! The nodes of sets: the statements that concern the node of a name, which all databases know, or two databases.
 
 ghost use Rattle.std.specs.Prelude.{◌≡◌, ◌<◌, ◌&&◌, ◌∷◌, ◌++◌, map, [], true, false, Some, None, Ok, IfOk, IfErr, OnOk, IfSome, MatchOption, length, option_copied, option_map, is_some};
 ghost use Rattle.londiste_state.specs.Nodes.{of_leaf, table_of, LeafTable};
 ghost use Rattle.sky_model.specs.declared.reply.Reply.TheVariants.{Done};
 ghost use Rattle.sky_model.specs.declared.reply.Refusal.TheVariants.{NotProvider, TableInUse};
 ghost use Rattle.sky_model.specs.Outcome.{found_or, refused_by};
-ghost use Rattle.sky_model.specs.InForm.{IsInForm};
 ghost use Rattle.sky_model.specs.History.{within, node_made, noded, leaf_made};
 ghost use Rattle.sky_model.specs.Stops.{StopsAs};
-ghost use Rattle.sky_model.specs.World.{after_fact};
-ghost use Rattle.sky_model.specs.Reader.{within_database, by_world};
-ghost use Rattle.sky_model.specs.StepNode.{set_queue, table_number, may_serve, node_does, adding, listing, unlisting};
-ghost use Rattle.sky_model.specs.NodesOfWorld.{node_called, done_in, provides, same_columns, uses, first_user, create_leaf, add_table, table_state};
+ghost use Rattle.sky_model.specs.Reader.{by_world};
+ghost use Rattle.sky_model.specs.StepNode.{makes_root, set_queue, table_number, may_serve, node_does, adding, listing, unlisting};
+ghost use Rattle.sky_model.specs.NodesOfWorld.{node_called, done_in, root_of, create_root, provides, same_columns, uses, first_user, create_leaf, add_table, table_state};
 ghost use Rattle.sky_model.specs.WorkersOfWorld.{parts_for, remove_table, node_form};
-ghost use Rattle.sky_model.specs.Calls.{database_turn, world_does, node_stmt_does, roots_in, session_does};
-ghost use Rattle.sky_world.specs.Seen.{seen_world};
+ghost use Rattle.sky_model.specs.Calls.{world_does, node_stmt_does};
+ghost use Rattle.sky_world.specs.Seen.{seen_state};
 ghost use Rattle.sky_world.specs.Adds.{AddsDeed};
-ghost use Rattle.sky_world.specs.Nodes.{may_outside, root_name, Stays, Happened, Does, DoesAll, Stopped, Ran, as_list, StopsLike, Joined, leaf_from, provided_as};
+ghost use Rattle.sky_world.specs.Nodes.{Happened, Does, DoesAll, Stopped, Ran, as_list, StopsLike, Joined, refuses_new, leaf_from, provided_as};
+ghost use Rattle.sky_world.specs.Whole.{IsWhole};
 ghost use Rattle.sky_world.specs.Workers.{parts_with};
 
-use crate::world::World;
+use crate::state::State;
 use londiste_copy::copy_consumer;
 use londiste_replay::is_on_way;
 use londiste_state::{Leaf, Node};
-use pgq_db::{JoinFault, RootFault};
-use sky_model::{Limit, NodeStmt, Refusal, Replies, Reply, Stmt, Stop};
+use pgq_db::{JoinFault, MakeRootFault, RootFault};
+use sky_model::{Limit, NodeStmt, Refusal, Replies, Reply, Stop};
 use sky_val::{Column, NoMemory, SessionId, Text};
 use std::alloc::{AllocError, Global};
 
-impl World {
-    /// Runs `create_root`. It is refused if there is a node of the name, even in another database. Unless it is refused
-    /// in its own database, that has a node from then on.
-    pub(crate) fn run_root(
-        &mut self,
-        database: usize,
-        who: SessionId,
-        stmt: &Stmt,
-        name: &Text,
-        replies: &mut Replies,
-    ) -> Result<(), NoMemory>
-        requires who { who < length self.old.sessions.names }
-        requires database { database < length self.old.databases.names }
-        requires form { IsInForm stmt.now }
-        requires root { root_name stmt.now ≡ Some name.now }
-        ensures adds { OnOk result (AddsDeed self.old self.new replies.old replies.new (session_does by_world (seen_world self.old) who stmt.now (Some database))) }
-        ensures failed { OnOk result (self.new.has_failed ≡ self.old.has_failed) }
-    {
-        if self.is_taken(database, who, name)? {
-            let name = name.copy(self.alloc)?;
-            replies.push(who, Reply::Refused(Refusal::NodeExists(name)))?;
-            return Ok(());
-        }
-        self.make_root(database, who, stmt, replies)?;
-        Ok(())
-    }
-
-    /// Whether a session may make a root, and a node already has the root's name.
-    fn is_taken(&mut self, database: usize, who: SessionId, name: &Text) -> Result<bool, NoMemory>
-        requires { database < length self.old.databases.names }
-        ensures taken { IfOk result (λ taken. taken ≡ (may_outside ((seen_world self.old).database database) who && is_some (node_called (seen_world self.old) name.now))) }
-        ensures stays { OnOk result (Stays self.old self.new) }
-    {
-        let refusal = self.refusal_outside(database, who)?;
-        Ok(refusal.is_none() && self.find_node(name).is_some())
-    }
-
-    /// Runs `create_root` in its database, which may have its node from then on.
-    fn make_root(
-        &mut self,
-        database: usize,
-        who: SessionId,
-        stmt: &Stmt,
-        replies: &mut Replies,
-    ) -> Result<(), NoMemory>
-        requires who { who < length self.old.sessions.names }
-        requires database { database < length self.old.databases.names }
-        requires form { IsInForm stmt.now }
-        requires root { is_some (root_name stmt.now) ≡ true }
-        ensures adds { OnOk result (AddsDeed self.old self.new replies.old replies.new
-            (roots_in database ((seen_world self.old).database database) (database_turn (within_database by_world database) (seen_world self.old) (seen_world self.old).now who stmt.now))) }
-        ensures failed { OnOk result (self.new.has_failed ≡ self.old.has_failed) }
-    {
-        let had_node = self.store(database).node().is_some();
-        self.run_there(database, who, stmt, replies)?;
-        if !had_node && self.store(database).node().is_some() {
-            self.gets_node(database)?;
-        }
-        Ok(())
-    }
-
+impl State {
     /// Runs a statement on nodes, unless its session may not make it.
-    pub(crate) fn run_node(
+    pub(crate) fn run_on_nodes(
         &mut self,
-        database: usize,
         who: SessionId,
-        form: &NodeStmt,
+        stmt: &NodeStmt,
         replies: &mut Replies,
     ) -> Result<(), NoMemory>
         requires who { who < length self.old.sessions.names }
-        requires database { database < length self.old.databases.names }
-        ensures adds { OnOk result (AddsDeed self.old self.new replies.old replies.new (node_stmt_does by_world (seen_world self.old) who form.now database)) }
-        ensures failed { OnOk result (self.new.has_failed ≡ self.old.has_failed) }
+        requires whole { IsWhole self.old }
+        ensures { OnOk result (AddsDeed self.old self.new replies.old replies.new (node_stmt_does by_world (seen_state self.old) who stmt.now ((seen_state self.old).homes who))) }
     {
-        if let Some(refusal) = self.refusal_outside(database, who)? {
-            self.refuse(database, who, refusal, replies)?;
+        let Some(database) = self.enter_outside(who, replies)? else {
             return Ok(());
-        }
-        self.serve(database, who, form, replies)?;
+        };
+        self.serve(database, who, stmt, replies)?;
         Ok(())
     }
 
@@ -116,16 +51,15 @@ impl World {
         &mut self,
         database: usize,
         who: SessionId,
-        form: &NodeStmt,
+        stmt: &NodeStmt,
         replies: &mut Replies,
     ) -> Result<(), NoMemory>
         requires who { who < length self.old.sessions.names }
         requires database { database < length self.old.databases.names }
-        requires sound { self.old.has_failed ≡ false }
-        ensures adds { OnOk result (AddsDeed self.old self.new replies.old replies.new (world_does who (node_form (seen_world self.old) database form.now))) }
-        ensures failed { OnOk result (self.new.has_failed ≡ self.old.has_failed) }
+        requires whole { IsWhole self.old }
+        ensures { OnOk result (AddsDeed self.old self.new replies.old replies.new (world_does who (node_form (seen_state self.old) database stmt.now))) }
     {
-        match self.run_form(database, form) {
+        match self.run_form(database, stmt) {
             Ok(given) => {
                 answer_all(who, given, replies)?;
                 Ok(())
@@ -139,14 +73,17 @@ impl World {
     }
 
     /// Runs a statement on nodes. A worker's move has its answers as a list; any other statement has one.
-    fn run_form(&mut self, database: usize, form: &NodeStmt) -> Result<Vec<Reply>, Stop>
+    fn run_form(&mut self, database: usize, stmt: &NodeStmt) -> Result<Vec<Reply>, Stop>
         requires database { database < length self.old.databases.names }
-        requires sound { self.old.has_failed ≡ false }
-        ensures ok { IfOk result (λ given. DoesAll self.old self.new given.items (node_form (seen_world self.old) database form.now)) }
-        ensures err { IfErr result (λ stop. Stopped self.old self.new stop (node_form (seen_world self.old) database form.now)) }
+        requires whole { IsWhole self.old }
+        ensures ok { IfOk result (λ given. DoesAll self.old self.new given.items (node_form (seen_state self.old) database stmt.now)) }
+        ensures err { IfErr result (λ stop. Stopped self.old self.new stop (node_form (seen_state self.old) database stmt.now)) }
     {
         let alloc = self.alloc;
-        match form {
+        match stmt {
+            NodeStmt::CreateRoot { name, queue } => {
+                as_list(alloc, self.create_root(database, name, queue))
+            }
             NodeStmt::CreateLeaf { name, provider } => {
                 as_list(alloc, self.create_leaf(database, name, provider))
             }
@@ -162,10 +99,61 @@ impl World {
         }
     }
 
+    /// Runs `create_root`: the session's database gets a root, and the queue of its set.
+    fn create_root(&mut self, database: usize, name: &Text, queue: &Text) -> Result<Reply, Stop>
+        requires database { database < length self.old.databases.names }
+        requires whole { IsWhole self.old }
+        ensures { Ran self.old self.new result (create_root (seen_state self.old) database name.now queue.now) }
+    {
+        self.check_new(database, name)?;
+        self.make_root(database, name, queue)
+    }
+
+    /// Whether a database may get a node of this name: no database has one of the name, and this one has none.
+    fn check_new(&self, database: usize, name: &Text) -> Result<(), Stop>
+        requires { database < length self.now.databases.names }
+        ensures ok { OnOk result (refuses_new (seen_state self.now) database name.now ≡ Ok tt) }
+        ensures bare { OnOk result (((seen_state self.now).database database).node ≡ None) }
+        ensures err { IfErr result (λ stop. StopsAs stop (refuses_new (seen_state self.now) database name.now)) }
+    {
+        if self.find_node(name).is_some() || self.store(database).node().is_some() {
+            let name = name.copy(self.alloc)?;
+            return Err(Stop::Refused(Refusal::NodeExists(name)));
+        }
+        Ok(())
+    }
+
+    /// Makes a root in a database that has no node.
+    fn make_root(&mut self, database: usize, name: &Text, queue: &Text) -> Result<Reply, Stop>
+        requires database { database < length self.old.databases.names }
+        requires bare { ((seen_state self.old).database database).node ≡ None }
+        requires whole { IsWhole self.old }
+        ensures { Ran self.old self.new result (root_of database (makes_root ((seen_state self.old).database database) (seen_state self.old).now name.now queue.now)) }
+    {
+        let alloc = self.alloc;
+        let store = self.databases.get_mut(database);
+        match store.make_root(name, queue, self.clock) {
+            Ok(()) => {
+                self.gets_node(database)?;
+                Ok(Reply::Done)
+            }
+            Err(MakeRootFault::QueueExists) => {
+                let queue = queue.copy(alloc)?;
+                Err(Stop::Refused(Refusal::QueueExists(queue)))
+            }
+            Err(MakeRootFault::TooManyQueues) => {
+                Err(Stop::Refused(Refusal::TooMany(Limit::Queues)))
+            }
+            Err(MakeRootFault::TxidsSpent) => Err(Stop::Refused(Refusal::TxidsSpent)),
+            Err(MakeRootFault::NoMemory) => Err(Stop::NoMemory),
+        }
+    }
+
     /// Runs `create_leaf`: the leaf's consumer joins the queue of the provider, whose newest tick becomes the leaf's.
     fn create_leaf(&mut self, database: usize, name: &Text, provider: &Text) -> Result<Reply, Stop>
-        requires { database < length self.old.databases.names }
-        ensures { Ran self.old self.new result (create_leaf (seen_world self.old) database name.now provider.now) }
+        requires database { database < length self.old.databases.names }
+        requires whole { IsWhole self.old }
+        ensures { Ran self.old self.new result (create_leaf (seen_state self.old) database name.now provider.now) }
     {
         let from = self.provider_for(database, name, provider)?;
         let tick = self.join(from, name)?;
@@ -176,16 +164,13 @@ impl World {
     /// The database of a leaf's provider, if the leaf may be made.
     fn provider_for(&self, database: usize, name: &Text, provider: &Text) -> Result<usize, Stop>
         requires { database < length self.now.databases.names }
-        ensures ok { IfOk result (λ from. create_leaf (seen_world self.now) database name.now provider.now ≡ leaf_from (seen_world self.now) database name.now provider.now from) }
-        ensures err { IfErr result (λ stop. StopsAs stop (create_leaf (seen_world self.now) database name.now provider.now)) }
+        ensures ok { IfOk result (λ from. create_leaf (seen_state self.now) database name.now provider.now ≡ leaf_from (seen_state self.now) database name.now provider.now from) }
+        ensures err { IfErr result (λ stop. StopsAs stop (create_leaf (seen_state self.now) database name.now provider.now)) }
         ensures within { IfOk result (λ from. from < length self.now.databases.names) }
-        ensures free { OnOk result (((seen_world self.now).database database).node ≡ None) }
-        ensures provides { IfOk result (λ from. is_some (set_queue ((seen_world self.now).database from)) ≡ true) }
+        ensures free { OnOk result (((seen_state self.now).database database).node ≡ None) }
+        ensures provides { IfOk result (λ from. is_some (set_queue ((seen_state self.now).database from)) ≡ true) }
     {
-        if self.find_node(name).is_some() || self.store(database).node().is_some() {
-            let name = name.copy(self.alloc)?;
-            return Err(Stop::Refused(Refusal::NodeExists(name)));
-        }
+        self.check_new(database, name)?;
         let Some((from, _)) = self.find_node(provider) else {
             let provider = provider.copy(self.alloc)?;
             return Err(Stop::Refused(Refusal::NoNode(provider)));
@@ -197,8 +182,8 @@ impl World {
     /// Whether the node of a database is a root whose queue exists. If not, it is refused as no provider.
     pub(crate) fn check_provider(&self, database: usize, name: &Text) -> Result<(), Stop>
         requires { database < length self.now.databases.names }
-        ensures ok { OnOk result (is_some (set_queue ((seen_world self.now).database database)) ≡ true) }
-        ensures err { IfErr result (λ stop. StopsAs stop (found_or (set_queue ((seen_world self.now).database database)) (NotProvider name.now))) }
+        ensures ok { OnOk result (is_some (set_queue ((seen_state self.now).database database)) ≡ true) }
+        ensures err { IfErr result (λ stop. StopsAs stop (found_or (set_queue ((seen_state self.now).database database)) (NotProvider name.now))) }
     {
         if !self.store(database).is_provider() {
             let name = name.copy(self.alloc)?;
@@ -210,7 +195,8 @@ impl World {
     /// A leaf's consumer joins the queue of the set in a database. The answer is the newest tick.
     fn join(&mut self, database: usize, consumer: &Text) -> Result<u64, Stop>
         requires database { database < length self.old.databases.names }
-        requires provider { is_some (set_queue ((seen_world self.old).database database)) ≡ true }
+        requires provider { is_some (set_queue ((seen_state self.old).database database)) ≡ true }
+        requires whole { IsWhole self.old }
         ensures { Joined self.old self.new database result consumer.now }
     {
         let alloc = self.alloc;
@@ -225,10 +211,7 @@ impl World {
                 Err(Stop::Refused(Refusal::TooMany(Limit::Consumers)))
             }
             Err(JoinFault::IdsSpent) => Err(Stop::Refused(Refusal::IdsSpent)),
-            Err(JoinFault::NoMemory) => {
-                self.has_failed = true;
-                Err(Stop::NoMemory)
-            }
+            Err(JoinFault::NoMemory) => Err(Stop::NoMemory),
         }
     }
 
@@ -241,25 +224,20 @@ impl World {
         tick: u64,
     ) -> Result<(), NoMemory>
         requires database { database < length self.old.databases.names }
-        requires free { ((seen_world self.old).database database).node ≡ None }
+        requires free { ((seen_state self.old).database database).node ≡ None }
+        requires whole { IsWhole self.old }
         ensures { OnOk result (Happened self.old self.new (within database (noded (leaf_made name.now provider.now tick)) ∷ node_made database ∷ [])) }
     {
         let store = self.databases.get_mut(database);
-        match store.make_leaf(name, provider, tick) {
-            Ok(()) => {
-                self.gets_node(database)?;
-                Ok(())
-            }
-            Err(fault) => {
-                self.has_failed = true;
-                Err(fault)
-            }
-        }
+        store.make_leaf(name, provider, tick)?;
+        self.gets_node(database)?;
+        Ok(())
     }
 
     /// A database has a node from now on.
     fn gets_node(&mut self, database: usize) -> Result<(), NoMemory>
-        requires { database < length self.old.databases.names }
+        requires database { database < length self.old.databases.names }
+        requires whole { IsWhole self.old }
         ensures { OnOk result (Happened self.old self.new (node_made database ∷ [])) }
     {
         self.nodes.push(database)?;
@@ -269,7 +247,8 @@ impl World {
     /// Runs `add_table`: a table of the node's database joins the node. A leaf's provider has to have it, with the same
     /// columns.
     fn add_table(&mut self, name: &Text, table: &Text) -> Result<Reply, Stop>
-        ensures { Ran self.old self.new result (add_table (seen_world self.old) name.now table.now) }
+        requires { IsWhole self.old }
+        ensures { Ran self.old self.new result (add_table (seen_state self.old) name.now table.now) }
     {
         let Some((database, node)) = self.find_node(name) else {
             let name = name.copy(self.alloc)?;
@@ -297,9 +276,9 @@ impl World {
 
     /// The node of a name, and the number of its database.
     pub(crate) fn find_node(&self, name: &Text) -> Option<(usize, &Node)>
-        ensures node { MatchOption result (node_called (seen_world self.now) name.now ≡ None)
-            (λ found. node_called (seen_world self.now) name.now ≡ Some (record { database = found.0; node = found.1.now })) }
-        ensures there { IfSome result (λ found. ((seen_world self.now).database found.0).node ≡ Some found.1.now) }
+        ensures node { MatchOption result (node_called (seen_state self.now) name.now ≡ None)
+            (λ found. node_called (seen_state self.now) name.now ≡ Some (record { database = found.0; node = found.1.now })) }
+        ensures there { IfSome result (λ found. ((seen_state self.now).database found.0).node ≡ Some found.1.now) }
         ensures within { IfSome result (λ found. found.0 < length self.now.databases.names) }
     {
         for database in &self.nodes {
@@ -314,8 +293,8 @@ impl World {
 
     /// Whether a table may join a leaf: its provider has it, with these columns.
     fn check_provided(&self, columns: &[Column], leaf: &Leaf, table: &Text) -> Result<(), Stop>
-        ensures ok { OnOk result (provided_as (seen_world self.now) columns.now table.now leaf.now ≡ Ok tt) }
-        ensures err { IfErr result (λ stop. StopsAs stop (provided_as (seen_world self.now) columns.now table.now leaf.now)) }
+        ensures ok { OnOk result (provided_as (seen_state self.now) columns.now table.now leaf.now ≡ Ok tt) }
+        ensures err { IfErr result (λ stop. StopsAs stop (provided_as (seen_state self.now) columns.now table.now leaf.now)) }
     {
         let Some(provider) = self.provides(leaf.provider(), table) else {
             let table = table.copy(self.alloc)?;
@@ -332,7 +311,7 @@ impl World {
 
     /// The database of the node of this name, if the node has this table.
     pub(crate) fn provides(&self, name: &Text, table: &Text) -> Option<usize>
-        ensures database { result ≡ provides table.now (node_called (seen_world self.now) name.now) }
+        ensures database { result ≡ provides table.now (node_called (seen_state self.now) name.now) }
         ensures within { IfSome result (λ database. database < length self.now.databases.names) }
     {
         let (database, node) = self.find_node(name)?;
@@ -346,10 +325,11 @@ impl World {
     /// A table joins the root of a database.
     fn add_to_root(&mut self, database: usize, table: &Text) -> Result<Reply, Stop>
         requires database { database < length self.old.databases.names }
-        requires provider { is_some (set_queue ((seen_world self.old).database database)) ≡ true }
-        requires there { is_some (table_number ((seen_world self.old).database database) table.now) ≡ true }
-        requires may { may_serve (listing table.now) ((seen_world self.old).database database).node ≡ true }
-        ensures { Ran self.old self.new result (done_in database Done (node_does ((seen_world self.old).database database) (listing table.now))) }
+        requires provider { is_some (set_queue ((seen_state self.old).database database)) ≡ true }
+        requires there { is_some (table_number ((seen_state self.old).database database) table.now) ≡ true }
+        requires may { may_serve (listing table.now) ((seen_state self.old).database database).node ≡ true }
+        requires whole { IsWhole self.old }
+        ensures { Ran self.old self.new result (done_in database Done (node_does ((seen_state self.old).database database) (listing table.now))) }
     {
         let store = self.databases.get_mut(database);
         match store.root_add(table) {
@@ -358,35 +338,30 @@ impl World {
             Err(RootFault::TooManyTriggers) => {
                 Err(Stop::Refused(Refusal::TooMany(Limit::Triggers)))
             }
-            Err(RootFault::NoMemory) => {
-                self.has_failed = true;
-                Err(Stop::NoMemory)
-            }
+            Err(RootFault::NoMemory) => Err(Stop::NoMemory),
         }
     }
 
     /// A table joins the leaf of a database.
     fn add_to_leaf(&mut self, database: usize, table: &Text) -> Result<Reply, Stop>
         requires database { database < length self.old.databases.names }
-        requires there { is_some (table_number ((seen_world self.old).database database) table.now) ≡ true }
-        requires may { may_serve (adding table.now) ((seen_world self.old).database database).node ≡ true }
-        ensures { Ran self.old self.new result (done_in database Done (node_does ((seen_world self.old).database database) (adding table.now))) }
+        requires there { is_some (table_number ((seen_state self.old).database database) table.now) ≡ true }
+        requires may { may_serve (adding table.now) ((seen_state self.old).database database).node ≡ true }
+        requires whole { IsWhole self.old }
+        ensures { Ran self.old self.new result (done_in database Done (node_does ((seen_state self.old).database database) (adding table.now))) }
     {
         let store = self.databases.get_mut(database);
         match store.leaf_add(table) {
             Ok(None) => Ok(Reply::Done),
             Ok(Some(writer)) => Err(Stop::Refused(Refusal::TableBusy(writer))),
-            Err(_) => {
-                self.has_failed = true;
-                Err(Stop::NoMemory)
-            }
+            Err(_) => Err(Stop::NoMemory),
         }
     }
 
     /// Runs `remove_table`: a table leaves the node. No leaf of a root may have it.
     fn remove_table(&mut self, name: &Text, table: &Text) -> Result<Reply, Stop>
-        requires sound { self.old.has_failed ≡ false }
-        ensures { Ran self.old self.new result (remove_table (seen_world self.old) name.now table.now) }
+        requires { IsWhole self.old }
+        ensures { Ran self.old self.new result (remove_table (seen_state self.old) name.now table.now) }
     {
         let Some((database, node)) = self.find_node(name) else {
             let name = name.copy(self.alloc)?;
@@ -433,8 +408,8 @@ impl World {
 
     /// Whether no leaf of a provider has the table.
     fn check_unused(&self, provider: &Text, table: &Text) -> Result<(), Stop>
-        ensures ok { OnOk result (refused_by (option_map TableInUse (first_user (seen_world self.now) provider.now table.now)) ≡ Ok tt) }
-        ensures err { IfErr result (λ stop. StopsAs stop (refused_by (option_map TableInUse (first_user (seen_world self.now) provider.now table.now)))) }
+        ensures ok { OnOk result (refused_by (option_map TableInUse (first_user (seen_state self.now) provider.now table.now)) ≡ Ok tt) }
+        ensures err { IfErr result (λ stop. StopsAs stop (refused_by (option_map TableInUse (first_user (seen_state self.now) provider.now table.now)))) }
     {
         match self.first_user(provider, table) {
             Some(leaf) => {
@@ -447,7 +422,7 @@ impl World {
 
     /// The name of the first of a provider's leaves that has this table.
     fn first_user(&self, provider: &Text, table: &Text) -> Option<&Text>
-        ensures { option_copied result ≡ first_user (seen_world self.now) provider.now table.now }
+        ensures { option_copied result ≡ first_user (seen_state self.now) provider.now table.now }
     {
         for database in &self.nodes {
             if let Some(node) = self.store(*database).node()
@@ -462,8 +437,9 @@ impl World {
     /// A table leaves the root of a database.
     fn drop_from_root(&mut self, database: usize, table: &Text) -> Reply
         requires database { database < length self.old.databases.names }
-        requires may { may_serve (unlisting table.now) ((seen_world self.old).database database).node ≡ true }
-        ensures { Does self.old self.new result (done_in database Done (node_does ((seen_world self.old).database database) (unlisting table.now))) }
+        requires may { may_serve (unlisting table.now) ((seen_state self.old).database database).node ≡ true }
+        requires whole { IsWhole self.old }
+        ensures { Does self.old self.new result (done_in database Done (node_does ((seen_state self.old).database database) (unlisting table.now))) }
     {
         let store = self.databases.get_mut(database);
         store.root_drop(table);
@@ -472,7 +448,8 @@ impl World {
 
     /// Runs `table_state`: the state of a leaf's table.
     fn table_state(&self, name: &Text, table: &Text) -> Result<Reply, Stop>
-        ensures { Ran self.now self.now result (table_state (seen_world self.now) name.now table.now) }
+        requires whole { IsWhole self.now }
+        ensures { Ran self.now self.now result (table_state (seen_state self.now) name.now table.now) }
     {
         match self.find_node(name) {
             Some((_, Node::Leaf(leaf))) => match leaf.table(table) {

@@ -10,12 +10,13 @@ ghost use Rattle.sky_model.specs.StepNode.{set_queue, may_serve, parting, removi
 ghost use Rattle.sky_model.specs.NodesOfWorld.{columns_called};
 ghost use Rattle.sky_model.specs.WorkersOfWorld.{source, source_alike, are_alike, call_facts, calls_facts, moves, move_facts, copy_step, provider_of, restart, restart_table, restarting, londiste_step};
 ghost use Rattle.londiste_copy.specs.Copying.{SameTable};
-ghost use Rattle.sky_world.specs.Seen.{seen_world};
+ghost use Rattle.sky_world.specs.Seen.{seen_state};
 ghost use Rattle.sky_world.specs.Nodes.{Happened, Does, Ran, DoesAll, Stopped};
-ghost use Rattle.sky_world.specs.Workers.{copies, replays, is_out_of_memory, leaf_called, leaf_with, leaving, lets_go_with, parts_with, stop_of, stopping};
+ghost use Rattle.sky_world.specs.Whole.{IsWhole};
+ghost use Rattle.sky_world.specs.Workers.{copies, replays, leaf_called, leaf_with, leaving, lets_go_with, parts_with, stop_of, stopping};
 
 use crate::nodes::same_columns;
-use crate::world::World;
+use crate::state::State;
 use londiste_copy::CopyWorker;
 use londiste_replay::ReplayWorker;
 use londiste_state::{Leaf, Node};
@@ -24,34 +25,33 @@ use sky_model::{Limit, Refusal, Reply, Stop};
 use sky_val::{NoMemory, Text};
 use std::mem;
 
-impl World {
+impl State {
     /// Runs `copy_step`: one move of the worker that copies the table.
     pub(crate) fn copy_step(&mut self, name: &Text, table: &Text) -> Result<Vec<Reply>, Stop>
-        requires sound { self.old.has_failed ≡ false }
-        ensures ok { IfOk result (λ replies. DoesAll self.old self.new replies.items (copy_step (seen_world self.old) name.now table.now)) }
-        ensures err { IfErr result (λ stop. Stopped self.old self.new stop (copy_step (seen_world self.old) name.now table.now)) }
+        requires { IsWhole self.old }
+        ensures ok { IfOk result (λ replies. DoesAll self.old self.new replies.items (copy_step (seen_state self.old) name.now table.now)) }
+        ensures err { IfErr result (λ stop. Stopped self.old self.new stop (copy_step (seen_state self.old) name.now table.now)) }
     {
         let (database, leaf) = self.leaf_with(name, table)?;
         let provider = self.source_alike(database, leaf, table)?;
         self.move_copy(provider, database, table)
     }
 
-    /// One move of the worker that copies a table of a leaf's database from its provider's. If memory runs out, the world
-    /// has failed.
+    /// One move of the worker that copies a table of a leaf's database from its provider's.
     fn move_copy(
         &mut self,
         provider: usize,
         database: usize,
         table: &Text,
     ) -> Result<Vec<Reply>, Stop>
-        requires sound { self.old.has_failed ≡ false }
         requires provider { provider < length self.old.databases.names }
         requires database { database < length self.old.databases.names }
         requires apart { (provider == database) ≡ false }
-        requires root { is_some (set_queue ((seen_world self.old).database provider)) ≡ true }
-        requires same { SameTable ((seen_world self.old).database provider) ((seen_world self.old).database database) table.now }
-        ensures ok { IfOk result (λ replies. DoesAll self.old self.new replies.items (copies (seen_world self.old) provider database table.now)) }
-        ensures err { IfErr result (λ stop. Stopped self.old self.new stop (copies (seen_world self.old) provider database table.now)) }
+        requires root { is_some (set_queue ((seen_state self.old).database provider)) ≡ true }
+        requires same { SameTable ((seen_state self.old).database provider) ((seen_state self.old).database database) table.now }
+        requires whole { IsWhole self.old }
+        ensures ok { IfOk result (λ replies. DoesAll self.old self.new replies.items (copies (seen_state self.old) provider database table.now)) }
+        ensures err { IfErr result (λ stop. Stopped self.old self.new stop (copies (seen_state self.old) provider database table.now)) }
     {
         let hand = self.hands.take(database, table);
         let mut worker = CopyWorker::with_hand(self.alloc, hand);
@@ -60,32 +60,30 @@ impl World {
         let moved = worker.step(&mut self.spare, to, table);
         mem::swap(&mut self.spare, self.databases.get_mut(provider));
         let kept = self.hands.set(database, table, worker.into_hand());
-        let moved = if_kept(moved, kept);
-        self.has_failed = has_run_out(&moved);
-        moved
+        if_kept(moved, kept)
     }
 
     /// Runs `londiste_step`: one move of the leaf's worker.
     pub(crate) fn londiste_step(&mut self, name: &Text) -> Result<Vec<Reply>, Stop>
-        requires sound { self.old.has_failed ≡ false }
-        ensures ok { IfOk result (λ replies. DoesAll self.old self.new replies.items (londiste_step (seen_world self.old) name.now)) }
-        ensures err { IfErr result (λ stop. Stopped self.old self.new stop (londiste_step (seen_world self.old) name.now)) }
+        requires { IsWhole self.old }
+        ensures ok { IfOk result (λ replies. DoesAll self.old self.new replies.items (londiste_step (seen_state self.old) name.now)) }
+        ensures err { IfErr result (λ stop. Stopped self.old self.new stop (londiste_step (seen_state self.old) name.now)) }
     {
         let (database, leaf) = self.leaf_called(name)?;
         let provider = self.provider_of(leaf)?;
         self.move_leaf(provider, database)
     }
 
-    /// One move of the worker of a database's leaf, by its provider's database. If memory runs out, the world has failed.
+    /// One move of the worker of a database's leaf, by its provider's database.
     fn move_leaf(&mut self, provider: usize, database: usize) -> Result<Vec<Reply>, Stop>
-        requires sound { self.old.has_failed ≡ false }
         requires provider { provider < length self.old.databases.names }
         requires database { database < length self.old.databases.names }
         requires apart { (provider == database) ≡ false }
-        requires root { is_some (set_queue ((seen_world self.old).database provider)) ≡ true }
-        requires leaf { is_leaf ((seen_world self.old).database database).node ≡ true }
-        ensures ok { IfOk result (λ replies. DoesAll self.old self.new replies.items (replays (seen_world self.old) provider database)) }
-        ensures err { IfErr result (λ stop. Stopped self.old self.new stop (replays (seen_world self.old) provider database)) }
+        requires root { is_some (set_queue ((seen_state self.old).database provider)) ≡ true }
+        requires leaf { is_leaf ((seen_state self.old).database database).node ≡ true }
+        requires whole { IsWhole self.old }
+        ensures ok { IfOk result (λ replies. DoesAll self.old self.new replies.items (replays (seen_state self.old) provider database)) }
+        ensures err { IfErr result (λ stop. Stopped self.old self.new stop (replays (seen_state self.old) provider database)) }
     {
         let hand = self.batches.get(database);
         let mut worker = ReplayWorker::with_hand(self.alloc, hand);
@@ -94,14 +92,13 @@ impl World {
         let moved = worker.step(&mut self.spare, to);
         mem::swap(&mut self.spare, self.databases.get_mut(provider));
         let kept = self.batches.set(database, worker.into_hand());
-        let moved = if_kept(moved, kept);
-        self.has_failed = has_run_out(&moved);
-        moved
+        if_kept(moved, kept)
     }
 
     /// Runs `restart` of a leaf: what its worker has in hand is lost, so its batch comes again.
     pub(crate) fn restart(&mut self, name: &Text) -> Result<Reply, Stop>
-        ensures { Ran self.old self.new result (restart (seen_world self.old) name.now) }
+        requires { IsWhole self.old }
+        ensures { Ran self.old self.new result (restart (seen_state self.old) name.now) }
     {
         let (database, _) = self.leaf_called(name)?;
         self.empty_batch(database);
@@ -110,6 +107,7 @@ impl World {
 
     /// The worker of a database's leaf has nothing in hand from now on.
     fn empty_batch(&mut self, database: usize)
+        requires { IsWhole self.old }
         ensures { Happened self.old self.new (batch_in_hand database None ∷ []) }
     {
         self.batches.empty(database);
@@ -117,8 +115,8 @@ impl World {
 
     /// Runs `restart` of a leaf's table: what its worker has in hand is lost, so a copy that runs is given up.
     pub(crate) fn restart_table(&mut self, name: &Text, table: &Text) -> Result<Reply, Stop>
-        requires sound { self.old.has_failed ≡ false }
-        ensures { Ran self.old self.new result (restart_table (seen_world self.old) name.now table.now) }
+        requires { IsWhole self.old }
+        ensures { Ran self.old self.new result (restart_table (seen_state self.old) name.now table.now) }
     {
         let (database, leaf) = self.leaf_with(name, table)?;
         let provider = self.source(leaf, table)?;
@@ -128,11 +126,11 @@ impl World {
 
     /// What the worker that copies a table has in hand is lost.
     fn restart_copy(&mut self, provider: usize, database: usize, table: &Text)
-        requires sound { self.old.has_failed ≡ false }
         requires provider { provider < length self.old.databases.names }
         requires database { database < length self.old.databases.names }
         requires apart { (provider == database) ≡ false }
-        ensures { Happened self.old self.new (move_facts (seen_world self.old) provider database (in_hand database table.now) (restarting table.now ((seen_world self.old).hands database table.now))) }
+        requires whole { IsWhole self.old }
+        ensures { Happened self.old self.new (move_facts (seen_state self.old) provider database (in_hand database table.now) (restarting table.now ((seen_state self.old).hands database table.now))) }
     {
         let hand = self.hands.take(database, table);
         let mut worker = CopyWorker::with_hand(self.alloc, hand);
@@ -151,13 +149,13 @@ impl World {
         table: &Text,
         consumer: Option<&Text>,
     ) -> Reply
-        requires sound { self.old.has_failed ≡ false }
         requires provider { provider < length self.old.databases.names }
         requires database { database < length self.old.databases.names }
         requires apart { (provider == database) ≡ false }
-        requires root { is_some (set_queue ((seen_world self.old).database provider)) ≡ true }
-        requires may { may_serve (removing table.now) ((seen_world self.old).database database).node ≡ true }
-        ensures { Does self.old self.new result (moves (seen_world self.old) provider database (in_hand database table.now) (Ok (leaving table.now (option_copied consumer.entry) ((seen_world self.old).hands database table.now)))) }
+        requires root { is_some (set_queue ((seen_state self.old).database provider)) ≡ true }
+        requires may { may_serve (removing table.now) ((seen_state self.old).database database).node ≡ true }
+        requires whole { IsWhole self.old }
+        ensures { Does self.old self.new result (moves (seen_state self.old) provider database (in_hand database table.now) (Ok (leaving table.now (option_copied consumer.entry) ((seen_state self.old).hands database table.now)))) }
     {
         let hold = self.hands.hold(database, table);
         self.let_go_if(provider, hold);
@@ -169,8 +167,9 @@ impl World {
 
     /// A snapshot that is held in a database is let go, if there is one.
     fn let_go_if(&mut self, database: usize, hold: Option<u64>)
-        requires { database < length self.old.databases.names }
-        ensures { Happened self.old self.new (calls_facts (seen_world self.old) database (lets_go_with hold)) }
+        requires database { database < length self.old.databases.names }
+        requires whole { IsWhole self.old }
+        ensures { Happened self.old self.new (calls_facts (seen_state self.old) database (lets_go_with hold)) }
     {
         if let Some(hold) = hold {
             self.let_go(database, hold);
@@ -180,8 +179,9 @@ impl World {
     /// A leaf's consumer leaves the queue of the set in a database, if there is one.
     fn part_if(&mut self, database: usize, consumer: Option<&Text>)
         requires database { database < length self.old.databases.names }
-        requires root { is_some (set_queue ((seen_world self.old).database database)) ≡ true }
-        ensures { Happened self.old self.new (calls_facts (seen_world self.old) database (parts_with (option_copied consumer.entry))) }
+        requires root { is_some (set_queue ((seen_state self.old).database database)) ≡ true }
+        requires whole { IsWhole self.old }
+        ensures { Happened self.old self.new (calls_facts (seen_state self.old) database (parts_with (option_copied consumer.entry))) }
     {
         if let Some(consumer) = consumer {
             self.part(database, consumer);
@@ -190,8 +190,9 @@ impl World {
 
     /// A snapshot that is held in a database is let go.
     fn let_go(&mut self, database: usize, hold: u64)
-        requires { database < length self.old.databases.names }
-        ensures { Happened self.old self.new (call_facts (seen_world self.old) database (letting_go hold)) }
+        requires database { database < length self.old.databases.names }
+        requires whole { IsWhole self.old }
+        ensures { Happened self.old self.new (call_facts (seen_state self.old) database (letting_go hold)) }
     {
         let store = self.databases.get_mut(database);
         store.let_go(hold);
@@ -200,8 +201,9 @@ impl World {
     /// A leaf's consumer leaves the queue of the set in a database.
     fn part(&mut self, database: usize, consumer: &Text)
         requires database { database < length self.old.databases.names }
-        requires root { is_some (set_queue ((seen_world self.old).database database)) ≡ true }
-        ensures { Happened self.old self.new (call_facts (seen_world self.old) database (parting consumer.now)) }
+        requires root { is_some (set_queue ((seen_state self.old).database database)) ≡ true }
+        requires whole { IsWhole self.old }
+        ensures { Happened self.old self.new (call_facts (seen_state self.old) database (parting consumer.now)) }
     {
         let store = self.databases.get_mut(database);
         store.part(consumer);
@@ -210,9 +212,9 @@ impl World {
     /// A table leaves the leaf of a database.
     fn drop_from_leaf(&mut self, database: usize, table: &Text)
         requires database { database < length self.old.databases.names }
-        requires may { may_serve (removing table.now) ((seen_world self.old).database database).node ≡ true }
-        requires sound { self.old.has_failed ≡ false }
-        ensures { Happened self.old self.new (call_facts (seen_world self.old) database (removing table.now)) }
+        requires may { may_serve (removing table.now) ((seen_state self.old).database database).node ≡ true }
+        requires whole { IsWhole self.old }
+        ensures { Happened self.old self.new (call_facts (seen_state self.old) database (removing table.now)) }
     {
         let store = self.databases.get_mut(database);
         store.leaf_drop(table);
@@ -220,6 +222,7 @@ impl World {
 
     /// The worker that copies a table has nothing in hand from now on.
     fn empty_hand(&mut self, database: usize, table: &Text)
+        requires { IsWhole self.old }
         ensures { Happened self.old self.new (in_hand database table.now None ∷ []) }
     {
         self.hands.take(database, table);
@@ -227,9 +230,9 @@ impl World {
 
     /// The leaf of a name, and the number of its database.
     fn leaf_called(&self, name: &Text) -> Result<(usize, &Leaf), Stop>
-        ensures ok { IfOk result (λ found. leaf_called (seen_world self.now) name.now ≡ Ok (found.0, found.1.now)) }
-        ensures err { IfErr result (λ stop. StopsAs stop (leaf_called (seen_world self.now) name.now)) }
-        ensures there { IfOk result (λ found. ((seen_world self.now).database found.0).node ≡ Some (of_leaf found.1.now)) }
+        ensures ok { IfOk result (λ found. leaf_called (seen_state self.now) name.now ≡ Ok (found.0, found.1.now)) }
+        ensures err { IfErr result (λ stop. StopsAs stop (leaf_called (seen_state self.now) name.now)) }
+        ensures there { IfOk result (λ found. ((seen_state self.now).database found.0).node ≡ Some (of_leaf found.1.now)) }
         ensures within { IfOk result (λ found. found.0 < length self.now.databases.names) }
     {
         match self.find_node(name) {
@@ -247,9 +250,9 @@ impl World {
 
     /// The same, if the leaf has a table.
     fn leaf_with(&self, name: &Text, table: &Text) -> Result<(usize, &Leaf), Stop>
-        ensures ok { IfOk result (λ found. leaf_with (seen_world self.now) name.now table.now ≡ Ok (found.0, found.1.now)) }
-        ensures err { IfErr result (λ stop. StopsAs stop (leaf_with (seen_world self.now) name.now table.now)) }
-        ensures there { IfOk result (λ found. ((seen_world self.now).database found.0).node ≡ Some (of_leaf found.1.now)) }
+        ensures ok { IfOk result (λ found. leaf_with (seen_state self.now) name.now table.now ≡ Ok (found.0, found.1.now)) }
+        ensures err { IfErr result (λ stop. StopsAs stop (leaf_with (seen_state self.now) name.now table.now)) }
+        ensures there { IfOk result (λ found. ((seen_state self.now).database found.0).node ≡ Some (of_leaf found.1.now)) }
         ensures among { IfOk result (λ found. is_among table.now (tables_of (of_leaf found.1.now)) ≡ true) }
         ensures within { IfOk result (λ found. found.0 < length self.now.databases.names) }
     {
@@ -263,9 +266,9 @@ impl World {
 
     /// The database of a leaf's provider.
     fn provider_of(&self, leaf: &Leaf) -> Result<usize, Stop>
-        ensures ok { IfOk result (λ provider. provider_of (seen_world self.now) leaf.now ≡ Ok provider) }
-        ensures err { IfErr result (λ stop. StopsAs stop (provider_of (seen_world self.now) leaf.now)) }
-        ensures root { IfOk result (λ provider. is_some (set_queue ((seen_world self.now).database provider)) ≡ true) }
+        ensures ok { IfOk result (λ provider. provider_of (seen_state self.now) leaf.now ≡ Ok provider) }
+        ensures err { IfErr result (λ stop. StopsAs stop (provider_of (seen_state self.now) leaf.now)) }
+        ensures root { IfOk result (λ provider. is_some (set_queue ((seen_state self.now).database provider)) ≡ true) }
         ensures within { IfOk result (λ provider. provider < length self.now.databases.names) }
     {
         let Some((provider, _)) = self.find_node(leaf.provider()) else {
@@ -278,9 +281,9 @@ impl World {
 
     /// The database from which a table of a leaf is copied.
     pub(crate) fn source(&self, leaf: &Leaf, table: &Text) -> Result<usize, Stop>
-        ensures ok { IfOk result (λ provider. source (seen_world self.now) leaf.now table.now ≡ Ok provider) }
-        ensures err { IfErr result (λ stop. StopsAs stop (source (seen_world self.now) leaf.now table.now)) }
-        ensures root { IfOk result (λ provider. is_some (set_queue ((seen_world self.now).database provider)) ≡ true) }
+        ensures ok { IfOk result (λ provider. source (seen_state self.now) leaf.now table.now ≡ Ok provider) }
+        ensures err { IfErr result (λ stop. StopsAs stop (source (seen_state self.now) leaf.now table.now)) }
+        ensures root { IfOk result (λ provider. is_some (set_queue ((seen_state self.now).database provider)) ≡ true) }
         ensures within { IfOk result (λ provider. provider < length self.now.databases.names) }
     {
         let Some(provider) = self.provides(leaf.provider(), table) else {
@@ -294,10 +297,10 @@ impl World {
     /// The same, if both databases have the table with the same columns.
     fn source_alike(&self, database: usize, leaf: &Leaf, table: &Text) -> Result<usize, Stop>
         requires { database < length self.now.databases.names }
-        ensures ok { IfOk result (λ provider. source_alike (seen_world self.now) database leaf.now table.now ≡ Ok provider) }
-        ensures err { IfErr result (λ stop. StopsAs stop (source_alike (seen_world self.now) database leaf.now table.now)) }
-        ensures root { IfOk result (λ provider. is_some (set_queue ((seen_world self.now).database provider)) ≡ true) }
-        ensures alike { IfOk result (λ provider. are_alike (columns_called table.now ((seen_world self.now).database provider)) (columns_called table.now ((seen_world self.now).database database)) ≡ true) }
+        ensures ok { IfOk result (λ provider. source_alike (seen_state self.now) database leaf.now table.now ≡ Ok provider) }
+        ensures err { IfErr result (λ stop. StopsAs stop (source_alike (seen_state self.now) database leaf.now table.now)) }
+        ensures root { IfOk result (λ provider. is_some (set_queue ((seen_state self.now).database provider)) ≡ true) }
+        ensures alike { IfOk result (λ provider. are_alike (columns_called table.now ((seen_state self.now).database provider)) (columns_called table.now ((seen_state self.now).database database)) ≡ true) }
         ensures within { IfOk result (λ provider. provider < length self.now.databases.names) }
     {
         let provider = self.source(leaf, table)?;
@@ -312,7 +315,7 @@ impl World {
     fn are_alike(&self, provider: usize, database: usize, table: &Text) -> bool
         requires provider { provider < length self.now.databases.names }
         requires database { database < length self.now.databases.names }
-        ensures { result ≡ are_alike (columns_called table.now ((seen_world self.now).database provider)) (columns_called table.now ((seen_world self.now).database database)) }
+        ensures { result ≡ are_alike (columns_called table.now ((seen_state self.now).database provider)) (columns_called table.now ((seen_state self.now).database database)) }
     {
         let schema = self.store(provider).schema(table);
         let other = self.store(database).schema(table);
@@ -348,12 +351,4 @@ fn stop_of(fault: WorkerFault) -> Stop
         WorkerFault::TxidsSpent => Stop::Refused(Refusal::TxidsSpent),
         WorkerFault::NoMemory => Stop::NoMemory,
     }
-}
-
-/// Whether a statement ran out of memory.
-fn has_run_out(moved: &Result<Vec<Reply>, Stop>) -> bool
-    ensures ok { IfOk moved.now (λ _. result ≡ false) }
-    ensures err { IfErr moved.now (λ stop. result ≡ is_out_of_memory stop) }
-{
-    matches!(moved, Err(Stop::NoMemory))
 }

@@ -2,7 +2,7 @@ ghost use Rattle.std.specs.Prelude.{IfOk};
 ghost use Rattle.sky_model.specs.InForm.{IsLineInForm, IsRowInForm};
 
 use anyhow::bail;
-use sky_model::{Line, RowStmt, Stmt};
+use sky_model::{DbStmt, Line, RowStmt, Stmt};
 use sky_script::parse_line;
 use sky_val::{Schema, copy_columns};
 use std::alloc::Global;
@@ -21,7 +21,7 @@ pub fn row_statement(line: &Line) -> anyhow::Result<&RowStmt>
     ensures { IfOk result (λ stmt. IsRowInForm stmt.now) }
 {
     match line {
-        Line::Run(_, Stmt::Row(stmt)) => Ok(stmt),
+        Line::Run(_, Stmt::Db(DbStmt::Row(stmt))) => Ok(stmt),
         _ => bail!("no statement on rows"),
     }
 }

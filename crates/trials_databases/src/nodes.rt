@@ -10,7 +10,7 @@ use londiste_state::Node;
 use pgq_db::Db;
 use sky_val::Text;
 use std::alloc::Global;
-use trials::{first_number, line, no_command, ok, shown};
+use trials::{first_number, first_word, line, no_command, ok, shown};
 
 /// The databases of a root and of a leaf.
 #[derive(Drop)]
@@ -46,6 +46,7 @@ fn answer(alloc: Global, db: &mut Db, command: &str, words: &str) -> anyhow::Res
             let table = Text::from_str(alloc, words)?;
             shown(alloc, Ok(db.schema(&table)))
         }
+        "make_root" => make_root(alloc, db, words),
         "root_add" | "root_drop" => move_table(alloc, db, command, words),
         _ => providers::answer(alloc, db, command, words),
     }
@@ -56,6 +57,17 @@ fn step(alloc: Global, db: &mut Db, words: &str) -> anyhow::Result<String> {
     let line = line(alloc, words)?;
     let stmt = statement(&line)?;
     shown(alloc, db.step(who, stmt, 0))
+}
+
+// The clock is at its start.
+fn make_root(alloc: Global, db: &mut Db, words: &str) -> anyhow::Result<String> {
+    let (name, queue) = first_word(words);
+    let name = Text::from_str(alloc, name)?;
+    let queue = Text::from_str(alloc, queue)?;
+    if db.node().is_some() {
+        bail!("there is a node");
+    }
+    shown(alloc, Ok(db.make_root(&name, &queue, 0)))
 }
 
 // A table joins the root's set, or leaves it.

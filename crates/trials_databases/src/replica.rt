@@ -1,15 +1,14 @@
-ghost use Rattle.std.specs.Prelude.{◌≡◌, true, false, None, Err, is_some};
+ghost use Rattle.std.specs.Prelude.{◌≡◌, true, None, Err, is_some};
 ghost use Rattle.sky_model.specs.CopyMoves.{columns_for, copy_running};
-ghost use Rattle.sky_model.specs.InForm.{IsInForm};
+ghost use Rattle.sky_model.specs.InForm.{IsDbInForm};
 ghost use Rattle.sky_model.specs.StepCopy.{all_fit};
 ghost use Rattle.sky_model.specs.StepNode.{table_number, may_copy, may_serve, adding, applying, moving};
 ghost use Rattle.pgq_db.specs.Applying.{pick_of};
-ghost use Rattle.pgq_db.specs.Gives.{is_worlds};
 ghost use Rattle.pgq_db.specs.Seen.{seen_database};
 
 use londiste_state::TableState;
 use pgq_db::{ApplyFault, CopyFault, Db, Pick};
-use sky_model::{Replies, Stmt};
+use sky_model::{DbStmt, Replies};
 use sky_txid::Snapshot;
 use sky_val::{Event, NoMemory, Row, SessionId, Text};
 use std::alloc::{AllocError, Global};
@@ -53,9 +52,8 @@ impl Replica {
     }
 
     /// Runs a statement of a session. The clock is at its start.
-    pub fn step(&mut self, who: SessionId, stmt: &Stmt) -> Result<Replies, NoMemory>
-        requires form { IsInForm stmt.now }
-        requires kind { is_worlds stmt.now ≡ false }
+    pub fn step(&mut self, who: SessionId, stmt: &DbStmt) -> Result<Replies, NoMemory>
+        requires { IsDbInForm stmt.now }
     {
         if self.has_failed {
             return Err(AllocError);

@@ -1,21 +1,17 @@
-ghost use Rattle.std.specs.Prelude.{◌≡◌, false, IfOk};
-ghost use Rattle.pgq_db.specs.Gives.{is_worlds};
-ghost use Rattle.sky_model.specs.InForm.{IsInForm, IsLineInForm};
+ghost use Rattle.std.specs.Prelude.{IfOk};
+ghost use Rattle.sky_model.specs.InForm.{IsDbInForm, IsLineInForm};
 
 use anyhow::bail;
-use sky_model::{Line, Stmt};
+use sky_model::{DbStmt, Line, Stmt};
 
 /// The statement of a line, if it is one of a database.
-pub fn statement(line: &Line) -> anyhow::Result<&Stmt>
+pub fn statement(line: &Line) -> anyhow::Result<&DbStmt>
     requires { IsLineInForm line.now }
-    ensures form { IfOk result (λ stmt. IsInForm stmt.now) }
-    ensures kind { IfOk result (λ stmt. is_worlds stmt.now ≡ false) }
+    ensures { IfOk result (λ stmt. IsDbInForm stmt.now) }
 {
     match line {
-        Line::Run(_, Stmt::Node(_) | Stmt::Clock { .. } | Stmt::PgqdOn | Stmt::PgqdOff) => bail!(
-            "a statement of the world"
-        ),
-        Line::Run(_, stmt) => Ok(stmt),
+        Line::Run(_, Stmt::Db(stmt)) => Ok(stmt),
+        Line::Run(_, Stmt::Node(_) | Stmt::World(_)) => bail!("a statement of the world"),
         Line::Blank => bail!("no statement"),
     }
 }

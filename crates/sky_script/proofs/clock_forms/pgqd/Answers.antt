@@ -1,13 +1,14 @@
 -- Either of the two words may come next: by whether it is `off`, the line ends, or continues with `on`.
 use Rattle.std.proofs.Common.{rules, Bool, true, false, refl}
 use Rattle.sky_model.specs.declared.line.Fixed.TheVariants as fixed
-use Rattle.sky_model.specs.declared.stmt.Stmt.TheVariants.{PgqdOn, PgqdOff}
+use Rattle.sky_model.specs.declared.stmt.WorldStmt.TheVariants.{PgqdOn, PgqdOff}
+use Rattle.sky_model.specs.declared.stmt.Stmt.TheVariants.{World}
 use Rattle.sky_model.specs.Grammar.{GrammarRow, stop, literal}
 use Rattle.sky_script.proofs.clock_forms.pgqd.Goals as goal
 
 abbrev by_off : Bool → GrammarRow
-by_off true = stop PgqdOff
-by_off false = literal fixed.On (stop PgqdOn)
+by_off true = stop (World PgqdOff)
+by_off false = literal fixed.On (stop (World PgqdOn))
 
 pub returns-in_err-end : goal.returns-in_err-end
 returns-in_err-end c =

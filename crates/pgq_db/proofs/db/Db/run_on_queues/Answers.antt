@@ -1,5 +1,6 @@
 use Rattle.std.proofs.Common.{ℤ, subst, w64, to_z, of_z}
 use Rattle.std.proofs.lemmas.Int.{to_z-of_z}
+use Rattle.sky_model.specs.declared.stmt.DbStmt.TheVariants.{Queue}
 use Rattle.sky_model.specs.Printed.{HaveMoments}
 use Rattle.sky_model.specs.Reader.{database_by_itself}
 use Rattle.sky_model.specs.Settling.{turn_of}
@@ -19,16 +20,16 @@ returns-clause-adds c =
 pub returns-clause-moments : goal.returns-clause-moments
 returns-clause-moments c =
     let d = seen_database c.args.self.now in
-    subst (λ (now : ℤ). HaveMoments (database_turn database_by_itself d now c.args.who c.args.stmt.now).answers) (to_z-of_z w64 c.args.now c.ranges.now)
-    (then-moments (to_z w64 (of_z w64 c.args.now)) d _ (turn_of c.args.who (statement database_by_itself d (to_z w64 (of_z w64 c.args.now)) c.args.who c.args.stmt.now))
+    subst (λ (now : ℤ). HaveMoments (database_turn database_by_itself d now c.args.who (Queue c.args.stmt.now)).answers) (to_z-of_z w64 c.args.now c.ranges.now)
+    (then-moments (to_z w64 (of_z w64 c.args.now)) d _ (turn_of c.args.who (statement database_by_itself d (to_z w64 (of_z w64 c.args.now)) c.args.who (Queue c.args.stmt.now)))
     (one-moments c.args.who _ c.in_ok-run_or_refuse.ensures.answers.1) c.in_ok-run_or_refuse.ensures.answers.0.changed c.in_ok-settle.ensures.moments)
 
 pub returns-clause-looks : goal.returns-clause-looks
-returns-clause-looks c = looks-then c.args.self.now.queues c.run_or_refuse.new.self.queues c.settle.new.self.queues c.args.stmt.now c.in_ok-run_or_refuse.ensures.looks c.in_ok-settle.ensures.reads
+returns-clause-looks c = looks-then c.args.self.now.queues c.run_or_refuse.new.self.queues c.settle.new.self.queues (Queue c.args.stmt.now) c.in_ok-run_or_refuse.ensures.looks c.in_ok-settle.ensures.reads
 
 pub returns-clause-lists : goal.returns-clause-lists
 returns-clause-lists c =
     let d = seen_database c.args.self.now in
-    lists-then c.args.self.now.queues c.run_or_refuse.new.self.queues c.settle.new.self.queues c.args.stmt.now (statement database_by_itself d c.args.now c.args.who c.args.stmt.now).reply
-    (subst (λ (now : ℤ). ListsLooked c.args.self.now.queues c.run_or_refuse.new.self.queues c.args.stmt.now (statement database_by_itself d now c.args.who c.args.stmt.now).reply) (to_z-of_z w64 c.args.now c.ranges.now) c.in_ok-run_or_refuse.ensures.lists)
+    lists-then c.args.self.now.queues c.run_or_refuse.new.self.queues c.settle.new.self.queues (Queue c.args.stmt.now) (statement database_by_itself d c.args.now c.args.who (Queue c.args.stmt.now)).reply
+    (subst (λ (now : ℤ). ListsLooked c.args.self.now.queues c.run_or_refuse.new.self.queues (Queue c.args.stmt.now) (statement database_by_itself d now c.args.who (Queue c.args.stmt.now)).reply) (to_z-of_z w64 c.args.now c.ranges.now) c.in_ok-run_or_refuse.ensures.lists)
     c.in_ok-settle.ensures.reads

@@ -6,7 +6,7 @@ use Rattle.sky_model.specs.Gates.{by_gate}
 use Rattle.sky_model.specs.Settling.{Turn}
 use Rattle.sky_model.specs.Printed.{HaveMoments}
 use Rattle.sky_model.specs.Calls.{row_turn, database_turn}
-use Rattle.sky_model.specs.declared.stmt.Stmt.TheVariants.{Row}
+use Rattle.sky_model.specs.declared.stmt.DbStmt.TheVariants.{Row}
 use Rattle.sky_state.specs.Seen.{seen}
 use Rattle.pgq_queues.specs.Views.{QueuesView}
 use Rattle.pgq_queues.specs.Seen.{seen_with}

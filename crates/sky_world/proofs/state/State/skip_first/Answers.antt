@@ -1,0 +1,9 @@
+use Rattle.std.proofs.Common.{subst, w64}
+use Rattle.std.proofs.lemmas.Int.{to_z-of_z}
+use Rattle.sky_world.specs.Idle.{Skips}
+use Rattle.sky_world.proofs.Skipping.{skips-then}
+use Rattle.sky_world.proofs.state.State.skip_first.Goals as goal
+
+pub returns-clause-skips : goal.returns-clause-skips
+returns-clause-skips c =
+    subst (Skips c.args.self.now c.skip_doubling.new.self) (to_z-of_z w64 c.args.last c.ranges.last) (skips-then _ _ _ _ c.skip.ensures.skips c.skip_doubling.ensures.skips)

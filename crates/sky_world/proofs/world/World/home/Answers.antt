@@ -1,5 +1,0 @@
-use Rattle.sky_world.proofs.Worlds.{homes-at}
-use Rattle.sky_world.proofs.world.World.home.Goals as goal
-
-pub returns-clause-within : goal.returns-clause-within
-returns-clause-within c = homes-at _ _ c.args.who _ c.self.view_is c.self.invariant.1 c.get.ensures.within c.get.ensures.value
