@@ -1,3 +1,4 @@
+use crate::ran::Ran;
 use anyhow::Context;
 use sky_io::{MemSink, MemSource};
 use sky_run::run_main;
@@ -10,14 +11,6 @@ pub struct Runs {
     script: Vec<u8>,
     // What each `@` of the script is replaced by.
     repeated: String,
-}
-
-// The result of a run.
-#[derive(Drop)]
-struct Ran {
-    status: u8,
-    out: MemSink,
-    err: MemSink,
 }
 
 impl Runs {
