@@ -71,7 +71,7 @@ use Rattle.sky_histories.proofs.Telling.{EventMarks, told_by-events}
 use Rattle.sky_model.proofs.Cases.{by_test, by_block, ok-then}
 use Rattle.sky_laws_changes.proofs.HeldValues.{AreHeld, HeldAttempt}
 use Rattle.sky_laws_changes.proofs.HeldRows.{shown-held}
-use Rattle.sky_laws_changes.proofs.RowMarks.{Each, RowMark, Leaves, row-attempts, row-leaves}
+use Rattle.sky_laws_changes.proofs.RowMarks.{Each, RowMark, MarkKinds, row-attempts, row-leaves}
 use Rattle.sky_laws_changes.proofs.PlainMarks.{is_plain, plain-mark, PlainLeaves, are_plain, plain-if, plain-form, plain-alone}
 use Rattle.sky_laws_changes.proofs.Cuts.{write_of, Tracing, Cut, nothing, plain, writes, leaf_writes, inserts, returns, lists, unlists, roots, Events, node-events, told-only, cut-held}
 
@@ -165,7 +165,7 @@ strict_at h = not (is_leaf (node h))
 on-rule : (h : History) → Cut h → CutOn (strict_at h) h
 on-rule h cut = record { cut = cut; rule = λ free. ap not free }
 
-tells-cut : (h : History) → Cut h → (now : ℤ) (who : ℕ) (c : Checked Outcome) → Leaves (RowMark (strict_at h)) c → Cut (marked h (or_refused who (session h who) (tells (database_of h) now c)).marks)
+tells-cut : (h : History) → Cut h → (now : ℤ) (who : ℕ) (c : Checked Outcome) → MarkKinds (RowMark (strict_at h)) c → Cut (marked h (or_refused who (session h who) (tells (database_of h) now c)).marks)
 tells-cut h cut now who (Err refusal) all = cut-abort h who refusal cut
 tells-cut h cut now who (Ok o) all = of (with_told (database_of h) now o.marks) (with_told-cut (strict_at h) h (on-rule h cut) now o.marks all)
   where
@@ -180,10 +180,10 @@ shows-held h cut strict who n key = shown-held h (cut-held h cut (not-true (is_l
 -- ---- statements
 
 -- one on rows that makes a table, writes or waits
-row-cut : (h : History) → Cut h → (now : ℤ) (who : ℕ) (stmt : RowStmt) → are_plain (permit_of_row stmt).leaves ≡ false → IsRowInForm stmt
+row-cut : (h : History) → Cut h → (now : ℤ) (who : ℕ) (stmt : RowStmt) → are_plain (permit_of_row stmt).kinds ≡ false → IsRowInForm stmt
     → Cut (marked h (or_refused who (session h who) (form (database_of h) (shown_in h) now who (Row stmt))).marks)
 row-cut h cut now who stmt =
-    by_commit (λ s. are_plain (permit_of_row s).leaves ≡ false → IsRowInForm s → Cut (marked h (or_refused who (session h who) (form (database_of h) (shown_in h) now who (Row s))).marks))
+    by_commit (λ s. are_plain (permit_of_row s).kinds ≡ false → IsRowInForm s → Cut (marked h (or_refused who (session h who) (form (database_of h) (shown_in h) now who (Row s))).marks))
     (λ e is. absurd (cc))
     (λ s still e is. subst (λ c. Cut (marked h (or_refused who (session h who) c).marks)) (sym (none-first (database_of h) now who s _ still))
     (tells-cut h cut now who (row_form (part_of h) (rows_in h) who s) (row-leaves (strict_at h) who (part_of h) (rows_in h) (shows-held h cut) s e is))) stmt
@@ -225,7 +225,7 @@ cut-brings h now [] cut = cut
 cut-brings h now (r ∷ rs) cut =
     after-checked (λ marks. Cut (marked h marks)) cut (next_id (part_of h)) _ (λ t. cut-back (began of_worker t ∷ h) now t (r ∷ rs) (plain (began of_worker t) cut tt))
 
-plain-form-cut : (h : History) → Cut h → (now : ℤ) (who : ℕ) (stmt : DbStmt) → are_plain (permit_of stmt).leaves ≡ true
+plain-form-cut : (h : History) → Cut h → (now : ℤ) (who : ℕ) (stmt : DbStmt) → are_plain (permit_of stmt).kinds ≡ true
     → Cut (marked h (or_refused who (session h who) (form (database_of h) (shown_in h) now who stmt)).marks)
 plain-form-cut h cut now who stmt all =
     let c : Checked Outcome = form (database_of h) (shown_in h) now who stmt in
@@ -237,7 +237,7 @@ form-cut h cut now who (Queue (InsertEvent name ev_type ev_data extra)) is =
 form-cut h cut now who (Queue MaintRetryEvents) is = cut-settled h cut who (maint_retry_events (database_of h) now) (cut-brings h now (due_now now most_back (retries h)) cut)
 form-cut h cut now who (Queue stmt) is = plain-form-cut h cut now who (Queue stmt) refl
 form-cut h cut now who (Row stmt) is =
-    by_test (λ b. Cut (marked h (or_refused who (session h who) (form (database_of h) (shown_in h) now who (Row stmt))).marks)) (are_plain (permit_of_row stmt).leaves)
+    by_test (λ b. Cut (marked h (or_refused who (session h who) (form (database_of h) (shown_in h) now who (Row stmt))).marks)) (are_plain (permit_of_row stmt).kinds)
     (plain-form-cut h cut now who (Row stmt)) (λ e. row-cut h cut now who stmt e is)
 
 runs-cut : (h : History) → Cut h → (now : ℤ) (who : ℕ) (stmt : DbStmt) → IsDbInForm stmt → (may : Checked (Unit {0})) → Cut (marked h (runs_if (making database_by_history now who stmt) (where_of stmt) who h may).marks)

@@ -8,7 +8,7 @@ use Rattle.sky_urlenc.specs.Held.{IsWord}
 use Rattle.sky_model.specs.declared.stmt.DbStmt.{DbStmt}
 use Rattle.sky_model.specs.declared.reply.HeldBack.{HeldBack}
 use Rattle.sky_model.specs.History.{Mark, of_session, tabled, table_made, wrote, waits, queued, put, returned, traced, untraced, noded, root_made, set_added, set_removed}
-use Rattle.sky_model.specs.Permits.{Leaves, may_put, may_leave, permit_of}
+use Rattle.sky_model.specs.Permits.{MarkKinds, may_put, may_leave, permit_of}
 use Rattle.sky_model.specs.Sessions.{Session}
 use Rattle.sky_model.specs.State.{Database}
 use Rattle.sky_model.specs.Outcome.{Checked, Outcome}
@@ -70,10 +70,10 @@ abbrev pub PlainLeaves : Checked Outcome → Type 0
 PlainLeaves c = Gives AnyReply is_plain c
 
 -- kinds of plain marks
-abbrev pub are_plain : Leaves → Bool
+abbrev pub are_plain : MarkKinds → Bool
 are_plain k = not (k.tables || k.writes || k.waits_for || k.puts || k.brings_back)
 
-pub plain-if : (k : Leaves) → are_plain k ≡ true → (s : Session) (who : ℕ) (mark : Mark) → may_leave k s who mark ≡ true → is_plain mark ≡ true
+pub plain-if : (k : MarkKinds) → are_plain k ≡ true → (s : Session) (who : ℕ) (mark : Mark) → may_leave k s who mark ≡ true → is_plain mark ≡ true
 plain-if k plain s who (tabled (table_made name columns)) e = absurd (grind (arith, e, plain))
 plain-if k plain s who (tabled (wrote (of_session v) t table key old new)) e = absurd (grind (arith, e, plain))
 plain-if k plain s who (tabled (wrote _ t table key old new)) e = absurd (cc)
@@ -89,9 +89,9 @@ plain-if k plain s who (queued (untraced table)) e = absurd (cc)
 plain-if k plain s who (noded mark) e = absurd (cc)
 plain-if k plain s who _ e = refl
 
-pub plain-form : (d : Database) (shown : Shown) (now : ℤ) (who : ℕ) (stmt : DbStmt) → are_plain (permit_of stmt).leaves ≡ true → PlainLeaves (form d shown now who stmt)
+pub plain-form : (d : Database) (shown : Shown) (now : ℤ) (who : ℕ) (stmt : DbStmt) → are_plain (permit_of stmt).kinds ≡ true → PlainLeaves (form d shown now who stmt)
 plain-form d shown now who stmt plain =
-    let k : Leaves = (permit_of stmt).leaves in
+    let k : MarkKinds = (permit_of stmt).kinds in
     gives-map AnyReply AnyReply (may_leave k (d.part.session who) who) is_plain (λ reply any. any) (plain-if k plain (d.part.session who) who) _ (gives-form who d shown now stmt)
 
 pub plain-alone : (d : Database) (now : ℤ) (q : ℕ) (why : Option HeldBack) → PlainLeaves (rotates_alone d now q why)

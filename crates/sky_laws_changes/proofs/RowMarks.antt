@@ -42,14 +42,14 @@ each-append P [] ys all also = also
 each-append P (x ∷ xs) ys all also = (all.0, each-append P xs ys all.1 also)
 
 -- of each that a statement leaves, if it isn't refused
-abbrev pub Leaves : (Mark → Type 0) → Checked Outcome → Type 0
-Leaves P c = IfOk c (λ o. Each P o.marks)
+abbrev pub MarkKinds : (Mark → Type 0) → Checked Outcome → Type 0
+MarkKinds P c = IfOk c (λ o. Each P o.marks)
 
-pub after : {A : Type 0} (P : Mark → Type 0) (x : Checked A) (c : Checked Outcome) → Leaves P c → Leaves P (x >> c)
+pub after : {A : Type 0} (P : Mark → Type 0) (x : Checked A) (c : Checked Outcome) → MarkKinds P c → MarkKinds P (x >> c)
 after P (Ok a) c is = is
 after P (Err refusal) c is = tt
 
-pub checked : {A : Type 0} (P : Mark → Type 0) (x : Checked A) (c : A → Checked Outcome) → ((a : A) → Leaves P (c a)) → Leaves P (x >>= c)
+pub checked : {A : Type 0} (P : Mark → Type 0) (x : Checked A) (c : A → Checked Outcome) → ((a : A) → MarkKinds P (c a)) → MarkKinds P (x >>= c)
 checked P (Ok a) c is = is a
 checked P (Err refusal) c is = tt
 
@@ -71,7 +71,7 @@ RowMark strict mark = Plain mark
 
 module _ (strict : Bool) (who : ℕ) where
   abbrev pub RowLeaves : Checked Outcome → Type 0
-  RowLeaves c = Leaves (RowMark strict) c
+  RowLeaves c = MarkKinds (RowMark strict) c
 
   each-own : (t : ℕ) (s : Session) (marks : List Mark) → Each (RowMark strict) marks → Each (RowMark strict) (in_own who t s marks)
   each-own t s marks all =
@@ -142,7 +142,7 @@ module _ (strict : Bool) (who : ℕ) where
           named (b ∷ bs) is e = cc
 
   -- a statement that makes a table, writes or waits
-  pub row-leaves : (d : RowPart) (shown : RowsShown) → ShowsHeld shown → (stmt : RowStmt) → are_plain (permit_of_row stmt).leaves ≡ false → IsRowInForm stmt → RowLeaves (row_form d shown who stmt)
+  pub row-leaves : (d : RowPart) (shown : RowsShown) → ShowsHeld shown → (stmt : RowStmt) → are_plain (permit_of_row stmt).kinds ≡ false → IsRowInForm stmt → RowLeaves (row_form d shown who stmt)
   row-leaves d shown held (CreateTable name columns) e is =
       let made : RowLeaves (refused_by (option_map (schema_refusal columns) (schema_fault columns)) >> does_marks Done (tabled (table_made name columns) ∷ [])) = row-table columns is.1.1 name in
       search (after, made)

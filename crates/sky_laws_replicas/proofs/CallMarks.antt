@@ -1,4 +1,4 @@
--- Which kinds of marks each call for a node may leave: one table, from which it is computed what such calls spare.
+-- Each call for a node leaves what its permit says, from which it is computed what such calls spare.
 use Rattle.std.proofs.Common.{◌≡◌, ℕ, ◌+◌, ◌^◌, ◌==◌, nat_le, length, List, [], ◌∷◌, ◌++◌, Bool, true, false, Option, Some, None, is_some, refl}
 use Rattle.std.specs.List.{list_any}
 use Rattle.sky_val.specs.declared.val.Val.{Val}
@@ -17,127 +17,19 @@ use Rattle.sky_model.specs.StepQueue.{newest_id}
 use Rattle.sky_model.specs.StepConsumer.{opens_batch, takes_batch}
 use Rattle.sky_model.specs.StepApply.{applies_batch}
 use Rattle.sky_model.specs.StepCopy.{copy_write, copy_writes, deletions, insertions, rows_now, begins_copy, all_fit, copies_rows, given_up}
+use Rattle.sky_model.specs.CallPermits.{CallMarkKinds, none_of_calls, may_be_left, kinds_of_call}
 use Rattle.sky_model.specs.StepNode.{NodeCall, joining, parting, fetching, finishing, making_root, making_leaf, adding, removing, moving, listing, unlisting, beginning_copy, copying_rows, ending_copy, giving_up_copy, applying, holding, letting_go, set_queue, joins, parts, table_number, may_serve, call_form, node_does}
 use Rattle.sky_histories.proofs.ApplyCalls.{is_for_applying, gives-applies}
 use Rattle.sky_histories.proofs.CopyCalls.{gives-there}
 use Rattle.sky_histories.proofs.StatementMarks.{EachMark, each-front, each-given, Gives, gives-map, AnyReply, after, checked, either}
 
--- ---- kinds of marks
+abbrev GivesKinds : CallMarkKinds → Checked Outcome → Type 0
+GivesKinds k c = Gives AnyReply (may_be_left k) c
 
-pub record CallKinds : Type 0 where
-  -- a consumer joins; it leaves; it takes a batch; one is finished
-  pub joins : Bool
-  pub parts : Bool
-  pub takes : Bool
-  pub finishes : Bool
-  -- a worker's transaction begins and ends; a batch is applied
-  pub works : Bool
-  pub applies : Bool
-  -- a root is made, with its queue; a leaf
-  pub makes_root : Bool
-  pub makes_leaf : Bool
-  -- a table joins a leaf; it leaves; it goes into a state
-  pub adds : Bool
-  pub removes : Bool
-  pub moves : Bool
-  -- a table joins a set; it leaves
-  pub lists : Bool
-  pub unlists : Bool
-  -- a copy begins; it writes a row; it ends; it is given up
-  pub begins_copy : Bool
-  pub copies_row : Bool
-  pub ends_copy : Bool
-  pub gives_up : Bool
-  -- a snapshot is held; it is let go
-  pub holds : Bool
-  pub lets_go : Bool
-
-abbrev pub no_kinds : CallKinds
-no_kinds = record {
-  joins = false;
-  parts = false;
-  takes = false;
-  finishes = false;
-  works = false;
-  applies = false;
-  makes_root = false;
-  makes_leaf = false;
-  adds = false;
-  removes = false;
-  moves = false;
-  lists = false;
-  unlists = false;
-  begins_copy = false;
-  copies_row = false;
-  ends_copy = false;
-  gives_up = false;
-  holds = false;
-  lets_go = false;
-}
-
--- whether a mark is of such kinds
-abbrev pub may_be : CallKinds → Mark → Bool
-may_be k (queued (registered q name sub tick)) = k.joins
-may_be k (noded (joined consumer)) = k.joins
-may_be k (queued (unregistered q name sub)) = k.parts
-may_be k (noded (parted consumer)) = k.parts
-may_be k (queued (opened batch)) = k.takes
-may_be k (queued (closed batch)) = k.finishes
-may_be k (began of_worker t) = k.works
-may_be k (ended of_worker t committed) = k.works
-may_be k (tabled (wrote of_worker t table key old new)) = k.applies
-may_be k (noded (applied pick tick)) = k.applies
-may_be k (queued (made name t time)) = k.makes_root
-may_be k (noded (root_made name queue)) = k.makes_root
-may_be k (noded (leaf_made name provider tick)) = k.makes_leaf
-may_be k (noded (leaf_added table)) = k.adds
-may_be k (tabled (read_only table true)) = k.adds
-may_be k (noded (leaf_removed table)) = k.removes
-may_be k (tabled (read_only table false)) = k.removes
-may_be k (noded (state_set table state)) = k.moves
-may_be k (noded (set_added table)) = k.lists
-may_be k (queued (traced table None trigger)) = k.lists
-may_be k (noded (set_removed table)) = k.unlists
-may_be k (queued (untraced table)) = k.unlists
-may_be k (began (of_copy table) t) = k.begins_copy
-may_be k (tabled (wrote (of_copy n) t table key old new)) = k.copies_row
-may_be k (ended (of_copy table) t true) = k.ends_copy
-may_be k (noded (copied table snapshot tick)) = k.ends_copy
-may_be k (ended (of_copy table) t false) = k.gives_up
-may_be k (noded (restarted table)) = k.gives_up
-may_be k (noded (hold_begun hold)) = k.holds
-may_be k (noded (hold_ended hold)) = k.lets_go
-may_be k _ = false
-
--- ---- the calls
-
-abbrev pub kinds_of : NodeCall → CallKinds
-kinds_of (joining consumer) = record no_kinds { joins = true }
-kinds_of (parting consumer) = record no_kinds { parts = true }
-kinds_of (fetching consumer) = record no_kinds { takes = true }
-kinds_of (finishing batch) = record no_kinds { finishes = true }
-kinds_of (making_root name queue now) = record no_kinds { works = true; makes_root = true }
-kinds_of (making_leaf name provider tick) = record no_kinds { makes_leaf = true }
-kinds_of (adding table) = record no_kinds { adds = true }
-kinds_of (removing table) = record no_kinds { removes = true; gives_up = true }
-kinds_of (moving table state) = record no_kinds { moves = true; gives_up = true }
-kinds_of (listing table) = record no_kinds { lists = true }
-kinds_of (unlisting table) = record no_kinds { unlists = true }
-kinds_of (beginning_copy table) = record no_kinds { begins_copy = true; copies_row = true }
-kinds_of (copying_rows table rows) = record no_kinds { copies_row = true }
-kinds_of (ending_copy table snapshot tick) = record no_kinds { ends_copy = true }
-kinds_of (giving_up_copy table) = record no_kinds { gives_up = true }
-kinds_of (applying events pick tick) = record no_kinds { works = true; applies = true }
-kinds_of holding = record no_kinds { holds = true }
-kinds_of (letting_go hold) = record no_kinds { lets_go = true }
-
-abbrev GivesKinds : CallKinds → Checked Outcome → Type 0
-GivesKinds k c = Gives AnyReply (may_be k) c
-
-gives-joins : (d : Database) (queue : ℕ) (consumer : List ℕ) → GivesKinds (kinds_of (joining consumer)) (joins d queue consumer)
+gives-joins : (d : Database) (queue : ℕ) (consumer : List ℕ) → GivesKinds (kinds_of_call (joining consumer)) (joins d queue consumer)
 gives-joins d queue consumer = of (is_some ((d.queue queue).sub consumer)) (nat_le 256 (length (d.queue queue).members)) (nat_le (2 ^ 64) (d.last_sub_id + 1))
   where
-    of : (there full spent : Bool) → GivesKinds (kinds_of (joining consumer)) (refused_if there (ConsumerExists consumer) >> ((refused_if full (TooMany Consumers) >> (refused_if spent IdsSpent
+    of : (there full spent : Bool) → GivesKinds (kinds_of_call (joining consumer)) (refused_if there (ConsumerExists consumer) >> ((refused_if full (TooMany Consumers) >> (refused_if spent IdsSpent
         >> does_marks (Number 1) (queued (registered queue consumer (d.last_sub_id + 1) (newest_id (d.queue queue))) ∷ [])))
         >>= (λ registering. does_marks (Number (newest_id (d.queue queue))) (registering.marks ++ noded (joined consumer) ∷ []))))
     of true full spent = tt
@@ -145,19 +37,19 @@ gives-joins d queue consumer = of (is_some ((d.queue queue).sub consumer)) (nat_
     of false false true = tt
     of false false false = (tt, tt)
 
-gives-parts : (queue : ℕ) (consumer : List ℕ) (o : Option Subscription) → GivesKinds (kinds_of (parting consumer)) (parts queue consumer o)
+gives-parts : (queue : ℕ) (consumer : List ℕ) (o : Option Subscription) → GivesKinds (kinds_of_call (parting consumer)) (parts queue consumer o)
 gives-parts queue consumer None = (tt, tt)
 gives-parts queue consumer (Some sub) = (tt, tt)
 
-gives-opens : (d : Database) (queue : ℕ) (consumer : List ℕ) (sub : Subscription) (o : Option Tick) → GivesKinds (kinds_of (fetching consumer)) (opens_batch d queue consumer sub o)
+gives-opens : (d : Database) (queue : ℕ) (consumer : List ℕ) (sub : Subscription) (o : Option Tick) → GivesKinds (kinds_of_call (fetching consumer)) (opens_batch d queue consumer sub o)
 gives-opens d queue consumer sub None = (tt, tt)
 gives-opens d queue consumer sub (Some closing) = search (after)
 
-gives-takes : (d : Database) (queue : ℕ) (consumer : List ℕ) (sub : Subscription) (o : Option ℕ) → GivesKinds (kinds_of (fetching consumer)) (takes_batch d queue consumer sub o)
+gives-takes : (d : Database) (queue : ℕ) (consumer : List ℕ) (sub : Subscription) (o : Option ℕ) → GivesKinds (kinds_of_call (fetching consumer)) (takes_batch d queue consumer sub o)
 gives-takes d queue consumer sub (Some batch) = (tt, tt)
 gives-takes d queue consumer sub None = gives-opens d queue consumer sub (tick (sub.position + 1) (d.queue queue).tick_list)
 
-for-applying : (mark : Mark) → is_for_applying mark ≡ true → may_be (record no_kinds { works = true; applies = true }) mark ≡ true
+for-applying : (mark : Mark) → is_for_applying mark ≡ true → may_be_left (record none_of_calls { works = true; applies = true }) mark ≡ true
 for-applying (began of_worker t) e = refl
 for-applying (ended of_worker t committed) e = refl
 for-applying (tabled (wrote of_worker t table key old new)) e = refl
@@ -165,9 +57,9 @@ for-applying (noded (applied pick tick)) e = refl
 for-applying _ e = absurd (cc)
 
 -- a copy's writes, and marks after those by which one is given up
-each-written : (k : CallKinds) → k.copies_row ≡ true → (d : RowPart) (table t : ℕ) (ws : List Write) → EachMark (may_be k) (copy_writes d table t ws)
+each-written : (k : CallMarkKinds) → k.copies_row ≡ true → (d : RowPart) (table t : ℕ) (ws : List Write) → EachMark (may_be_left k) (copy_writes d table t ws)
 each-written k copies d table t [] = tt
-each-written k copies d table t (w ∷ ws) = each-front (may_be k) (copy_write d table t w) _ copies (each-written k copies (after_part d (copy_write d table t w)) table t ws)
+each-written k copies d table t (w ∷ ws) = each-front (may_be_left k) (copy_write d table t w) _ copies (each-written k copies (after_part d (copy_write d table t w)) table t ws)
 
 pub given_up-then : (p : Mark → Bool) → ((table t : ℕ) → p (ended (of_copy table) t false) ≡ true) → ((name : List ℕ) → p (noded (restarted name)) ≡ true)
     → (table : ℕ) (name : List ℕ) (o : Option ℕ) (marks : List Mark) → EachMark p marks → EachMark p (given_up table name o ++ marks)
@@ -175,18 +67,18 @@ given_up-then p ends restarts table name None marks each = each
 given_up-then p ends restarts table name (Some t) marks each =
     each-front p (ended (of_copy table) t false) (noded (restarted name) ∷ marks) (ends table t) (each-front p (noded (restarted name)) marks (restarts name) each)
 
-gives-begins : (name : List ℕ) (d : Database) (table : ℕ) (o : Option ℕ) → GivesKinds (kinds_of (beginning_copy name)) (begins_copy d table o)
+gives-begins : (name : List ℕ) (d : Database) (table : ℕ) (o : Option ℕ) → GivesKinds (kinds_of_call (beginning_copy name)) (begins_copy d table o)
 gives-begins name d table (Some t) = (tt, tt)
 gives-begins name d table None =
-    checked AnyReply _ (next_id d.part) _ (λ t. (tt, each-written (kinds_of (beginning_copy name)) refl (after_part d.part (began (of_copy table) t)) table t (deletions (rows_now d.part table))))
+    checked AnyReply _ (next_id d.part) _ (λ t. (tt, each-written (kinds_of_call (beginning_copy name)) refl (after_part d.part (began (of_copy table) t)) table t (deletions (rows_now d.part table))))
 
-gives-rows : (name : List ℕ) (d : Database) (table t : ℕ) (rows : List (List Val)) → GivesKinds (kinds_of (copying_rows name rows)) (copies_rows d table t rows)
+gives-rows : (name : List ℕ) (d : Database) (table t : ℕ) (rows : List (List Val)) → GivesKinds (kinds_of_call (copying_rows name rows)) (copies_rows d table t rows)
 gives-rows name d table t rows =
     either AnyReply _ (all_fit (d.part.columns table) rows) (does_marks Done (copy_writes d.part table t (insertions (d.part.columns table) rows))) (answers Null)
-    (tt, each-written (kinds_of (copying_rows name rows)) refl d.part table t (insertions (d.part.columns table) rows)) (tt, tt)
+    (tt, each-written (kinds_of_call (copying_rows name rows)) refl d.part table t (insertions (d.part.columns table) rows)) (tt, tt)
 
 -- each leaves what its line of the table says
-gives-kinds : (d : Database) (call : NodeCall) → GivesKinds (kinds_of call) (call_form d call)
+gives-kinds : (d : Database) (call : NodeCall) → GivesKinds (kinds_of_call call) (call_form d call)
 gives-kinds d (joining consumer) = gives-there _ (set_queue d) _ (λ queue. gives-joins d queue consumer)
 gives-kinds d (parting consumer) = gives-there _ (set_queue d) _ (λ queue. gives-parts queue consumer ((d.queue queue).sub consumer))
 gives-kinds d (fetching consumer) = gives-there _ (set_queue d) _ (λ queue. gives-there _ ((d.queue queue).sub consumer) _ (λ sub. gives-takes d queue consumer sub sub.active))
@@ -203,7 +95,7 @@ gives-kinds d (copying_rows name rows) = gives-there _ (table_number d name) _ (
 gives-kinds d (ending_copy name snapshot at) = gives-there _ (table_number d name) _ (λ table. gives-there _ (copy_txid table d.copies) _ (λ t. (tt, tt)))
 gives-kinds d (giving_up_copy name) = gives-there _ (table_number d name) _ (λ table. (tt, given table (copy_txid table d.copies)))
   where
-    given : (table : ℕ) (o : Option ℕ) → EachMark (may_be (kinds_of (giving_up_copy name))) (given_up table name o)
+    given : (table : ℕ) (o : Option ℕ) → EachMark (may_be_left (kinds_of_call (giving_up_copy name))) (given_up table name o)
     given table None = tt
     given table (Some t) = tt
 gives-kinds d (applying events pick at) = gives-map AnyReply AnyReply is_for_applying _ (λ reply any. any) for-applying (applies_batch d pick at events) (gives-applies d pick at events)
@@ -211,9 +103,9 @@ gives-kinds d holding = (tt, tt)
 gives-kinds d (letting_go hold) = either AnyReply _ (list_any (λ (x : Hold). x.number == hold) d.holds) (does_marks Done (noded (hold_ended hold) ∷ [])) (answers Null) (tt, tt) (tt, tt)
 
 -- a test that marks of a call's kinds pass
-module _ (p : Mark → Bool) (call : NodeCall) (passes : (mark : Mark) → may_be (kinds_of call) mark ≡ true → p mark ≡ true) where
+module _ (p : Mark → Bool) (call : NodeCall) (passes : (mark : Mark) → may_be_left (kinds_of_call call) mark ≡ true → p mark ≡ true) where
   pub gives-call : (d : Database) → Gives AnyReply p (call_form d call)
-  gives-call d = gives-map AnyReply AnyReply (may_be (kinds_of call)) p (λ reply any. any) passes (call_form d call) (gives-kinds d call)
+  gives-call d = gives-map AnyReply AnyReply (may_be_left (kinds_of_call call)) p (λ reply any. any) passes (call_form d call) (gives-kinds d call)
 
   pub gives-does : (d : Database) → Gives AnyReply p (node_does d call)
   gives-does d = either AnyReply p (may_serve call d.node) (call_form d call) (answers Null) (gives-call d) (tt, tt)

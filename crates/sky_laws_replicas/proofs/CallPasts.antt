@@ -26,7 +26,8 @@ use Rattle.sky_histories.proofs.PastHistories.{on_top-append, history-marks}
 use Rattle.sky_histories.proofs.Good.{same-session}
 use Rattle.sky_histories.proofs.StatementMarks.{EachMark, When, AnyReply, Gives}
 use Rattle.sky_model.proofs.Cases.{by_test}
-use Rattle.sky_laws_replicas.proofs.CallMarks.{CallKinds, may_be, kinds_of, gives-call}
+use Rattle.sky_model.specs.CallPermits.{CallMarkKinds, may_be_left, kinds_of_call}
+use Rattle.sky_laws_replicas.proofs.CallMarks.{gives-call}
 use Rattle.sky_laws_replicas.proofs.Keeping.{Kept, keeps_copies}
 use Rattle.sky_laws_replicas.proofs.Others.{other_than, KeptFree, kept-alone, is_own, ends-hold}
 
@@ -81,10 +82,10 @@ histories-elsewhere past d (call ∷ calls) e other = histories-elsewhere (calle
 
 -- ---- the marks of calls that aren't for copies
 
-abbrev pub are_quiet : CallKinds → Bool
+abbrev pub are_quiet : CallMarkKinds → Bool
 are_quiet k = not (k.removes || k.moves || k.begins_copy || k.copies_row || k.ends_copy || k.gives_up || k.holds || k.lets_go)
 
-quiet-if : (k : CallKinds) → are_quiet k ≡ true → (mark : Mark) → may_be k mark ≡ true → keeps_copies mark ≡ true
+quiet-if : (k : CallMarkKinds) → are_quiet k ≡ true → (mark : Mark) → may_be_left k mark ≡ true → keeps_copies mark ≡ true
 quiet-if k quiet (began (of_copy n) t) e = absurd (grind (arith, quiet, e))
 quiet-if k quiet (ended (of_copy n) t true) e = absurd (grind (arith, quiet, e))
 quiet-if k quiet (ended (of_copy n) t false) e = absurd (grind (arith, quiet, e))
@@ -96,8 +97,8 @@ quiet-if k quiet (noded (leaf_removed name)) e = absurd (grind (arith, quiet, e)
 quiet-if k quiet (noded (state_set name state)) e = absurd (grind (arith, quiet, e))
 quiet-if k quiet mark e = refl
 
-pub quiet-call : (d : Database) (call : NodeCall) → are_quiet (kinds_of call) ≡ true → Gives AnyReply keeps_copies (call_form d call)
-quiet-call d call quiet = gives-call keeps_copies call (quiet-if (kinds_of call) quiet) d
+pub quiet-call : (d : Database) (call : NodeCall) → are_quiet (kinds_of_call call) ≡ true → Gives AnyReply keeps_copies (call_form d call)
+quiet-call d call quiet = gives-call keeps_copies call (quiet-if (kinds_of_call call) quiet) d
 
 -- ---- the end of a hold
 

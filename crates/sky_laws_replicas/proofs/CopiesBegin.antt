@@ -21,7 +21,8 @@ use Rattle.sky_model.specs.Calls.{Call, past_of}
 use Rattle.sky_histories.proofs.Histories.{histories_are_made_by_own_calls}
 use Rattle.sky_histories.proofs.StatementMarks.{EachMark, each-map, each-rest, each-given, when-true, AnyReply}
 use Rattle.sky_model.proofs.Cases.{by_test}
-use Rattle.sky_laws_replicas.proofs.CallMarks.{CallKinds, may_be, kinds_of, gives-call}
+use Rattle.sky_model.specs.CallPermits.{CallMarkKinds, may_be_left, kinds_of_call}
+use Rattle.sky_laws_replicas.proofs.CallMarks.{gives-call}
 use Rattle.sky_laws_replicas.proofs.SessionsMarks.{is_sessions, sessions-does}
 
 -- the table of a number has a name by which it is being copied
@@ -76,10 +77,10 @@ aside-written d table t [] = tt
 aside-written d table t (w ∷ ws) = aside-written (after_part d (copy_write d table t w)) table t ws
 
 -- kinds of such marks: a copy neither begins nor ends
-abbrev are_aside : CallKinds → Bool
+abbrev are_aside : CallMarkKinds → Bool
 are_aside k = not (k.begins_copy || k.ends_copy)
 
-aside-if : (k : CallKinds) → are_aside k ≡ true → (mark : Mark) → may_be k mark ≡ true → is_aside mark ≡ true
+aside-if : (k : CallMarkKinds) → are_aside k ≡ true → (mark : Mark) → may_be_left k mark ≡ true → is_aside mark ≡ true
 aside-if k aside (began (of_copy table) t) e = absurd (grind (arith, aside, e))
 aside-if k aside (noded (copied name under tick)) e = absurd (grind (arith, aside, e))
 aside-if k aside mark e = refl
@@ -100,7 +101,7 @@ after-there : {A : Type 0} (h : History) (o : Option A) (f : A → Checked Outco
 after-there h None f all also = all
 after-there h (Some a) f all also = also a refl
 
-after-copying : (h : History) (call : NodeCall) → may_serve call (node h) ≡ true → are_aside (kinds_of call) ≡ false → AllInCopy h → AllInCopy (marked h (marks_of (call_form (database_of h) call)))
+after-copying : (h : History) (call : NodeCall) → may_serve call (node h) ≡ true → are_aside (kinds_of_call call) ≡ false → AllInCopy h → AllInCopy (marked h (marks_of (call_form (database_of h) call)))
 after-copying h (beginning_copy name) may e all =
     after-there h (place_of name (table_names h)) _ all (λ table there. after-begins h table (copy_txid table (copies h)) (record { name = name; there = there; may = may }) all)
 after-copying h (ending_copy name under tick) may e all = after-there h (place_of name (table_names h)) _ all (λ table _. after-there h (copy_txid table (copies h)) _ all (λ t _. (may, (tt, all))))
@@ -108,8 +109,8 @@ after-copying h _ may e all = absurd (cc e)
 
 after-call : (h : History) (call : NodeCall) → may_serve call (node h) ≡ true → AllInCopy h → AllInCopy (marked h (marks_of (call_form (database_of h) call)))
 after-call h call may all =
-    by_test (λ b. are_aside (kinds_of call) ≡ b → AllInCopy (marked h (marks_of (call_form (database_of h) call)))) (are_aside (kinds_of call))
-    (λ _ aside. aside-marks h (marks_of (call_form (database_of h) call)) (each-given AnyReply is_aside (call_form (database_of h) call) (gives-call is_aside call (aside-if (kinds_of call) aside) (database_of h))) all)
+    by_test (λ b. are_aside (kinds_of_call call) ≡ b → AllInCopy (marked h (marks_of (call_form (database_of h) call)))) (are_aside (kinds_of_call call))
+    (λ _ aside. aside-marks h (marks_of (call_form (database_of h) call)) (each-given AnyReply is_aside (call_form (database_of h) call) (gives-call is_aside call (aside-if (kinds_of_call call) aside) (database_of h))) all)
     (λ _ copies. after-copying h call may copies all) refl
 
 after-node : (h : History) (call : NodeCall) → AllInCopy h → AllInCopy (marked h (marks_of (node_does (database_of h) call)))

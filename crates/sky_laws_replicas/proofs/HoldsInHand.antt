@@ -34,7 +34,8 @@ use Rattle.sky_laws_replicas.proofs.HandsAt.{is_at, AreOne, one-at, at-itself, h
 use Rattle.sky_laws_replicas.proofs.Copying.{copy-found}
 use Rattle.sky_laws_replicas.proofs.Keeping.{legal-before, fine-within, Noded, noded-within, source-within, source-made, Copying, Keeps, Kept, keeps_copies, FactFits, FactsFit, made-noded, handed-same}
 use Rattle.sky_laws_replicas.proofs.Others.{each_table, other_than, legal-under}
-use Rattle.sky_laws_replicas.proofs.CallMarks.{CallKinds, may_be, kinds_of, each-does}
+use Rattle.sky_model.specs.CallPermits.{CallMarkKinds, may_be_left, kinds_of_call}
+use Rattle.sky_laws_replicas.proofs.CallMarks.{each-does}
 use Rattle.sky_laws_replicas.proofs.CallPasts.{call_marks, called, after_calls, on-move, history-called}
 use Rattle.sky_laws_replicas.proofs.Sources.{IsAlike}
 use Rattle.sky_laws_replicas.proofs.CopySteps.{StillFrom, copy_handed, copy-again}
@@ -132,7 +133,7 @@ held-steps past (fact ∷ facts) fit kept = held-steps (fact ∷ past) facts fit
 
 -- ---- calls for nodes
 
-none-if : (k : CallKinds) → k.holds ≡ false → (mark : Mark) → may_be k mark ≡ true → holds_no_more mark ≡ true
+none-if : (k : CallMarkKinds) → k.holds ≡ false → (mark : Mark) → may_be_left k mark ≡ true → holds_no_more mark ≡ true
 none-if k none (noded (hold_begun number)) e = absurd (cc (sym none ∙ e))
 none-if k none mark e = refl
 
@@ -143,7 +144,7 @@ IsOther call = Unit {0}
 
 none-does : (d : Database) (call : NodeCall) → IsOther call → EachMark holds_no_more (marks_of (node_does d call))
 none-does d holding is = absurd is
-none-does d call is = each-does holds_no_more call (none-if (kinds_of call) refl) d
+none-does d call is = each-does holds_no_more call (none-if (kinds_of_call call) refl) d
 
 abbrev pub AreOther : List NodeCall → Type 0
 AreOther [] = Unit {0}

@@ -41,7 +41,8 @@ use Rattle.sky_laws_replicas.proofs.Sources.{root-has}
 use Rattle.sky_laws_replicas.proofs.SessionsMarks.{is_sessions, sessions-does}
 use Rattle.sky_laws_replicas.proofs.EachCall.{is_beside, marks_in, after-calls as each-call}
 use Rattle.sky_laws_replicas.proofs.UnlessRefused.{if-test, if-refused, if-found, root_marks, if-root}
-use Rattle.sky_laws_replicas.proofs.CallMarks.{CallKinds, may_be, kinds_of, gives-call, each-does}
+use Rattle.sky_model.specs.CallPermits.{CallMarkKinds, may_be_left, kinds_of_call}
+use Rattle.sky_laws_replicas.proofs.CallMarks.{gives-call, each-does}
 use Rattle.sky_laws_replicas.proofs.WorkersCalls.{is_workers, AllCalls, calls-append, Makes, WorkersIfOk, workers-replay, workers-move, workers-lets, workers-parts}
 use Rattle.sky_laws_replicas.proofs.ProvidedTables.{IsOffered, IsProvided, AllProvided, IsRootCalled, IsUnused, called-within, MarkSuits, KeptProvided, FactSuits, FactsSuit, suits-step, suits-steps}
 
@@ -81,17 +82,17 @@ abbrev Settled : Checked Outcome → Type 0
 Settled c = Gives AnyReply is_settled c
 
 -- kinds of such marks
-abbrev are_settled : CallKinds → Bool
+abbrev are_settled : CallMarkKinds → Bool
 are_settled k = not (k.makes_leaf || k.adds || k.unlists)
 
-settled-if : (k : CallKinds) → are_settled k ≡ true → (mark : Mark) → may_be k mark ≡ true → is_settled mark ≡ true
+settled-if : (k : CallMarkKinds) → are_settled k ≡ true → (mark : Mark) → may_be_left k mark ≡ true → is_settled mark ≡ true
 settled-if k settled (noded (leaf_made name provider tick)) e = absurd (grind (arith, settled, e))
 settled-if k settled (noded (leaf_added name)) e = absurd (grind (arith, settled, e))
 settled-if k settled (noded (set_removed name)) e = absurd (grind (arith, settled, e))
 settled-if k settled mark e = refl
 
 -- calls of workers leave such marks
-workers-settled : (call : NodeCall) → is_workers call ≡ true → are_settled (kinds_of call) ≡ true
+workers-settled : (call : NodeCall) → is_workers call ≡ true → are_settled (kinds_of_call call) ≡ true
 workers-settled (making_leaf name provider tick) e = absurd (cc e)
 workers-settled (adding name) e = absurd (cc e)
 workers-settled (unlisting name) e = absurd (cc e)
@@ -101,7 +102,7 @@ kept-calls : (past : Past) (d : ℕ) (calls : List NodeCall) → AllCalls is_wor
 kept-calls past d [] all kept = kept
 kept-calls past d (call ∷ calls) all kept =
     kept-calls (called past d call) d calls all.1
-    (kept-marks past d (call_marks (history_in past d) call) (each-does is_settled call (settled-if (kinds_of call) (workers-settled call all.0)) (database_of (history_in past d))) kept)
+    (kept-marks past d (call_marks (history_in past d) call) (each-does is_settled call (settled-if (kinds_of_call call) (workers-settled call all.0)) (database_of (history_in past d))) kept)
 
 -- ---- statements on nodes
 
@@ -213,7 +214,7 @@ module _ (past : Past) (kept : KeptProvided past) where
       if-found _ (node_called w provider) (NoNode provider) _ (λ p found.
       if-found _ (set_queue (w.database p.database)) (NotProvider provider) _ (λ queue is.
       kept-leaf d p.database name provider (newest_id ((w.database p.database).queue queue)) (joins (w.database p.database) queue name)
-      (subst (λ o. Settled (if_there o (λ q. joins (w.database p.database) q name))) is (gives-call is_settled (joining name) (settled-if (kinds_of (joining name)) refl) (w.database p.database)))
+      (subst (λ o. Settled (if_there o (λ q. joins (w.database p.database) q name))) is (gives-call is_settled (joining name) (settled-if (kinds_of_call (joining name)) refl) (w.database p.database)))
       (λ _. record { p = p.database; found = found-database past provider p found; root = root-has (w.database p.database) (w.database p.database).node queue is }))))
 
   settled-lists : (d : Database) (queue table : ℕ) (name : List ℕ) → Settled (lists d queue table name)

@@ -17,7 +17,7 @@ use Rattle.sky_laws_replicas.proofs.StaysInCopy.{ends_copying, not-copied}
 use Rattle.sky_laws_replicas.proofs.RunningCopies.{Uncopied, uncopied-txid}
 use Rattle.sky_laws_replicas.proofs.Keeping.{keeps_copies}
 use Rattle.sky_laws_replicas.proofs.CallPasts.{are_quiet, quiet-call}
-use Rattle.sky_laws_replicas.proofs.CallMarks.{kinds_of}
+use Rattle.sky_model.specs.CallPermits.{kinds_of_call}
 use Rattle.sky_laws_replicas.proofs.WorkersCalls.{is_of_batches}
 
 -- ---- calls that leave such marks
@@ -32,7 +32,7 @@ IsQuietCall call = (h : History) → CopiesOnlyInCopy h → Gives AnyReply keeps
 quiet-node : (d : Database) (call : NodeCall) → Gives AnyReply keeps_copies (call_form d call) → Gives AnyReply keeps_copies (node_does d call)
 quiet-node d call gives = either AnyReply keeps_copies (may_serve call d.node) (call_form d call) (answers Null) gives (tt, tt)
 
-quiet-of : (call : NodeCall) → are_quiet (kinds_of call) ≡ true → IsQuietCall call
+quiet-of : (call : NodeCall) → are_quiet (kinds_of_call call) ≡ true → IsQuietCall call
 quiet-of call is h only = quiet-node (database_of h) call (quiet-call (database_of h) call is)
 
 -- a table that goes into a state isn't being copied, unless that state ends its copying: so no copy of it is given up

@@ -4,7 +4,7 @@ use Rattle.std.proofs.lemmas.Bool.{and_parts}
 use Rattle.sky_keys.specs.Waits.{is_waiting}
 use Rattle.sky_model.specs.declared.stmt.DbStmt.{DbStmt}
 use Rattle.sky_model.specs.History.{Mark, QueueMark, of_worker, of_copy, began, ended, sight_taken, tabled, wrote, read_only, queued, raised, put, traced, untraced, noded, History}
-use Rattle.sky_model.specs.Permits.{Leaves, of_any, of_resumed, may_leave, permit_of}
+use Rattle.sky_model.specs.Permits.{MarkKinds, of_any, of_resumed, may_leave, permit_of}
 use Rattle.sky_model.specs.Sessions.{Session, session, has_open, block, own_txid}
 use Rattle.sky_model.specs.Locks.{waiting}
 use Rattle.sky_model.specs.State.{Database, part_of, database_of}
@@ -31,7 +31,7 @@ is_sessions (queued (untraced table)) = false
 is_sessions (noded mark) = false
 is_sessions _ = true
 
-sessions-if : (k : Leaves) (s : Session) (who : ℕ) (mark : Mark) → may_leave k s who mark ≡ true → is_sessions mark ≡ true
+sessions-if : (k : MarkKinds) (s : Session) (who : ℕ) (mark : Mark) → may_leave k s who mark ≡ true → is_sessions mark ≡ true
 sessions-if k s who (queued (traced table name trigger)) e = (and_parts (is_some name) k.traces e).0
 sessions-if k s who (began (of_copy table) t) e = e
 sessions-if k s who (ended (of_copy table) t committed) e = e
@@ -54,7 +54,7 @@ told-common _ e = absurd (cc)
 
 sessions-form : (d : Database) (shown : Shown) (now : ℤ) (who : ℕ) (stmt : DbStmt) → Gives AnyReply is_sessions (form d shown now who stmt)
 sessions-form d shown now who stmt =
-    let k : Leaves = (permit_of stmt).leaves in
+    let k : MarkKinds = (permit_of stmt).kinds in
     gives-map AnyReply AnyReply (may_leave k (d.part.session who) who) is_sessions (λ reply any. any) (sessions-if k (d.part.session who) who) _ (gives-form who d shown now stmt)
 
 sessions-statement : (h : History) (now : ℤ) (who : ℕ) (stmt : DbStmt) → EachMark is_sessions (statement database_by_history h now who stmt).marks

@@ -44,7 +44,8 @@ use Rattle.sky_histories.proofs.ApplyingLaws.{all-filter}
 use Rattle.sky_laws_replicas.proofs.Copying.{one-table}
 use Rattle.sky_laws_replicas.proofs.SessionsMarks.{is_sessions, sessions-does}
 use Rattle.sky_laws_synced.specs.LawsOfChanges.{SaysCopied, is_picked, SaysApplied, CopiesWriteOwnTables, CopiesSayThatTheyEnd, BatchesSayThatTheyAreApplied, is_session, CommitsAreFollowed}
-use Rattle.sky_laws_replicas.proofs.CallMarks.{CallKinds, may_be, kinds_of, each-does}
+use Rattle.sky_model.specs.CallPermits.{CallMarkKinds, may_be_left, kinds_of_call}
+use Rattle.sky_laws_replicas.proofs.CallMarks.{each-does}
 
 -- ---- what workers have written
 
@@ -182,16 +183,16 @@ sessions-marks h marks l each b = quiet-marks h marks l (each-map is_sessions le
 -- ---- and those of most calls for nodes
 
 -- their kinds: no copy ends by them, and no batch is applied
-abbrev are_quiet : CallKinds → Bool
+abbrev are_quiet : CallMarkKinds → Bool
 are_quiet k = not (k.ends_copy || k.applies)
 
-quiet-if : (k : CallKinds) → are_quiet k ≡ true → (mark : Mark) → may_be k mark ≡ true → leaves_rows mark ≡ true
+quiet-if : (k : CallMarkKinds) → are_quiet k ≡ true → (mark : Mark) → may_be_left k mark ≡ true → leaves_rows mark ≡ true
 quiet-if k quiet (ended (of_copy n) t true) e = absurd (grind (arith, quiet, e))
 quiet-if k quiet (tabled (wrote of_worker t table key old new)) e = absurd (grind (arith, quiet, e))
 quiet-if k quiet mark e = refl
 
-quiet-call : (h : History) (call : NodeCall) → are_quiet (kinds_of call) ≡ true → Legal (marked h (marks_of (node_does (database_of h) call))) → IsBetween h → IsBetween (marked h (marks_of (node_does (database_of h) call)))
-quiet-call h call quiet l b = quiet-marks h (marks_of (node_does (database_of h) call)) l (each-does leaves_rows call (quiet-if (kinds_of call) quiet) (database_of h)) b
+quiet-call : (h : History) (call : NodeCall) → are_quiet (kinds_of_call call) ≡ true → Legal (marked h (marks_of (node_does (database_of h) call))) → IsBetween h → IsBetween (marked h (marks_of (node_does (database_of h) call)))
+quiet-call h call quiet l b = quiet-marks h (marks_of (node_does (database_of h) call)) l (each-does leaves_rows call (quiet-if (kinds_of_call call) quiet) (database_of h)) b
 
 -- what a call does leaves it so
 abbrev StaysBetween : History → Checked Outcome → Type 0

@@ -13,7 +13,7 @@ use Rattle.sky_model.specs.declared.stmt.RowStmt.TheVariants.{OpenDb}
 use Rattle.sky_model.specs.declared.stmt.DbStmt.{DbStmt}
 use Rattle.sky_model.specs.declared.stmt.DbStmt.TheVariants.{Row, Queue}
 use Rattle.sky_model.specs.declared.stmt.QueueStmt.TheVariants.{RegisterConsumer, RegisterConsumerAt, UnregisterConsumer, FinishBatch, EventRetry, MaintRetryEvents, MaintRotateStep2}
-use Rattle.sky_model.specs.Permits.{Leaves, of_any, of_resumed, may_leave, permit_of_row, permit_of}
+use Rattle.sky_model.specs.Permits.{MarkKinds, of_any, of_resumed, may_leave, permit_of_row, permit_of}
 use Rattle.sky_model.specs.DatabaseCalls.{DatabaseCall, stepped, entered, failed, worked, served, database_does}
 use Rattle.sky_model.specs.SessionMarks.{look_of, entry_place, enters, failing}
 use Rattle.sky_model.specs.Made.{takes_sight}
@@ -71,10 +71,10 @@ apart-spares q c (noded mark) e = absurd (cc e)
 apart-spares q c mark e = refl
 
 -- kinds of such marks: they aren't of statements on consumers, on their batches and on retries
-abbrev pub are_apart : Leaves → Bool
+abbrev pub are_apart : MarkKinds → Bool
 are_apart k = not (k.registers || k.moves || k.unregisters || k.finishes || k.asks)
 
-apart-if : (k : Leaves) → are_apart k ≡ true → (s : Session) (who : ℕ) (mark : Mark) → may_leave k s who mark ≡ true → is_apart mark ≡ true
+apart-if : (k : MarkKinds) → are_apart k ≡ true → (s : Session) (who : ℕ) (mark : Mark) → may_leave k s who mark ≡ true → is_apart mark ≡ true
 apart-if k apart s who (queued (registered q name sub tick)) e = absurd (grind (arith, apart, e))
 apart-if k apart s who (queued (moved q name tick)) e = absurd (grind (arith, apart, e))
 apart-if k apart s who (queued (unregistered q name sub)) e = absurd (grind (arith, apart, e))
@@ -90,13 +90,13 @@ apart-any = apart-if of_any refl
 abbrev pub ApartGives : Checked Outcome → Type 0
 ApartGives c = Gives AnyReply is_apart c
 
-pub apart-form : (d : Database) (shown : Shown) (now : ℤ) (who : ℕ) (stmt : DbStmt) → are_apart (permit_of stmt).leaves ≡ true → ApartGives (form d shown now who stmt)
+pub apart-form : (d : Database) (shown : Shown) (now : ℤ) (who : ℕ) (stmt : DbStmt) → are_apart (permit_of stmt).kinds ≡ true → ApartGives (form d shown now who stmt)
 apart-form d shown now who stmt apart =
-    let k : Leaves = (permit_of stmt).leaves in
+    let k : MarkKinds = (permit_of stmt).kinds in
     gives-map AnyReply AnyReply (may_leave k (d.part.session who) who) is_apart (λ reply any. any) (apart-if k apart (d.part.session who) who) _ (gives-form who d shown now stmt)
 
 -- statements on rows are of such kinds
-pub rows-apart : (stmt : RowStmt) → are_apart (permit_of_row stmt).leaves ≡ true
+pub rows-apart : (stmt : RowStmt) → are_apart (permit_of_row stmt).kinds ≡ true
 rows-apart (OpenDb name) = refl
 rows-apart _ = refl
 

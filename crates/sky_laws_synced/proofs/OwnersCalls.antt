@@ -80,7 +80,7 @@ module _ (h : History) (l : Legal h) (distinct : Distinct h) (q : ℕ) (c : List
   unasks-finishes None = (tt, tt)
   unasks-finishes (Some b) = search (after)
 
-  unasks-apart : (now : ℤ) (who : ℕ) (stmt : DbStmt) → are_apart (permit_of stmt).leaves ≡ true → Unasks (form (database_of h) (shown_in h) now who stmt)
+  unasks-apart : (now : ℤ) (who : ℕ) (stmt : DbStmt) → are_apart (permit_of stmt).kinds ≡ true → Unasks (form (database_of h) (shown_in h) now who stmt)
   unasks-apart now who stmt apart =
       gives-map AnyReply AnyReply is_apart (unasks sub) (λ reply any. any) (apart-unasks sub) (form (database_of h) (shown_in h) now who stmt) (apart-form (database_of h) (shown_in h) now who stmt apart)
 

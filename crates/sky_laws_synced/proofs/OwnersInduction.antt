@@ -15,7 +15,8 @@ use Rattle.sky_histories.proofs.Legal.{Legal}
 use Rattle.sky_histories.proofs.Histories.{legal_calls}
 use Rattle.sky_laws.proofs.Subscriptions.{subscriptions_are_distinct}
 use Rattle.sky_histories.proofs.NodeReadings.{set-number}
-use Rattle.sky_laws_replicas.proofs.CallMarks.{CallKinds, may_be, kinds_of, each-does}
+use Rattle.sky_model.specs.CallPermits.{CallMarkKinds, may_be_left, kinds_of_call}
+use Rattle.sky_laws_replicas.proofs.CallMarks.{each-does}
 use Rattle.sky_laws_replicas.proofs.SessionsMarks.{sessions-does}
 use Rattle.sky_laws_synced.specs.LawsOfOwners.{NodesEventsHaveNoOwner}
 use Rattle.sky_laws_synced.proofs.ConsumersMarks.{spares-does}
@@ -23,7 +24,7 @@ use Rattle.sky_laws_synced.proofs.Owners.{IsClean}
 use Rattle.sky_laws_synced.proofs.OwnersCalls.{Distinct, unasks-does}
 use Rattle.sky_laws_synced.proofs.OwnersLaw.{does-clean, fresh-clean, NodesClean, sessions-clean, is_unjoined, unjoined-nodes, joins-nodes}
 
-unjoined-if : (k : CallKinds) → k.joins ≡ false → (mark : Mark) → may_be k mark ≡ true → is_unjoined mark ≡ true
+unjoined-if : (k : CallMarkKinds) → k.joins ≡ false → (mark : Mark) → may_be_left k mark ≡ true → is_unjoined mark ≡ true
 unjoined-if k none (queued (registered q name sub tick)) e = absurd (cc (sym none ∙ e))
 unjoined-if k none (queued (put q event)) e = absurd (cc e)
 unjoined-if k none (queued (asked retry)) e = absurd (cc e)
@@ -32,7 +33,7 @@ unjoined-if k none mark e = refl
 
 served-nodes : (h : History) (call : NodeCall) → Legal (marked h (marks_of (node_does (database_of h) call))) → ((sub : ℕ) → last_subscription h < sub → IsClean sub h) → NodesClean h → NodesClean (marked h (marks_of (node_does (database_of h) call)))
 served-nodes h (joining c) l fresh clean = joins-nodes h c l fresh clean
-served-nodes h call l fresh clean = unjoined-nodes h (marks_of (node_does (database_of h) call)) l (each-does is_unjoined call (unjoined-if (kinds_of call) refl) (database_of h)) clean
+served-nodes h call l fresh clean = unjoined-nodes h (marks_of (node_does (database_of h) call)) l (each-does is_unjoined call (unjoined-if (kinds_of_call call) refl) (database_of h)) clean
 
 nodes-clean : (h : History) (call : DatabaseCall) → Legal h → Distinct h → Legal (marked h (database_does database_by_history h call).marks) → ((sub : ℕ) → last_subscription h < sub → IsClean sub h) → NodesClean h
     → NodesClean (marked h (database_does database_by_history h call).marks)

@@ -30,7 +30,8 @@ use Rattle.sky_histories.proofs.Histories.{histories_are_made_by_own_calls}
 use Rattle.sky_histories.proofs.Resting.{behind-append}
 use Rattle.sky_histories.proofs.StatementMarks.{EachMark, each-map, each-rest, when-true}
 use Rattle.sky_model.proofs.Cases.{by_test}
-use Rattle.sky_laws_replicas.proofs.CallMarks.{CallKinds, may_be, kinds_of, each-does}
+use Rattle.sky_model.specs.CallPermits.{CallMarkKinds, may_be_left, kinds_of_call}
+use Rattle.sky_laws_replicas.proofs.CallMarks.{each-does}
 use Rattle.sky_laws_replicas.proofs.SessionsMarks.{is_sessions, sessions-does}
 
 -- whether events of a leaf's table may be picked: it is in sync, or has a kept snapshot
@@ -75,7 +76,7 @@ sessions-none : (mark : Mark) → is_sessions mark ≡ true → is_none mark ≡
 sessions-none (tabled (wrote of_worker t n key old new)) e = absurd (cc e)
 sessions-none mark e = refl
 
-none-if : (k : CallKinds) → k.applies ≡ false → (mark : Mark) → may_be k mark ≡ true → is_none mark ≡ true
+none-if : (k : CallMarkKinds) → k.applies ≡ false → (mark : Mark) → may_be_left k mark ≡ true → is_none mark ≡ true
 none-if k none (tabled (wrote of_worker t n key old new)) e = absurd (cc (sym none ∙ e))
 none-if k none mark e = refl
 
@@ -175,7 +176,7 @@ batch-picked h es pick tick all = by_may (may_apply pick (node h))
 
 node-picked : (h : History) (call : NodeCall) → AllPicked h → AllPicked (marked h (marks_of (node_does (database_of h) call)))
 node-picked h (applying es pick tick) all = batch-picked h es pick tick all
-node-picked h call all = none-marks h (marks_of (node_does (database_of h) call)) (each-does is_none call (none-if (kinds_of call) refl) (database_of h)) all
+node-picked h call all = none-marks h (marks_of (node_does (database_of h) call)) (each-does is_none call (none-if (kinds_of_call call) refl) (database_of h)) all
 
 -- ---- all calls
 

@@ -13,7 +13,8 @@ use Rattle.sky_histories.proofs.StatementMarks.{EachMark, each-rest, each-given,
 use Rattle.sky_laws_replicas.proofs.SessionsMarks.{is_sessions}
 use Rattle.sky_laws_replicas.proofs.CallPasts.{call_marks, called, after_calls}
 use Rattle.sky_laws_synced.proofs.Going.{MarkSuits, KeptGoes, suits-step}
-use Rattle.sky_laws_replicas.proofs.CallMarks.{CallKinds, may_be, kinds_of, gives-call, given_up-then}
+use Rattle.sky_model.specs.CallPermits.{CallMarkKinds, may_be_left, kinds_of_call}
+use Rattle.sky_laws_replicas.proofs.CallMarks.{gives-call, given_up-then}
 
 -- whether a mark is such a one: no table leaves a set or joins a leaf by it, goes on from a copy, or is copied or written by a worker
 abbrev pub is_plain : Mark → Bool
@@ -62,10 +63,10 @@ abbrev pub Plain : Checked Outcome → Type 0
 Plain c = Gives AnyReply is_plain c
 
 -- kinds of such marks
-abbrev pub are_plain : CallKinds → Bool
+abbrev pub are_plain : CallMarkKinds → Bool
 are_plain k = not (k.unlists || k.adds || k.moves || k.ends_copy || k.applies)
 
-plain-if : (k : CallKinds) → are_plain k ≡ true → (mark : Mark) → may_be k mark ≡ true → is_plain mark ≡ true
+plain-if : (k : CallMarkKinds) → are_plain k ≡ true → (mark : Mark) → may_be_left k mark ≡ true → is_plain mark ≡ true
 plain-if k plain (noded (set_removed name)) e = absurd (grind (arith, plain, e))
 plain-if k plain (noded (leaf_added name)) e = absurd (grind (arith, plain, e))
 plain-if k plain (noded (state_set name state)) e = absurd (grind (arith, plain, e))
@@ -77,7 +78,7 @@ plain-if k plain mark e = refl
 -- whether a call leaves them so
 abbrev pub is_plain_call : NodeCall → Bool
 is_plain_call (moving name InCopy) = true
-is_plain_call call = are_plain (kinds_of call)
+is_plain_call call = are_plain (kinds_of_call call)
 
 pub plain-lists : (d : Database) (queue table : ℕ) (name : List ℕ) → Plain (lists d queue table name)
 plain-lists d queue table name = search (after)
@@ -86,7 +87,7 @@ plain-form : (d : Database) (call : NodeCall) → is_plain_call call ≡ true �
 plain-form d (moving name InCopy) e =
     gives-there is_plain (table_number d name) _ (λ table. (tt, given_up-then is_plain (λ n t. refl) (λ n. refl) table name (copy_txid table d.copies) (noded (state_set name InCopy) ∷ []) tt))
 plain-form d (moving name state) e = absurd (cc e)
-plain-form d call e = gives-call is_plain call (plain-if (kinds_of call) e) d
+plain-form d call e = gives-call is_plain call (plain-if (kinds_of_call call) e) d
 
 pub plain-does : (d : Database) (call : NodeCall) → is_plain_call call ≡ true → Plain (node_does d call)
 plain-does d call e = either AnyReply is_plain (may_serve call d.node) (call_form d call) (answers Null) (plain-form d call e) (tt, tt)

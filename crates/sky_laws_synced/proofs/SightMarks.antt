@@ -10,7 +10,7 @@ use Rattle.sky_model.specs.declared.reply.Reply.{Reply}
 use Rattle.sky_model.specs.declared.reply.Refusal.{Refusal}
 use Rattle.sky_model.specs.declared.reply.Refusal.TheVariants.{Canceled}
 use Rattle.sky_model.specs.History.{Mark, block_failed, sight_taken, tabled, waited, History}
-use Rattle.sky_model.specs.Permits.{Leaves, of_rows, attempt_leaves, may_leave, permit_of}
+use Rattle.sky_model.specs.Permits.{MarkKinds, of_rows, attempt_leaves, may_leave, permit_of}
 use Rattle.sky_model.specs.Sessions.{Block, outside, inside, failed, has_open, block, own_txid, Session, session}
 use Rattle.sky_model.specs.Locks.{waiting}
 use Rattle.sky_model.specs.State.{part_of, Database, database_of}
@@ -37,19 +37,19 @@ takes_none mark = true
 abbrev NoneGives : Checked Outcome → Type 0
 NoneGives c = Gives AnyReply takes_none c
 
-none-if : (k : Leaves) → k.looks ≡ false → (s : Session) (who : ℕ) (mark : Mark) → may_leave k s who mark ≡ true → takes_none mark ≡ true
+none-if : (k : MarkKinds) → k.looks ≡ false → (s : Session) (who : ℕ) (mark : Mark) → may_leave k s who mark ≡ true → takes_none mark ≡ true
 none-if k none s who (sight_taken v) e = absurd (cc)
 none-if k none s who mark e = refl
 
 -- no statement takes it by itself
-no-looks : (stmt : DbStmt) → (permit_of stmt).leaves.looks ≡ false
+no-looks : (stmt : DbStmt) → (permit_of stmt).kinds.looks ≡ false
 no-looks (Row (OpenDb name)) = refl
 no-looks (Queue (CreateQueue queue)) = refl
 no-looks _ = refl
 
 none-form : (d : Database) (shown : Shown) (now : ℤ) (who : ℕ) (stmt : DbStmt) → NoneGives (form d shown now who stmt)
 none-form d shown now who stmt =
-    let k : Leaves = (permit_of stmt).leaves in
+    let k : MarkKinds = (permit_of stmt).kinds in
     gives-map AnyReply AnyReply (may_leave k (d.part.session who) who) takes_none (λ reply any. any) (none-if k (no-looks stmt) (d.part.session who) who) _ (gives-form who d shown now stmt)
 
 none-abort : (who : ℕ) (b : Block) (txid : Option ℕ) (refusal : Refusal) → EachMark takes_none (abort who b txid refusal)

@@ -28,7 +28,8 @@ use Rattle.sky_histories.proofs.StatementMarks.{EachMark, each-rest, each-given,
 use Rattle.sky_model.proofs.Cases.{by_test, ok-then}
 use Rattle.sky_laws_replicas.proofs.SessionsMarks.{is_sessions, sessions-does}
 use Rattle.sky_laws_replicas.proofs.EachCall.{is_beside, marks_in, after-calls}
-use Rattle.sky_laws_replicas.proofs.CallMarks.{CallKinds, may_be, kinds_of, gives-call, each-does, given_up-then}
+use Rattle.sky_model.specs.CallPermits.{CallMarkKinds, may_be_left, kinds_of_call}
+use Rattle.sky_laws_replicas.proofs.CallMarks.{gives-call, each-does, given_up-then}
 use Rattle.sky_laws_replicas.proofs.WorkersCalls.{is_workers, AllCalls, calls-append, Makes, WorkersIfOk, workers-replay, workers-move, workers-lets, workers-parts}
 use Rattle.sky_laws_replicas.proofs.UnlessRefused.{if-test, if-refused, if-found}
 
@@ -42,7 +43,7 @@ Steady c = Gives AnyReply is_steady c
 
 -- ---- calls
 
-steady-if : (k : CallKinds) → k.moves ≡ false → (mark : Mark) → may_be k mark ≡ true → is_steady mark ≡ true
+steady-if : (k : CallMarkKinds) → k.moves ≡ false → (mark : Mark) → may_be_left k mark ≡ true → is_steady mark ≡ true
 steady-if k still (noded (state_set name state)) e = absurd (cc (sym still ∙ e))
 steady-if k still mark e = refl
 
@@ -55,7 +56,7 @@ steady-does : (d : Database) (call : NodeCall) → is_workers call ≡ true → 
 steady-does d (moving name state) e =
     each-given AnyReply is_steady (node_does d (moving name state)) (either AnyReply is_steady (may_serve (moving name state) d.node) (call_form d (moving name state)) (answers Null)
     (gives-there is_steady (table_number d name) _ (λ table. (tt, given_up-then is_steady (λ n t. refl) (λ n. refl) table name (copy_txid table d.copies) (noded (state_set name state) ∷ []) (steady-state name state e)))) (tt, tt))
-steady-does d call e = each-does is_steady call (steady-if (kinds_of call) refl) d
+steady-does d call e = each-does is_steady call (steady-if (kinds_of_call call) refl) d
 
 -- ---- facts
 
@@ -114,7 +115,7 @@ module _ (w : World) where
       if-found _ (node_called w provider) (NoNode provider) _ (λ p _.
       if-found _ (set_queue (w.database p.database)) (NotProvider provider) _ (λ queue is.
       facts-leaf d p.database name provider (newest_id ((w.database p.database).queue queue)) (joins (w.database p.database) queue name)
-      (subst (λ o. Steady (if_there o (λ q. joins (w.database p.database) q name))) is (gives-call is_steady (joining name) (steady-if (kinds_of (joining name)) refl) (w.database p.database))))))
+      (subst (λ o. Steady (if_there o (λ q. joins (w.database p.database) q name))) is (gives-call is_steady (joining name) (steady-if (kinds_of_call (joining name)) refl) (w.database p.database))))))
 
   facts-adds : (d table : ℕ) (name : List ℕ) (n : Node) → FactsIfOk (adds_to w d table name n)
   facts-adds d table name (of_root r) = if-found _ (set_queue (w.database d)) (NotProvider r.name) _ (λ queue _. facts-done d Done (lists (w.database d) queue table name) (search (after)))

@@ -9,12 +9,12 @@ ghost use Rattle.sky_model.specs.History.{within, node_made, noded, leaf_made};
 ghost use Rattle.sky_model.specs.Stops.{StopsAs};
 ghost use Rattle.sky_model.specs.Reader.{by_world};
 ghost use Rattle.sky_model.specs.StepNode.{makes_root, set_queue, table_number, may_serve, node_does, adding, listing, unlisting};
-ghost use Rattle.sky_model.specs.NodesOfWorld.{node_called, done_in, root_of, create_root, provides, same_columns, uses, first_user, create_leaf, add_table, table_state};
+ghost use Rattle.sky_model.specs.NodesOfWorld.{node_called, refuses_new, done_in, root_of, create_root, provides, same_columns, uses, first_user, create_leaf, add_table, table_state};
 ghost use Rattle.sky_model.specs.WorkersOfWorld.{parts_for, remove_table, node_form};
 ghost use Rattle.sky_model.specs.Calls.{world_does, node_stmt_does};
 ghost use Rattle.sky_world.specs.Seen.{seen_state};
 ghost use Rattle.sky_world.specs.Adds.{AddsDeed};
-ghost use Rattle.sky_world.specs.Nodes.{Happened, Does, DoesAll, Stopped, Ran, as_list, StopsLike, Joined, refuses_new, leaf_from, provided_as};
+ghost use Rattle.sky_world.specs.Nodes.{Happened, Does, DoesAll, Stopped, Ran, as_list, StopsLike, Joined, leaf_from, provided_as};
 ghost use Rattle.sky_world.specs.Whole.{IsWhole};
 ghost use Rattle.sky_world.specs.Workers.{parts_with};
 
