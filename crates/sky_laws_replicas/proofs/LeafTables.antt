@@ -22,7 +22,7 @@ use Rattle.sky_laws.proofs.NodeLaws.{sets_have_queues}
 use Rattle.sky_histories.proofs.Histories.{world_place, legal_past}
 use Rattle.sky_laws_replicas.specs.LawsOfReplicas.{LeafTablesAreProvided}
 use Rattle.sky_laws_replicas.proofs.NodeNames.{provider_of, database_among, names_in, called-database}
-use Rattle.sky_laws_replicas.proofs.ProvidedTables.{IsOffered, IsProvided}
+use Rattle.sky_laws_replicas.proofs.ProvidedTables.{IsOffered, TablesOffered}
 use Rattle.sky_laws_replicas.proofs.ProvidedCalls.{kept-provided}
 
 -- columns are the same as themselves
@@ -40,7 +40,7 @@ same-itself (c ∷ cs) = λ i. ((bytes_eq_refl c.name i && same-kinds c.kind i) 
 
 -- a leaf's table is offered by its provider
 pub record IsOfferedTo (past : Past) (d : ℕ) (leaf : Leaf) (table : List ℕ) : Type 0 where
-  pub provider : IsProvided past d
+  pub provider : TablesOffered past d
   pub offered : IsOffered past d provider.p table
   pub found : source (world_of past) leaf table ≡ Ok provider.p
 
@@ -60,7 +60,7 @@ offered-to calls in_form name n leaf table called is among = record { provider =
     stands : node (history_in past d) ≡ Some (of_leaf leaf)
     stands = called-there w name n called ∙ ap Some is
 
-    c : IsProvided past d
+    c : TablesOffered past d
     c = (kept-provided calls (legal_past calls)).leaves d (ap is_leaf stands)
 
     o : IsOffered past d c.p table

@@ -44,7 +44,7 @@ use Rattle.sky_laws_replicas.proofs.UnlessRefused.{if-test, if-refused, if-found
 use Rattle.sky_model.specs.CallPermits.{CallMarkKinds, may_be_left, kinds_of_call}
 use Rattle.sky_laws_replicas.proofs.CallMarks.{gives-call, each-does}
 use Rattle.sky_laws_replicas.proofs.WorkersCalls.{is_workers, AllCalls, calls-append, Makes, WorkersIfOk, workers-replay, workers-move, workers-lets, workers-parts}
-use Rattle.sky_laws_replicas.proofs.ProvidedTables.{IsOffered, IsProvided, AllProvided, IsRootCalled, IsUnused, called-within, MarkSuits, KeptProvided, FactSuits, FactsSuit, suits-step, suits-steps}
+use Rattle.sky_laws_replicas.proofs.ProvidedTables.{IsOffered, TablesOffered, AllProvided, IsRootCalled, IsUnused, called-within, MarkSuits, KeptProvided, FactSuits, FactsSuit, suits-step, suits-steps}
 
 -- ---- marks by which no leaf is made, no table joins one, and none leaves a set
 
@@ -128,7 +128,7 @@ offered past d table q name l m a is_listed leaf here found has alike from = sub
     there : node (history_in past m.database) ≡ Some m.node
     there = called-there (world_of past) l.provider m found
 
-    c : IsProvided past d
+    c : TablesOffered past d
     c = a.leaves d (ap is_leaf leaf)
 
     root : is_root (Some m.node) ≡ true
@@ -171,7 +171,7 @@ unused past d name root a named none e from = of (node (history_in past e)) refl
     of None is = ap (λ n. is_among name (leaf_tables n)) is
     of (Some (of_root r)) is = ap (λ n. is_among name (leaf_tables n)) is
     of (Some (of_leaf l)) is = false_from_ne_true (is_among name (leaf_tables (node (history_in past e)))) (λ among.
-        let c : IsProvided past e = a.leaves e (ap is_leaf is) in
+        let c : TablesOffered past e = a.leaves e (ap is_leaf is) in
         let o : IsOffered past e c.p name = c.tables name among in
         let found : database_among (names_in past) l.provider (nodes past) ≡ Some d = sym (ap (λ n. option_and_then (λ x. database_among (names_in past) x (nodes past)) (provider_of n)) is) ∙ from in
         let same : root ≡ l.provider = cc (sym named ∙ among-named (names_in past) l.provider (nodes past) d found) in

@@ -132,7 +132,7 @@ pub record IsOffered (past : Past) (d p : ℕ) (name : List ℕ) : Type 0 where
   pub columns : columns_of table (history_in past d) ≡ columns_of source (history_in past p)
 
 -- a leaf's provider is a root, and offers the leaf's tables
-pub record IsProvided (past : Past) (d : ℕ) : Type 0 where
+pub record TablesOffered (past : Past) (d : ℕ) : Type 0 where
   pub p : ℕ
   pub from : source_of past d ≡ Some p
   pub root : is_root (node (history_in past p)) ≡ true
@@ -140,7 +140,7 @@ pub record IsProvided (past : Past) (d : ℕ) : Type 0 where
 
 pub record AllProvided (past : Past) : Type 0 where
   pub all_noded : Noded past
-  pub leaves : (d : ℕ) → is_leaf (node (history_in past d)) ≡ true → IsProvided past d
+  pub leaves : (d : ℕ) → is_leaf (node (history_in past d)) ≡ true → TablesOffered past d
 
 -- the root of a name
 pub record IsRootCalled (past : Past) (name : List ℕ) : Type 0 where
@@ -209,9 +209,9 @@ in-use past e (noded (set_removed other)) d name suits from (inr just) = absurd 
 in-use past e mark d name suits from was = refl
 
 -- a leaf that was one
-kept-leaf : (past : Past) (e : ℕ) (mark : Mark) (d : ℕ) → AllProvided past → Fine (history_in past e) mark → MarkSuits past e mark → (c : IsProvided past d)
+kept-leaf : (past : Past) (e : ℕ) (mark : Mark) (d : ℕ) → AllProvided past → Fine (history_in past e) mark → MarkSuits past e mark → (c : TablesOffered past d)
     → ((name : List ℕ) → is_among name (leaf_tables (node (history_in (within e mark ∷ past) d))) ≡ true → IsOffered past d c.p name × WasLeafs (history_in past d) mark name)
-    → IsProvided (within e mark ∷ past) d
+    → TablesOffered (within e mark ∷ past) d
 kept-leaf past e mark d a fine suits c tables = record {
   p = c.p;
   from = source-within past e mark d c.p a.all_noded fine c.from;
@@ -222,7 +222,7 @@ kept-leaf past e mark d a fine suits c tables = record {
 
 -- a leaf that has just been made
 new-leaf : (past : Past) (d : ℕ) (name provider : List ℕ) (tick : ℕ) → AllProvided past → Fine (history_in past d) (noded (leaf_made name provider tick)) → IsRootCalled past provider
-    → IsProvided (within d (noded (leaf_made name provider tick)) ∷ past) d
+    → TablesOffered (within d (noded (leaf_made name provider tick)) ∷ past) d
 new-leaf past d name provider tick a fine r = record {
   p = r.p;
   from = ap (λ h. option_and_then (λ x. database_among (names_in now) x (nodes past)) (provider_of (node h))) here ∙ found-within past d mark provider r.p a.all_noded fine r.found;
@@ -239,29 +239,29 @@ new-leaf past d name provider tick a fine r = record {
     here : history_in now d ≡ mark ∷ history_in past d
     here = ap (λ b. if b then mark ∷ history_in past d else history_in past d) (same-session d)
 
-at-mark : (past : Past) (d : ℕ) (mark : Mark) → AllProvided past → Fine (history_in past d) mark → MarkSuits past d mark → is_leaf (node (mark ∷ history_in past d)) ≡ true → IsProvided (within d mark ∷ past) d
+at-mark : (past : Past) (d : ℕ) (mark : Mark) → AllProvided past → Fine (history_in past d) mark → MarkSuits past d mark → is_leaf (node (mark ∷ history_in past d)) ≡ true → TablesOffered (within d mark ∷ past) d
 at-mark past d mark a fine suits leaf =
-    by_test (λ b. is_leaf (node (history_in past d)) ≡ b → IsProvided (within d mark ∷ past) d) (is_leaf (node (history_in past d))) (λ _ was. had (a.leaves d was))
+    by_test (λ b. is_leaf (node (history_in past d)) ≡ b → TablesOffered (within d mark ∷ past) d) (is_leaf (node (history_in past d))) (λ _ was. had (a.leaves d was))
     (λ _ none. new (leaf-made (history_in past d) mark none leaf)) refl
   where
-    offered : (c : IsProvided past d) (name : List ℕ) → WasLeafs (history_in past d) mark name → IsOffered past d c.p name
+    offered : (c : TablesOffered past d) (name : List ℕ) → WasLeafs (history_in past d) mark name → IsOffered past d c.p name
     offered c name (inl was) = c.tables name was
     offered c name (inr just) = subst (MarkSuits past d) just suits c.p c.from
 
     here : history_in (within d mark ∷ past) d ≡ mark ∷ history_in past d
     here = ap (λ b. if b then mark ∷ history_in past d else history_in past d) (same-session d)
 
-    had : IsProvided past d → IsProvided (within d mark ∷ past) d
+    had : TablesOffered past d → TablesOffered (within d mark ∷ past) d
     had c = kept-leaf past d mark d a fine suits c (λ name is.
         let was : WasLeafs (history_in past d) mark name = was-leafs (history_in past d) mark fine name (sym (ap (λ h. is_among name (leaf_tables (node h))) here) ∙ is) in
         (offered c name was, was))
 
-    new : IsLeafMade mark → IsProvided (within d mark ∷ past) d
-    new m = subst (λ x. IsProvided (within d x ∷ past) d) (sym m.is)
+    new : IsLeafMade mark → TablesOffered (within d mark ∷ past) d
+    new m = subst (λ x. TablesOffered (within d x ∷ past) d) (sym m.is)
         (new-leaf past d m.name m.provider m.tick a (subst (Fine (history_in past d)) m.is fine) (subst (MarkSuits past d) m.is suits))
 
 elsewhere : (past : Past) (e : ℕ) (mark : Mark) (d : ℕ) → (e == d) ≡ false → AllProvided past → Fine (history_in past e) mark → MarkSuits past e mark → is_leaf (node (history_in past d)) ≡ true
-    → IsProvided (within e mark ∷ past) d
+    → TablesOffered (within e mark ∷ past) d
 elsewhere past e mark d other a fine suits leaf = let c = a.leaves d leaf in kept-leaf past e mark d a fine suits c (λ name is.
     let was : is_among name (leaf_tables (node (history_in past d))) ≡ true =
     sym (ap (λ b. is_among name (leaf_tables (node (if b then mark ∷ history_in past d else history_in past d)))) other) ∙ is in
@@ -270,13 +270,13 @@ elsewhere past e mark d other a fine suits leaf = let c = a.leaves d leaf in kep
 provided-within : (past : Past) (e : ℕ) (mark : Mark) → Fine (history_in past e) mark → MarkSuits past e mark → AllProvided past → AllProvided (within e mark ∷ past)
 provided-within past e mark fine suits a = record {
   all_noded = noded-within past e mark fine a.all_noded;
-  leaves = λ d leaf. by_same (λ b. (e == d) ≡ b → is_leaf (node (if b then mark ∷ history_in past d else history_in past d)) ≡ true → IsProvided (within e mark ∷ past) d) e d (λ same _ is. here d same is)
+  leaves = λ d leaf. by_same (λ b. (e == d) ≡ b → is_leaf (node (if b then mark ∷ history_in past d else history_in past d)) ≡ true → TablesOffered (within e mark ∷ past) d) e d (λ same _ is. here d same is)
       (λ _ other is. elsewhere past e mark d other a fine suits is) refl leaf;
 }
   where
-    here : (d : ℕ) → e ≡ d → is_leaf (node (mark ∷ history_in past d)) ≡ true → IsProvided (within e mark ∷ past) d
+    here : (d : ℕ) → e ≡ d → is_leaf (node (mark ∷ history_in past d)) ≡ true → TablesOffered (within e mark ∷ past) d
     here d same is =
-        subst (λ k. IsProvided (within k mark ∷ past) d) (sym same)
+        subst (λ k. TablesOffered (within k mark ∷ past) d) (sym same)
         (at-mark past d mark a (subst (λ k. Fine (history_in past k) mark) same fine) (subst (λ k. MarkSuits past k mark) same suits) is)
 
 -- ---- other facts

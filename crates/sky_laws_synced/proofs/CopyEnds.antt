@@ -28,7 +28,7 @@ use Rattle.sky_laws_changes.proofs.Places.{to-below, from-below, since-joined, s
 use Rattle.sky_laws_changes.proofs.ListedTables.{place-kept, columns-kept}
 use Rattle.sky_laws_replicas.specs.LawsOfReplicas.{let_go_if, HasProvidersRows}
 use Rattle.sky_laws_replicas.proofs.NodeNames.{provider_of, database_among, names_in, source_of, called-database}
-use Rattle.sky_laws_replicas.proofs.ProvidedTables.{IsOffered, IsProvided, AllProvided}
+use Rattle.sky_laws_replicas.proofs.ProvidedTables.{IsOffered, TablesOffered, AllProvided}
 use Rattle.sky_laws_synced.proofs.ChangedTables.{copied-there}
 use Rattle.sky_laws_synced.proofs.RestingTables.{rests-between, among-found, leaf-found}
 use Rattle.sky_laws_synced.proofs.Showing.{IsBetween}
@@ -258,7 +258,7 @@ module _ (past : Past) (d n t : ℕ) (name : List ℕ) (under : SnapshotView) (t
       alike : columns_of n (history_in done d) ≡ columns_of c.source held
       alike = of (e.provided.leaves d (leaf-found name (node (history_in done d)) (with_copy under tick found.t) in_leaf))
         where
-          of : IsProvided last d → columns_of n (history_in done d) ≡ columns_of c.source held
+          of : TablesOffered last d → columns_of n (history_in done d) ≡ columns_of c.source held
           of l =
               let same_p : l.p ≡ q = cc (sym l.from ∙ from_q) in
               let o : IsOffered last d l.p name = l.tables name (among-found name (node (history_in done d)) (with_copy under tick found.t) in_leaf) in

@@ -40,7 +40,7 @@ use Rattle.sky_laws_replicas.proofs.Keeping.{source-within}
 use Rattle.sky_laws_replicas.proofs.Sources.{IsAlike, alike-is}
 use Rattle.sky_laws_replicas.proofs.KeptCalls.{leaf-is, copied_tables_have_providers_rows}
 use Rattle.sky_laws_replicas.proofs.CallPasts.{after_calls, on-move}
-use Rattle.sky_laws_replicas.proofs.ProvidedTables.{IsProvided, suits-step as provided-step}
+use Rattle.sky_laws_replicas.proofs.ProvidedTables.{TablesOffered, suits-step as provided-step}
 use Rattle.sky_laws_replicas.proofs.ProvidedCalls.{kept-provided, from-found, found-database, unused}
 use Rattle.sky_laws_replicas.proofs.SessionsMarks.{is_sessions, sessions-does}
 use Rattle.sky_laws_synced.proofs.Going.{AllPlaces, apart-root, IsOffered as IsListedFor, Goes, KeptGoes, suits-step, suits-steps}
@@ -109,7 +109,7 @@ module _ (past : Past) (start : AtStart past) (kept : KeptGoes past) where
       from : source_of past d ≡ Some m.database
       from = from-found past d m.database l leaf (found-database past l.provider m found)
 
-      c : IsProvided past d
+      c : TablesOffered past d
       c = start.provided.leaves d (ap is_leaf leaf)
 
       there : node (history_in past m.database) ≡ Some m.node

@@ -31,7 +31,7 @@ use Rattle.sky_histories.proofs.SnapshotLaws.{legal_place}
 use Rattle.sky_histories.proofs.InCopyTables.{leaf_table}
 use Rattle.sky_model.proofs.Cases.{by_test}
 use Rattle.sky_laws_replicas.proofs.NodeNames.{source_of}
-use Rattle.sky_laws_replicas.proofs.ProvidedTables.{IsProvided, AllProvided}
+use Rattle.sky_laws_replicas.proofs.ProvidedTables.{TablesOffered, AllProvided}
 use Rattle.sky_laws_replicas.proofs.CallPasts.{called, after_calls, histories-elsewhere}
 use Rattle.sky_laws_synced.specs.Tables.{has_own_tick}
 use Rattle.sky_laws_synced.proofs.ChangedTables.{leafs_tick, table-named}
@@ -71,7 +71,7 @@ module _ (past : Past) (d p : ℕ) (start : AtStart past) (kept : KeptGoes past)
   -- they are two databases
   pub provider-apart : (p == d) ≡ false
   provider-apart =
-      let c : IsProvided past d = start.provided.leaves d leaf in
+      let c : TablesOffered past d = start.provided.leaves d leaf in
       let same : c.p ≡ p = let both : Some c.p ≡ Some p = sym c.from ∙ from in cc both in
       let differ : (d == p) ≡ false = apart-root past d p (ap (λ x. is_root (node (history_in past x))) (sym same) ∙ c.root) leaf in
       grind (arith, nat_tests, differ)

@@ -17,7 +17,7 @@ use Rattle.sky_histories.proofs.NodeDeeds.{called-there}
 use Rattle.sky_laws.proofs.NodeLaws.{sets_have_queues}
 use Rattle.sky_histories.proofs.Histories.{world_place, legal_past}
 use Rattle.sky_laws_replicas.proofs.NodeNames.{provider_of as name_of_provider, database_among, names_in, source_of, called-database, among-named}
-use Rattle.sky_laws_replicas.proofs.ProvidedTables.{IsProvided}
+use Rattle.sky_laws_replicas.proofs.ProvidedTables.{TablesOffered}
 use Rattle.sky_laws_replicas.proofs.ProvidedCalls.{kept-provided}
 use Rattle.sky_laws_synced.specs.LawsOfProviders.{HasProvider, LeavesHaveProviders, StepsFindProviders}
 
@@ -66,7 +66,7 @@ is-provided calls in_form d leaf stands = record {
     w : World
     w = world_of past
 
-    c : IsProvided past d
+    c : TablesOffered past d
     c = (kept-provided calls (legal_past calls)).leaves d (ap is_leaf stands)
 
     root : IsThisRoot (node (history_in past c.p))
