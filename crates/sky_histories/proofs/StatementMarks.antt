@@ -559,20 +559,20 @@ module _ (who : ℕ) where
   gives-queue_form : (d : Database) (shown : Shown) (now : ℤ) (stmt : QueueStmt) → QueueGives stmt (d.part.session who) (queue_form d shown now who stmt)
   gives-queue_form d shown now (CreateQueue name) = search (either, after, checked, each-append, left-written) depth 8
   gives-queue_form d shown now (DropQueue name) = search (checked, after) depth 8
-  gives-queue_form d shown now (SetQueueConfig name param value) = search (checked) depth 8
+  gives-queue_form d shown now (SetQueueConfig setting) = search (checked) depth 8
   gives-queue_form d shown now (QueueInfo name) = search (checked)
-  gives-queue_form d shown now (InsertEvent name ev_type ev_data extra) = search (checked, after, left-written) depth 10
-  gives-queue_form d shown now (AddTrigger name table queue backup ignored) = search (checked, after) depth 10
+  gives-queue_form d shown now (InsertEvent event) = search (checked, after, left-written) depth 10
+  gives-queue_form d shown now (AddTrigger trigger) = search (checked, after) depth 10
   gives-queue_form d shown now (Ticker name) =
       checked AnyReply _ (queue_called name d) _ (gives-tick (may_leave (permit_of_queue (Ticker name)).kinds (d.part.session who) who) (tick-left name (d.part.session who)) d now)
   gives-queue_form d shown now (ForceTick name) = search (checked, after)
   gives-queue_form d shown now (RegisterConsumer name consumer) = search (checked, after, either) depth 8
-  gives-queue_form d shown now (RegisterConsumerAt name consumer tick) = search (checked, after, either) depth 10
+  gives-queue_form d shown now (RegisterConsumerAt position) = search (checked, after, either) depth 10
   gives-queue_form d shown now (UnregisterConsumer name consumer) = search (checked, after, gives-leaves) depth 8
   gives-queue_form d shown now (NextBatch name consumer) = search (checked, after, gives-takes) depth 8
   gives-queue_form d shown now (GetBatchEvents batch) = search (checked)
   gives-queue_form d shown now (GetBatchInfo batch) = search (checked)
-  gives-queue_form d shown now (EventRetry batch event seconds) = search (checked, after, either) depth 12
+  gives-queue_form d shown now (EventRetry again) = search (checked, after, either) depth 12
   gives-queue_form d shown now (FinishBatch batch) = gives-finishes batch (d.part.session who) d (d.batch batch)
   gives-queue_form d shown now MaintRetryEvents = gives-brings (d.part.session who) d now (due_now now most_back d.retries)
   gives-queue_form d shown now (MaintRotateStep1 name) = checked AnyReply _ (queue_called name d) _ (λ q. gives-rotates name d now q (held_back now (d.queue q)))

@@ -145,7 +145,7 @@ form-plain h told now who stmt quiet =
 
 -- a statement on queues writes no key
 writes-none : (stmt : QueueStmt) → (permit_of_queue stmt).kinds.writes ≡ false
-writes-none (InsertEvent queue ev_type ev_data extra) = refl
+writes-none (InsertEvent event) = refl
 writes-none _ = refl
 
 form-told : (h : History) → AllTold h → (now : ℤ) (who : ℕ) (stmt : DbStmt) → AllTold (marked h (or_refused who (session h who) (form (database_of h) (shown_in h) now who stmt)).marks)

@@ -15,7 +15,7 @@ use Rattle.sky_model.specs.declared.stmt.DbStmt.{DbStmt}
 use Rattle.sky_model.specs.declared.stmt.DbStmt.TheVariants.{Row, Queue}
 use Rattle.sky_model.specs.declared.stmt.QueueStmt.TheVariants.{InsertEvent, MaintRetryEvents, MaintRotateStep2}
 use Rattle.sky_model.specs.declared.stmt.RowStmt.{RowStmt}
-use Rattle.sky_model.specs.declared.stmt.Extra.{Extra}
+use Rattle.sky_model.specs.declared.stmt.InsertedEvent.{InsertedEvent}
 use Rattle.sky_model.specs.declared.daemon.DaemonPart.{DaemonPart}
 use Rattle.sky_model.specs.declared.daemon.DaemonPart.TheVariants as part
 use Rattle.sky_model.specs.declared.reply.Refusal.{Refusal}
@@ -189,31 +189,31 @@ row-cut h cut now who stmt =
     (tells-cut h cut now who (row_form (part_of h) (rows_in h) who s) (row-leaves (strict_at h) who (part_of h) (rows_in h) (shows-held h cut) s e is))) stmt
 
 -- `insert_event`
-insert-cut : (h : History) → Cut h → (now : ℤ) (who : ℕ) (name : List ℕ) (ev_type ev_data : Option (List ℕ)) (extra : Option Extra) → Cuts h (insert_event (database_of h) now who name ev_type ev_data extra)
-insert-cut h cut now who name ev_type ev_data extra =
-    after-found P cut (queue_number name (queues h)) (NoQueue name) _ (λ q found. after-test P cut (is_set_queue name (node h) && tells_of_rows ev_type) ReservedType _ (λ may.
+insert-cut : (h : History) → Cut h → (now : ℤ) (who : ℕ) (event : InsertedEvent) → Cuts h (insert_event (database_of h) now who event)
+insert-cut h cut now who event =
+    after-found P cut (queue_number event.queue (queues h)) (NoQueue event.queue) _ (λ q found. after-test P cut (is_set_queue event.queue (node h) && tells_of_rows event.ev_type) ReservedType _ (λ may.
     after-checked P cut (txid_for (part_of h) who) _ (λ t. after-checked P cut (next_event_id ((database_of h).queue q)) _ (λ id. puts q t id (may-put q found may)))))
   where
     P : List Mark → Type 0
     P marks = Cut (marked h marks)
 
     marks_in : (q t id : ℕ) → List Mark
-    marks_in q t id = queued (raised q id) ∷ queued (put q (made_event id now t ev_type ev_data extra)) ∷ []
+    marks_in q t id = queued (raised q id) ∷ queued (put q (made_event id now t event.ev_type event.ev_data event.extra)) ∷ []
 
-    puts : (q t id : ℕ) → (queue_of_set (queues h) (node h) ≡ Some q → tells_of_rows ev_type ≡ false) → P (in_own who t (session h who) (marks_in q t id))
+    puts : (q t id : ℕ) → (queue_of_set (queues h) (node h) ≡ Some q → tells_of_rows event.ev_type ≡ false) → P (in_own who t (session h who) (marks_in q t id))
     puts q t id may = of (own_txid who h)
       where
         ends : (g : History) → Cut g → (b : Block) → Cut (marked g (commit_of who t b))
         ends g c b = by_block (λ b. Cut (marked g (commit_of who t b))) (plain (ended (of_session who) t true) c tt) c c b
 
         of : (o : Option ℕ) → P (begin_of who t o ++ marks_in q t id ++ commit_of who t (block who h))
-        of None = ends _ (inserts q id (made_event id now t ev_type ev_data extra) (plain (began (of_session who) t) cut tt) may) (block who h)
-        of (Some own) = ends _ (inserts q id (made_event id now t ev_type ev_data extra) cut may) (block who h)
+        of None = ends _ (inserts q id (made_event id now t event.ev_type event.ev_data event.extra) (plain (began (of_session who) t) cut tt) may) (block who h)
+        of (Some own) = ends _ (inserts q id (made_event id now t event.ev_type event.ev_data event.extra) cut may) (block who h)
 
-    may-put : (q : ℕ) → queue_number name (queues h) ≡ Some q → (is_set_queue name (node h) && tells_of_rows ev_type) ≡ false → queue_of_set (queues h) (node h) ≡ Some q → tells_of_rows ev_type ≡ false
+    may-put : (q : ℕ) → queue_number event.queue (queues h) ≡ Some q → (is_set_queue event.queue (node h) && tells_of_rows event.ev_type) ≡ false → queue_of_set (queues h) (node h) ≡ Some q → tells_of_rows event.ev_type ≡ false
     may-put q found both set =
-        by_test (λ b. is_set_queue name (node h) ≡ b → (b && tells_of_rows ev_type) ≡ false → tells_of_rows ev_type ≡ false) (is_set_queue name (node h)) (λ _ _ e. e)
-        (λ _ other _. absurd (cc (sym (same-session q) ∙ subst (λ o. IfSome o (λ set. (set == q) ≡ false)) set (not-sets h name q found other)))) refl both
+        by_test (λ b. is_set_queue event.queue (node h) ≡ b → (b && tells_of_rows event.ev_type) ≡ false → tells_of_rows event.ev_type ≡ false) (is_set_queue event.queue (node h)) (λ _ _ e. e)
+        (λ _ other _. absurd (cc (sym (same-session q) ∙ subst (λ o. IfSome o (λ set. (set == q) ≡ false)) set (not-sets h event.queue q found other)))) refl both
 
 -- retries that come back
 cut-back : (h : History) (now : ℤ) (t : ℕ) (rs : List retry.Retry) → Cut h → Cut (marked h (back now t rs ++ ended of_worker t true ∷ []))
@@ -232,8 +232,8 @@ plain-form-cut h cut now who stmt all =
     cut-settled h cut who c (plain-cut h cut c (plain-form (database_of h) (shown_in h) now who stmt all))
 
 form-cut : (h : History) → Cut h → (now : ℤ) (who : ℕ) (stmt : DbStmt) → IsDbInForm stmt → Cut (marked h (or_refused who (session h who) (form (database_of h) (shown_in h) now who stmt)).marks)
-form-cut h cut now who (Queue (InsertEvent name ev_type ev_data extra)) is =
-    cut-settled h cut who (insert_event (database_of h) now who name ev_type ev_data extra) (insert-cut h cut now who name ev_type ev_data extra)
+form-cut h cut now who (Queue (InsertEvent event)) is =
+    cut-settled h cut who (insert_event (database_of h) now who event) (insert-cut h cut now who event)
 form-cut h cut now who (Queue MaintRetryEvents) is = cut-settled h cut who (maint_retry_events (database_of h) now) (cut-brings h now (due_now now most_back (retries h)) cut)
 form-cut h cut now who (Queue stmt) is = plain-form-cut h cut now who (Queue stmt) refl
 form-cut h cut now who (Row stmt) is =

@@ -205,18 +205,18 @@ module _ (h : History) (q : ℕ) (c : List ℕ) (set : queue_of_set (queues h) (
       spares-found name (queue_number name (queues h)) _ (λ p is.
       spares-test (is_nodes (database_of h) name consumer) _ (λ other.
       either AnyReply (spares_consumer q c) (is_some (((database_of h).queue p).sub consumer)) (answers (Number 0)) _ (tt, tt) (spares-registers p consumer _ (named-other name consumer p is other))))
-  spares-form shown now who (Queue (RegisterConsumerAt name consumer at)) =
-      spares-found name (queue_number name (queues h)) _ (λ p is.
-      spares-test (is_nodes (database_of h) name consumer) _ (λ other.
-      let apart = named-other name consumer p is other in
-      spares-unless (at == 0 || nat_lt (newest_id ((database_of h).queue p)) at) _ _ (spares-unless (nat_lt at (floor ((database_of h).queue p))) _ _
-      (either AnyReply (spares_consumer q c) (is_some (((database_of h).queue p).sub consumer)) (does_marks (Number 0) (queued (moved p consumer at) ∷ [])) _ (tt, spares-one (queued (moved p consumer at)) apart)
-      (spares-registers p consumer at apart)))))
+  spares-form shown now who (Queue (RegisterConsumerAt to)) =
+      spares-found to.queue (queue_number to.queue (queues h)) _ (λ p is.
+      spares-test (is_nodes (database_of h) to.queue to.consumer) _ (λ other.
+      let apart = named-other to.queue to.consumer p is other in
+      spares-unless (to.tick == 0 || nat_lt (newest_id ((database_of h).queue p)) to.tick) _ _ (spares-unless (nat_lt to.tick (floor ((database_of h).queue p))) _ _
+      (either AnyReply (spares_consumer q c) (is_some (((database_of h).queue p).sub to.consumer)) (does_marks (Number 0) (queued (moved p to.consumer to.tick) ∷ [])) _ (tt, spares-one (queued (moved p to.consumer to.tick)) apart)
+      (spares-registers p to.consumer to.tick apart)))))
   spares-form shown now who (Queue (UnregisterConsumer name consumer)) =
       spares-found name (queue_number name (queues h)) _ (λ p is.
       spares-test (is_nodes (database_of h) name consumer) _ (λ other. spares-leaves p consumer (((database_of h).queue p).sub consumer) (named-other name consumer p is other)))
   spares-form shown now who (Queue (FinishBatch batch)) = spares-finishes ((database_of h).batch batch)
-  spares-form shown now who (Queue (EventRetry batch event seconds)) = search (checked, after, either) depth 12
+  spares-form shown now who (Queue (EventRetry again)) = search (checked, after, either) depth 12
   spares-form shown now who (Queue stmt) = spares-apart (form (database_of h) shown now who (Queue stmt)) (apart-form (database_of h) shown now who (Queue stmt) refl)
   spares-form shown now who (Row stmt) = spares-apart (form (database_of h) shown now who (Row stmt)) (apart-form (database_of h) shown now who (Row stmt) (rows-apart stmt))
 

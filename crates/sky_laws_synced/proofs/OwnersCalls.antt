@@ -8,6 +8,7 @@ use Rattle.pgq_retry.specs.Retries.{is_asked}
 use Rattle.sky_keys.specs.Waits.{is_waiting}
 use Rattle.sky_model.specs.declared.reply.Refusal.TheVariants.{NoBatch, NodeConsumer, NoEvent}
 use Rattle.sky_model.specs.declared.reply.Reply.TheVariants.{Number}
+use Rattle.sky_model.specs.declared.stmt.RetriedEvent.{RetriedEvent}
 use Rattle.sky_model.specs.declared.stmt.DbStmt.{DbStmt}
 use Rattle.sky_model.specs.declared.stmt.DbStmt.TheVariants.{Row, Queue}
 use Rattle.sky_model.specs.declared.stmt.QueueStmt.TheVariants.{RegisterConsumer, RegisterConsumerAt, UnregisterConsumer, FinishBatch, EventRetry}
@@ -61,16 +62,16 @@ module _ (h : History) (l : Legal h) (distinct : Distinct h) (q : ℕ) (c : List
   unasks-asks : (r : Retry) → not (r.sub == sub) ≡ true → Unasks (asks_for (database_of h) r)
   unasks-asks r other = either AnyReply (unasks sub) (is_asked r.sub r.event.ev_id (database_of h).retries) (answers (Number 0)) (does_marks (Number 1) (queued (asked r) ∷ [])) (tt, tt) (tt, each-front (unasks sub) (queued (asked r)) [] other tt)
 
-  unasks-retry : (now : ℤ) (id event seconds : ℕ) (es : List Event) (o : Option Batch) → active_batch id h ≡ o
-      → Unasks (found_or o NoBatch >>= (λ b. refused_if (is_nodes_batch (database_of h) b) NodeConsumer >> (found_or (find (λ e. e.ev_id == event) es) NoEvent >>= (λ e. asks_for (database_of h) (retry_of now seconds b e)))))
-  unasks-retry now id event seconds es None is = tt
-  unasks-retry now id event seconds es (Some b) is = of (is_nodes_batch (database_of h) b) refl (find (λ e. e.ev_id == event) es)
+  unasks-retry : (now : ℤ) (again : RetriedEvent) (es : List Event) (o : Option Batch) → active_batch again.batch h ≡ o
+      → Unasks (found_or o NoBatch >>= (λ b. refused_if (is_nodes_batch (database_of h) b) NodeConsumer >> (found_or (find (λ e. e.ev_id == again.event) es) NoEvent >>= (λ e. asks_for (database_of h) (retry_of now again.seconds b e)))))
+  unasks-retry now again es None is = tt
+  unasks-retry now again es (Some b) is = of (is_nodes_batch (database_of h) b) refl (find (λ e. e.ev_id == again.event) es)
     where
       of : (x : Bool) → is_nodes_batch (database_of h) b ≡ x → (o : Option Event)
-          → Unasks (refused_if x NodeConsumer >> (found_or o NoEvent >>= (λ e. asks_for (database_of h) (retry_of now seconds b e))))
+          → Unasks (refused_if x NodeConsumer >> (found_or o NoEvent >>= (λ e. asks_for (database_of h) (retry_of now again.seconds b e))))
       of true refused o = tt
       of false other None = tt
-      of false other (Some e) = unasks-asks (retry_of now seconds b e) (batch-unasks id b is other)
+      of false other (Some e) = unasks-asks (retry_of now again.seconds b e) (batch-unasks again.batch b is other)
 
   unasks-leaves : (p : ℕ) (consumer : List ℕ) (o : Option Subscription) → Unasks (leaves_queue p consumer o)
   unasks-leaves p consumer None = (tt, tt)
@@ -86,10 +87,10 @@ module _ (h : History) (l : Legal h) (distinct : Distinct h) (q : ℕ) (c : List
 
   unasks-form : (now : ℤ) (who : ℕ) (stmt : DbStmt) → Unasks (form (database_of h) (shown_in h) now who stmt)
   unasks-form now who (Queue (RegisterConsumer name consumer)) = search (checked, after, either) depth 8
-  unasks-form now who (Queue (RegisterConsumerAt name consumer at)) = search (checked, after, either) depth 10
+  unasks-form now who (Queue (RegisterConsumerAt to)) = search (checked, after, either) depth 10
   unasks-form now who (Queue (UnregisterConsumer name consumer)) = search (checked, after, unasks-leaves) depth 8
   unasks-form now who (Queue (FinishBatch batch)) = unasks-finishes ((database_of h).batch batch)
-  unasks-form now who (Queue (EventRetry batch event seconds)) = checked AnyReply (unasks sub) (found_or ((shown_in h).events batch) NoBatch) _ (λ es. unasks-retry now batch event seconds es (active_batch batch h) refl)
+  unasks-form now who (Queue (EventRetry again)) = checked AnyReply (unasks sub) (found_or ((shown_in h).events again.batch) NoBatch) _ (λ es. unasks-retry now again es (active_batch again.batch h) refl)
   unasks-form now who (Queue stmt) = unasks-apart now who (Queue stmt) refl
   unasks-form now who (Row stmt) = unasks-apart now who (Row stmt) (rows-apart stmt)
 

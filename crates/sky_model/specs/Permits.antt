@@ -216,19 +216,19 @@ permit_of_row (Scan table) = permit WhenReading no_more
 abbrev pub permit_of_queue : QueueStmt → Permit
 permit_of_queue (CreateQueue queue) = permit WhenOutside (record no_more { takes_id = true; makes = true })
 permit_of_queue (DropQueue queue) = permit WhenOutside (record no_more { drops = true })
-permit_of_queue (SetQueueConfig queue param value) = permit WhenOutside (record no_more { configures = true })
+permit_of_queue (SetQueueConfig setting) = permit WhenOutside (record no_more { configures = true })
 permit_of_queue (QueueInfo queue) = permit WhenOutside no_more
-permit_of_queue (InsertEvent queue ev_type ev_data extra) = permit WhenReading (record no_more { takes_id = true; raises = true; puts = true })
-permit_of_queue (AddTrigger name table queue backup ignored) = permit WhenOutside (record no_more { traces = true })
+permit_of_queue (InsertEvent event) = permit WhenReading (record no_more { takes_id = true; raises = true; puts = true })
+permit_of_queue (AddTrigger trigger) = permit WhenOutside (record no_more { traces = true })
 permit_of_queue (Ticker queue) = permit WhenOutside (record no_more { ticks = true })
 permit_of_queue (ForceTick queue) = permit WhenOutside (record no_more { raises = true })
 permit_of_queue (RegisterConsumer queue consumer) = permit WhenOutside (record no_more { registers = true })
-permit_of_queue (RegisterConsumerAt queue consumer tick) = permit WhenOutside (record no_more { registers = true; moves = true })
+permit_of_queue (RegisterConsumerAt position) = permit WhenOutside (record no_more { registers = true; moves = true })
 permit_of_queue (UnregisterConsumer queue consumer) = permit WhenOutside (record no_more { unregisters = true })
 permit_of_queue (NextBatch queue consumer) = permit WhenOutside (record no_more { takes_batch = true })
 permit_of_queue (GetBatchEvents batch) = permit WhenOutside no_more
 permit_of_queue (GetBatchInfo batch) = permit WhenOutside no_more
-permit_of_queue (EventRetry batch event seconds) = permit WhenOutside (record no_more { asks = true })
+permit_of_queue (EventRetry again) = permit WhenOutside (record no_more { asks = true })
 permit_of_queue (FinishBatch batch) = permit WhenOutside (record no_more { finishes = true })
 permit_of_queue MaintRetryEvents = permit WhenOutside (record no_more { works = true; puts = true; brings_back = true })
 permit_of_queue (MaintRotateStep1 queue) = permit WhenReading (record no_more { takes_id = true; rotates = true; switches = true })
