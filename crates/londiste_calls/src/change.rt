@@ -16,9 +16,11 @@ use std::marker::Model;
 
 /// What was done to a row. The row is the new one, or the one that was deleted.
 #[derive(Drop)]
-pub(crate) struct Change {
-    pub(crate) op: Op,
-    pub(crate) row: Row,
+pub struct Change {
+    /// What was done.
+    pub op: Op,
+    /// The row.
+    pub row: Row,
 }
 
 impl Model for Change {
@@ -31,7 +33,7 @@ impl Model for Change {
 
 impl Change {
     /// What an event records of a row of its table, if its type says so and its data are a row.
-    pub(crate) fn of(
+    pub fn of(
         alloc: Global,
         schema: &Schema,
         event: &Recorded<'_>,
@@ -49,7 +51,7 @@ impl Change {
     }
 
     /// Whether it may be made only where there is a row. If not, it may be made only where there is none.
-    pub(crate) fn needs_row(&self) -> bool
+    pub fn needs_row(&self) -> bool
         ensures { (old : Option (List Val)) → may_meet self.now.op old ≡ (if result then is_some old else is_none old) }
     {
         match self.op {
@@ -59,7 +61,7 @@ impl Change {
     }
 
     /// The row that it leaves.
-    pub(crate) fn row_left(self) -> Option<Row>
+    pub fn row_left(self) -> Option<Row>
         ensures { result ≡ row_left self.op self.row }
     {
         match self.op {
@@ -70,14 +72,14 @@ impl Change {
 }
 
 /// Whether an event records the change of a row, as its type says.
-pub(crate) fn is_change(event: &Recorded<'_>) -> bool
+pub fn is_change(event: &Recorded<'_>) -> bool
     ensures { result ≡ is_change event.now }
 {
     tells_of_rows(event.ev_type)
 }
 
 /// Whether events of a type record changes of rows.
-pub(crate) fn tells_of_rows(ev_type: Option<&Text>) -> bool
+pub fn tells_of_rows(ev_type: Option<&Text>) -> bool
     ensures { result ≡ tells_of_rows (option_copied ev_type.entry) }
 {
     op_in(ev_type).is_some()

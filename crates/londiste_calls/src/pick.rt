@@ -3,7 +3,7 @@
 ghost use Rattle.std.specs.Prelude.{◌≡◌, not, false, option_copied, option_map, unwrap_or};
 ghost use Rattle.sky_txid.specs.Snapshot.{sees};
 ghost use Rattle.sky_model.specs.StepApply.{is_of_table, has_synced, kept_snapshot, picks};
-ghost use Rattle.pgq_db.specs.Applying.{pick_of};
+ghost use Rattle.londiste_calls.specs.Picks.{pick_of};
 
 use crate::change::is_change;
 use londiste_state::{Leaf, TableState};
@@ -22,7 +22,7 @@ pub enum Pick {
 
 impl Pick {
     /// Whether a leaf picks an event.
-    pub(crate) fn picks(&self, leaf: &Leaf, event: &Recorded<'_>) -> bool
+    pub fn picks(&self, leaf: &Leaf, event: &Recorded<'_>) -> bool
         ensures { result ≡ picks leaf.now (pick_of self.now) event.now }
     {
         match self {

@@ -19,7 +19,7 @@ pub enum JoinFault {
 
 impl From<AllocError> for JoinFault {
     ghost use Rattle.std.specs.Prelude.{◌≡◌};
-    ghost use Rattle.pgq_db.specs.declared.faults.JoinFault.TheVariants.{NoMemory};
+    ghost use Rattle.londiste_calls.specs.declared.faults.JoinFault.TheVariants.{NoMemory};
 
     ghost from_gives = { λ _ fault. fault ≡ NoMemory };
 
@@ -43,7 +43,7 @@ pub enum MakeRootFault {
 
 impl From<AllocError> for MakeRootFault {
     ghost use Rattle.std.specs.Prelude.{◌≡◌};
-    ghost use Rattle.pgq_db.specs.declared.faults.MakeRootFault.TheVariants.{NoMemory};
+    ghost use Rattle.londiste_calls.specs.declared.faults.MakeRootFault.TheVariants.{NoMemory};
 
     ghost from_gives = { λ _ fault. fault ≡ NoMemory };
 
@@ -54,7 +54,7 @@ impl From<AllocError> for MakeRootFault {
 
 impl From<TransFault> for MakeRootFault {
     ghost use Rattle.std.specs.Prelude.{◌≡◌};
-    ghost use Rattle.pgq_db.specs.Served.{make_root_fault_of};
+    ghost use Rattle.londiste_calls.specs.Faults.{make_root_fault_of};
 
     ghost from_gives = { λ from fault. fault ≡ make_root_fault_of from };
 
@@ -77,7 +77,7 @@ pub enum RootFault {
 
 impl From<AllocError> for RootFault {
     ghost use Rattle.std.specs.Prelude.{◌≡◌};
-    ghost use Rattle.pgq_db.specs.declared.faults.RootFault.TheVariants.{NoMemory};
+    ghost use Rattle.londiste_calls.specs.declared.faults.RootFault.TheVariants.{NoMemory};
 
     ghost from_gives = { λ _ fault. fault ≡ NoMemory };
 
@@ -97,7 +97,7 @@ pub enum FetchFault {
 
 impl From<AllocError> for FetchFault {
     ghost use Rattle.std.specs.Prelude.{◌≡◌};
-    ghost use Rattle.pgq_db.specs.declared.faults.FetchFault.TheVariants.{NoMemory};
+    ghost use Rattle.londiste_calls.specs.declared.faults.FetchFault.TheVariants.{NoMemory};
 
     ghost from_gives = { λ _ fault. fault ≡ NoMemory };
 
@@ -117,7 +117,7 @@ pub enum CopyFault {
 
 impl From<AllocError> for CopyFault {
     ghost use Rattle.std.specs.Prelude.{◌≡◌};
-    ghost use Rattle.pgq_db.specs.declared.faults.CopyFault.TheVariants.{NoMemory};
+    ghost use Rattle.londiste_calls.specs.declared.faults.CopyFault.TheVariants.{NoMemory};
 
     ghost from_gives = { λ _ fault. fault ≡ NoMemory };
 
@@ -128,7 +128,7 @@ impl From<AllocError> for CopyFault {
 
 impl From<TransFault> for CopyFault {
     ghost use Rattle.std.specs.Prelude.{◌≡◌};
-    ghost use Rattle.pgq_db.specs.Copying.{copy_fault_of};
+    ghost use Rattle.londiste_calls.specs.Faults.{copy_fault_of};
 
     ghost from_gives = { λ from fault. fault ≡ copy_fault_of from };
 
@@ -154,7 +154,7 @@ pub enum ApplyFault {
 
 impl From<AllocError> for ApplyFault {
     ghost use Rattle.std.specs.Prelude.{◌≡◌};
-    ghost use Rattle.pgq_db.specs.declared.faults.ApplyFault.TheVariants.{NoMemory};
+    ghost use Rattle.londiste_calls.specs.declared.faults.ApplyFault.TheVariants.{NoMemory};
 
     ghost from_gives = { λ _ fault. fault ≡ NoMemory };
 
@@ -165,7 +165,7 @@ impl From<AllocError> for ApplyFault {
 
 impl From<TransFault> for ApplyFault {
     ghost use Rattle.std.specs.Prelude.{◌≡◌};
-    ghost use Rattle.pgq_db.specs.Applying.{apply_fault_of};
+    ghost use Rattle.londiste_calls.specs.Faults.{apply_fault_of};
 
     ghost from_gives = { λ from fault. fault ≡ apply_fault_of from };
 
@@ -196,7 +196,7 @@ pub enum WorkerFault {
 
 impl From<AllocError> for WorkerFault {
     ghost use Rattle.std.specs.Prelude.{◌≡◌};
-    ghost use Rattle.pgq_db.specs.declared.faults.WorkerFault.TheVariants.{NoMemory};
+    ghost use Rattle.londiste_calls.specs.declared.faults.WorkerFault.TheVariants.{NoMemory};
 
     ghost from_gives = { λ _ fault. fault ≡ NoMemory };
 
@@ -207,7 +207,7 @@ impl From<AllocError> for WorkerFault {
 
 impl From<CopyFault> for WorkerFault {
     ghost use Rattle.std.specs.Prelude.{◌≡◌};
-    ghost use Rattle.pgq_db.specs.Copying.{worker_fault_of};
+    ghost use Rattle.londiste_calls.specs.Faults.{worker_fault_of};
 
     ghost from_gives = { λ from fault. fault ≡ worker_fault_of from };
 

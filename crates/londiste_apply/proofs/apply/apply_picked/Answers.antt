@@ -1,8 +1,9 @@
 use Rattle.std.proofs.Common.{All, None, IfOk, sym, subst}
 use Rattle.sky_state.specs.Seen.{seen}
-use Rattle.pgq_db.specs.Applying.{pick_of, MayWriteFor, Works}
-use Rattle.pgq_db.proofs.ApplySteps.{picked-leaf, picked-none, works-none}
-use Rattle.pgq_db.proofs.apply.apply_picked.Goals as goal
+use Rattle.londiste_calls.specs.Picks.{pick_of}
+use Rattle.londiste_apply.specs.Applying.{MayWriteFor, Works}
+use Rattle.londiste_apply.proofs.Steps.{marked-none, picked-leaf, picked-none, works-none}
+use Rattle.londiste_apply.proofs.apply.apply_picked.Goals as goal
 
 pub apply_all-requires-clause-may : goal.apply_all-requires-clause-may
 apply_all-requires-clause-may c =
@@ -17,3 +18,6 @@ pub returns-in-None-clause-work : goal.returns-in-None-clause-work
 returns-in-None-clause-work c =
     subst (λ events. Works (record { many = 0; bad = None }) (seen c.args.rows.now) (seen c.args.rows.now) c.args.txid events) (sym (picked-none c.args.node.now c.in-None.ensures (pick_of c.args.pick.now) c.args.events.now))
     (works-none (seen c.args.rows.now) c.args.txid c.requires.runs)
+
+pub returns-in-None-clause-marked : goal.returns-in-None-clause-marked
+returns-in-None-clause-marked c = marked-none (seen c.args.rows.now)

@@ -3,8 +3,8 @@ use Rattle.std.specs.Result.{result_ok}
 use Rattle.sky_val.specs.declared.event.Event.{Event}
 use Rattle.sky_urlenc.specs.Changes.{op_named}
 use Rattle.sky_urlenc.specs.ReadRow.{read_row}
-use Rattle.pgq_db.proofs.ApplySteps.{change-untyped, change-unread, change-read}
-use Rattle.pgq_db.proofs.change.Change.of.Goals as goal
+use Rattle.londiste_calls.proofs.Changes.{change-untyped, change-unread, change-read}
+use Rattle.londiste_calls.proofs.change.Change.of.Goals as goal
 
 pub returns-in_default : goal.returns-in_default
 returns-in_default c = change-untyped c.args.schema.now c.args.event.now (c.in_default.ensures ∙ ap (λ (e : Event). option_and_then op_named e.ev_type) c.event.view_is)

@@ -2,9 +2,9 @@ use Rattle.std.proofs.Common.{◌≡◌, drop, filter}
 use Rattle.sky_model.specs.ShownRows.{snapshot_now}
 use Rattle.sky_model.specs.StepApply.{picks}
 use Rattle.sky_state.specs.Seen.{seen}
-use Rattle.pgq_db.specs.Applying.{pick_of}
-use Rattle.pgq_db.proofs.ApplySteps.{IsBetween}
-use Rattle.pgq_db.proofs.apply.apply_all.Given as goal
+use Rattle.londiste_calls.specs.Picks.{pick_of}
+use Rattle.londiste_apply.proofs.Steps.{IsBetween}
+use Rattle.londiste_apply.proofs.apply.apply_all.Given as goal
 
 -- the events that are left; the snapshot by which they are applied stays the same
 abbrev pub invariant-loop-event : goal.invariant-loop-event

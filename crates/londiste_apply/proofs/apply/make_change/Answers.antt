@@ -2,9 +2,9 @@ use Rattle.std.proofs.Common.{◌∙◌, None, sym}
 use Rattle.std.proofs.lemmas.Result.{IfOk-weaker}
 use Rattle.sky_model.specs.StepCopy.{row_for}
 use Rattle.sky_state.specs.Seen.{seen}
-use Rattle.pgq_db.proofs.ApplySteps.{makes-as-met}
-use Rattle.pgq_db.proofs.CopySteps.{own-newest}
-use Rattle.pgq_db.proofs.apply.make_change.Goals as goal
+use Rattle.londiste_apply.proofs.Steps.{makes-as-met}
+use Rattle.londiste_apply.proofs.Own.{own-newest}
+use Rattle.londiste_apply.proofs.apply.make_change.Goals as goal
 
 pub worker_write_if-requires-clause-last : goal.worker_write_if-requires-clause-last
 worker_write_if-requires-clause-last c = own-newest c.args.txid _ None (c.requires.may.last c.args.key)

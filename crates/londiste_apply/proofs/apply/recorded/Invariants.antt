@@ -1,6 +1,6 @@
 use Rattle.std.proofs.Common.{◌≡◌, ◌++◌, drop, map}
 use Rattle.pgq_tables.specs.Tables.{recorded_part}
-use Rattle.pgq_db.proofs.apply.recorded.Given as goal
+use Rattle.londiste_apply.proofs.apply.recorded.Given as goal
 
 -- those so far, and those that are left
 abbrev pub invariant-loop-event : goal.invariant-loop-event

@@ -1,8 +1,8 @@
 use Rattle.std.proofs.Common.{sym, ◌∙◌}
 use Rattle.sky_val.specs.Schemas.{key_of}
 use Rattle.sky_state.specs.Seen.{seen}
-use Rattle.pgq_db.proofs.ApplySteps.{makes-missing, makes-unread, makes-read, may-here}
-use Rattle.pgq_db.proofs.apply.apply_to.Goals as goal
+use Rattle.londiste_apply.proofs.Steps.{makes-missing, makes-unread, makes-read, may-here}
+use Rattle.londiste_apply.proofs.apply.apply_to.Goals as goal
 
 pub returns-in_default-clause-made : goal.returns-in_default-clause-made
 returns-in_default-clause-made c = makes-missing (seen c.args.rows.now) c.args.txid c.args.event.now c.args.name.now c.requires.named c.in_default.ensures

@@ -2,10 +2,10 @@ use Rattle.std.proofs.Common.{◌+◌, ◌<◌, length, drop, filter, refl, sym,
 use Rattle.sky_val.specs.declared.event.Event.{Event}
 use Rattle.sky_model.specs.StepApply.{picks}
 use Rattle.sky_state.specs.Seen.{seen}
-use Rattle.pgq_db.specs.Applying.{pick_of, Works}
-use Rattle.pgq_db.proofs.Agreeing.{agree-same}
-use Rattle.pgq_db.proofs.ApplySteps.{IsBetween, between-first, IsAfter, between-next, between-bad, between-done, head-may, made-as, agree-unmade, picked-here, picked-later, picked-few, none-left}
-use Rattle.pgq_db.proofs.apply.apply_all.Goals as goal
+use Rattle.londiste_calls.specs.Picks.{pick_of}
+use Rattle.londiste_apply.specs.Applying.{Works}
+use Rattle.londiste_apply.proofs.Steps.{IsBetween, between-first, IsAfter, between-next, between-bad, between-done, head-may, made-as, marked-none, marked-same, marked-unmade, picked-here, picked-later, picked-few, none-left}
+use Rattle.londiste_apply.proofs.apply.apply_all.Goals as goal
 
 pub loop-event-init : goal.loop-event-init
 loop-event-init c = record { between = between-first (seen c.args.rows.now) c.args.txid _ c.requires.runs c.requires.may; present = refl }
@@ -67,12 +67,15 @@ returns-then-not-is_made-clause-work c =
     (picked-here p events c.loop-event.event-index c.event-item.result within c.event-item.is (sym c.picks.ensures ∙ c.if-not-picks.false)) c.loop-event.invariant.between)
     (seen c.apply_event.new.rows) (made-as _ _ (seen c.loop-event.rows) (seen c.apply_event.new.rows) _ c.if-not-is_made.true c.in_ok-is_made.ensures.made))
 
-pub returns-then-not-is_made-clause-agree : goal.returns-then-not-is_made-clause-agree
-returns-then-not-is_made-clause-agree c = λ q are.
-    agree-unmade (seen c.loop-event.rows) (seen c.apply_event.new.rows) _ q (made-as _ _ (seen c.loop-event.rows) (seen c.apply_event.new.rows) _ c.if-not-is_made.true c.in_ok-is_made.ensures.made) (c.loop-event.invariant.between.agree q are)
+pub returns-then-not-is_made-clause-marked : goal.returns-then-not-is_made-clause-marked
+returns-then-not-is_made-clause-marked c =
+    marked-unmade (seen c.args.rows.now) (seen c.loop-event.rows) (seen c.apply_event.new.rows) _ (made-as _ _ (seen c.loop-event.rows) (seen c.apply_event.new.rows) _ c.if-not-is_made.true c.in_ok-is_made.ensures.made) c.loop-event.invariant.between.marked
 
-pub returns-in_err-is_made-clause-agree : goal.returns-in_err-is_made-clause-agree
-returns-in_err-is_made-clause-agree c = λ q are. agree-same (seen c.loop-event.rows) (seen c.apply_event.new.rows) q c.in_err-is_made.ensures.err (c.loop-event.invariant.between.agree q are)
+pub returns-in_err-is_made-clause-marked : goal.returns-in_err-is_made-clause-marked
+returns-in_err-is_made-clause-marked c = marked-same (seen c.args.rows.now) (seen c.loop-event.rows) (seen c.apply_event.new.rows) c.loop-event.invariant.between.marked c.in_err-is_made.ensures.err
+
+pub returns-in_err-snapshot-clause-marked : goal.returns-in_err-snapshot-clause-marked
+returns-in_err-snapshot-clause-marked c = marked-none (seen c.args.rows.now)
 
 -- all were looked at
 pub returns-clause-work : goal.returns-clause-work
@@ -80,5 +83,5 @@ returns-clause-work c =
     between-done (seen c.args.rows.now) (seen c.loop-event.rows) c.args.txid _ _ c.loop-event.many c.loop-event.invariant.between
     (none-left (picks c.args.leaf.now (pick_of c.args.pick.now)) c.args.events.now c.loop-event.event-index (omega arith))
 
-pub returns-clause-agree : goal.returns-clause-agree
-returns-clause-agree c = c.loop-event.invariant.between.agree
+pub returns-clause-marked : goal.returns-clause-marked
+returns-clause-marked c = c.loop-event.invariant.between.marked
