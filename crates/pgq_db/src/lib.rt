@@ -24,6 +24,7 @@ mod node_part;
 mod provider;
 mod retries;
 mod rotation;
+mod row_run;
 mod statements;
 mod triggers;
 
