@@ -33,8 +33,8 @@ use Rattle.sky_model.specs.DatabaseSteps.{IsMade}
 use Rattle.sky_model.proofs.LeastNumbers.{least-free}
 use Rattle.sky_histories.proofs.NodeDeeds.{is-served}
 use Rattle.sky_histories.proofs.MadeCopies.{room-without}
-use Rattle.pgq_db.specs.declared.faults.JoinFault.{JoinFault}
-use Rattle.pgq_db.specs.declared.faults.JoinFault.TheVariants as join
+use Rattle.londiste_calls.specs.declared.faults.JoinFault.{JoinFault}
+use Rattle.londiste_calls.specs.declared.faults.JoinFault.TheVariants as join
 use Rattle.pgq_db.specs.Served.{Serves, JoinRefused}
 use Rattle.pgq_db.proofs.CopySteps.{tabled-marks}
 use Rattle.londiste_batches.specs.Moved.{ServesAll}

@@ -52,39 +52,18 @@ use Rattle.pgq_queues.specs.EventRule.{event_rule}
 use Rattle.pgq_db.specs.Agreeing.{Agree}
 use Rattle.pgq_db.specs.Views.{DbView}
 use Rattle.pgq_db.specs.Seen.{with_node, seen_database}
-use Rattle.pgq_db.specs.declared.faults.CopyFault.{CopyFault}
-use Rattle.pgq_db.specs.declared.faults.CopyFault.TheVariants as copy
+use Rattle.londiste_calls.specs.declared.faults.CopyFault.{CopyFault}
+use Rattle.londiste_calls.specs.declared.faults.CopyFault.TheVariants as copy
 use Rattle.pgq_db.specs.Served.{Serves, CopyRefused}
-use Rattle.pgq_db.specs.Copying.{copy_fault_of, none_after, is_own_last, MayWrite, deletion, under_key, insertion}
+use Rattle.londiste_calls.specs.Faults.{copy_fault_of}
+use Rattle.pgq_db.specs.Copying.{none_after, is_own_last, MayWrite, deletion, under_key, insertion}
+pub use Rattle.londiste_apply.proofs.Own.{own-with, own-newest, own-fresh}
 use Rattle.pgq_db.proofs.Agreeing.{agree-then, agree-same, agree-stay}
 use Rattle.pgq_db.proofs.Databases.{table-there}
 use Rattle.pgq_db.proofs.EventsAlike.{undone-shown}
 use Rattle.pgq_db.proofs.NodeSteps.{serves-by, served-nothing, table-missing}
 
 -- ---- a copy may go on writing
-
--- a transaction's write leaves it so that only the last version may be the transaction's
-pub own-with : (t : ℕ) (row : Option (List Val)) (vs : List Version) → is_own_last t vs ≡ true → is_own_last t (with_version t row vs) ≡ true
-own-with t row [] own = grind (arith, nat_tests)
-own-with t row (v ∷ vs) own = grind (arith, nat_tests, own, own-with t row vs)
-
--- then its own version is the newest, if it has one
-pub own-newest : (t : ℕ) (vs : List Version) (newest : Option Version) → is_own_last t vs ≡ true → IsSome (version_of t vs) → newest_from (is_other None) newest vs ≡ version_of t vs
-own-newest t [] newest own is = absurd (cc)
-own-newest t (v ∷ []) newest own is = by (t == v.txid) refl is
-  where
-    by : (b : Bool) → (t == v.txid) ≡ b → IsSome (if b then Some v else None) → Some v ≡ (if t == v.txid then Some v else None)
-    by true same is = ap (λ b. if b then Some v else None) (sym same)
-    by false same is = absurd (cc)
-own-newest t (v ∷ w ∷ vs) newest own is = by (own-newest t (w ∷ vs) (Some v)) (t == v.txid) refl own is
-  where
-    by : (is_own_last t (w ∷ vs) ≡ true → IsSome (version_of t (w ∷ vs)) → newest_from (is_other None) (Some v) (w ∷ vs) ≡ version_of t (w ∷ vs)) → (b : Bool) → (t == v.txid) ≡ b → ((not b || false) && is_own_last t (w ∷ vs)) ≡ true → IsSome (if b then Some v else version_of t (w ∷ vs)) → newest_from (is_other None) (Some v) (w ∷ vs) ≡ (if t == v.txid then Some v else version_of t (w ∷ vs))
-    by rest true same own is = absurd (cc)
-    by rest false same own is = rest own is ∙ ap (λ b. if b then Some v else version_of t (w ∷ vs)) (sym same)
-
-pub own-fresh : (t : ℕ) (vs : List Version) → version_of t vs ≡ None → is_own_last t vs ≡ true
-own-fresh t [] none = refl
-own-fresh t (v ∷ vs) none = grind (arith, nat_tests, none, own-fresh t vs)
 
 own-only : (p : ℕ → Bool) (t : ℕ) (vs : List Version) → OnlyLast p vs → p t ≡ false → is_own_last t vs ≡ true
 own-only p t [] only unseen = refl

@@ -21,7 +21,7 @@ ghost use Rattle.pgq_db.specs.Seen.{seen_database};
 ghost use Rattle.pgq_db.specs.Served.{Serves, CopyRefused};
 
 use crate::db::Db;
-use crate::faults::CopyFault;
+use londiste_calls::CopyFault;
 use londiste_state::Node;
 use sky_model::WriteGate;
 use sky_session::RowDb;

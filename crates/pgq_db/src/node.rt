@@ -20,7 +20,7 @@ ghost use Rattle.pgq_db.specs.Seen.{seen_database};
 ghost use Rattle.pgq_db.specs.Served.{Serves, JoinRefused, MakeRootRefused, RootRefused, ServesUnlessBusy};
 
 use crate::db::Db;
-use crate::faults::{JoinFault, MakeRootFault, RootFault};
+use londiste_calls::{JoinFault, MakeRootFault, RootFault};
 use londiste_state::{Leaf, Node, Root, TableState};
 use pgq_queues::{Queues, TableTrigger};
 use sky_model::Limit;

@@ -29,8 +29,8 @@ ghost use Rattle.pgq_db.specs.Looks.{LooksWithin, RanWithin, ListsLooked, ReadsN
 ghost use Rattle.pgq_db.specs.Gives.{Gives, Adds, Answers, Ran};
 ghost use Rattle.sky_model.specs.Stops.{StopsAs};
 
-use crate::change::tells_of_rows;
 use crate::db::Db;
+use londiste_calls::tells_of_rows;
 use pgq_queues::{EVENT_ID_END, Queues, TableTrigger};
 use pgq_tables::PlainEvent;
 use sky_model::{BoxedExtra, DbStmt, Extra, Limit, QueueStmt, Refusal, Replies, Reply, Stop};

@@ -119,6 +119,8 @@ impl RowDb {
 
     /// Admits a statement that isn't on rows, or refuses it. One that is allowed only `outside` of blocks reads
     /// nothing; any other takes the snapshot of a repeatable read block, if it is the first there.
+    // Always inlined: a refusal is large, and this is on the path of each statement on queues.
+    #[inline(always)]
     pub fn enter(&mut self, who: SessionId, outside: bool) -> Result<Option<Refusal>, NoMemory>
         ensures ok { IfOk result (λ refusal. Enters (seen self.old) (seen self.new) who (entry_place outside) refusal) }
         ensures err { OnErr result (seen self.new ≡ seen self.old) }

@@ -25,8 +25,8 @@ use Rattle.sky_model.specs.WorkersOfWorld.{move_facts, moves, restarting}
 use Rattle.sky_model.specs.NodesOfWorld.{WorldOutcome}
 use Rattle.pgq_db.specs.Views.{DbView}
 use Rattle.pgq_db.specs.Seen.{seen_database}
-use Rattle.pgq_db.specs.declared.faults.WorkerFault.{WorkerFault}
-use Rattle.pgq_db.specs.declared.faults.WorkerFault.TheVariants as fault
+use Rattle.londiste_calls.specs.declared.faults.WorkerFault.{WorkerFault}
+use Rattle.londiste_calls.specs.declared.faults.WorkerFault.TheVariants as fault
 use Rattle.londiste_batches.specs.Moved.{after_call, after_calls, MovesAs, MovesBy, MoveRefused}
 use Rattle.sky_world.specs.Hands.{HandAt, hand_at, batch_at}
 use Rattle.sky_world.specs.Views.{StateView}

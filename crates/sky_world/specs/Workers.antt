@@ -16,8 +16,8 @@ use Rattle.sky_model.specs.ReplayMoves.{replay_move}
 use Rattle.sky_model.specs.NodesOfWorld.{WorldOutcome, node_called}
 use Rattle.sky_model.specs.WorkersOfWorld.{moves}
 use Rattle.sky_model.specs.World.{World}
-use Rattle.pgq_db.specs.declared.faults.WorkerFault.{WorkerFault}
-use Rattle.pgq_db.specs.declared.faults.WorkerFault.TheVariants as fault
+use Rattle.londiste_calls.specs.declared.faults.WorkerFault.{WorkerFault}
+use Rattle.londiste_calls.specs.declared.faults.WorkerFault.TheVariants as fault
 
 -- a node that is a leaf, in a database
 abbrev pub if_leaf : (name : List ℕ) → (database : ℕ) → Node → Checked (ℕ × Leaf)

@@ -3,7 +3,7 @@ ghost use Rattle.sky_model.specs.CopyMoves.{columns_for, copy_running};
 ghost use Rattle.sky_model.specs.InForm.{IsDbInForm};
 ghost use Rattle.sky_model.specs.StepCopy.{all_fit};
 ghost use Rattle.sky_model.specs.StepNode.{table_number, may_copy, may_serve, adding, applying, moving};
-ghost use Rattle.pgq_db.specs.Applying.{pick_of};
+ghost use Rattle.londiste_calls.specs.Picks.{pick_of};
 ghost use Rattle.pgq_db.specs.Seen.{seen_database};
 
 use londiste_state::TableState;
