@@ -29,7 +29,7 @@ ghost use Rattle.pgq_db.specs.Looks.{ReadsNone};
 ghost use Rattle.pgq_db.specs.Configured.{refusal_for, configured_as, Configures};
 
 use crate::node_part::NodePart;
-use crate::rotation::switch_before;
+use crate::rotation::run_for;
 use crate::row_run::RowRun;
 use pgq_queues::Queues;
 use pgq_sub::Sub;
@@ -202,8 +202,8 @@ impl Db {
         ensures rests { OnOk result (ready (seen_database self.new).part ≡ None) }
         ensures moments { OnOk result (HaveMoments (database_turn database_by_itself (seen_database self.old) now who (Row stmt.now)).answers) }
     {
-        switch_before(&mut self.queues, &self.rows, now, who, stmt);
-        self.run_rows(now, RowRun::Statement(who, stmt), replies)
+        let run = run_for(&mut self.queues, &self.rows, now, who, stmt);
+        self.run_rows(now, run, replies)
     }
 
     /// Runs the statements that may resume. Events record their writes.
