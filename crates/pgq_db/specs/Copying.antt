@@ -7,7 +7,8 @@ use Rattle.sky_txid.specs.Ids.{contains}
 use Rattle.sky_keys.specs.declared.version.Version.{Version}
 use Rattle.sky_keys.specs.Versions.{versions_at}
 use Rattle.sky_model.specs.Rows.{Write}
-use Rattle.sky_model.specs.State.{RowPart}
+use Rattle.sky_model.specs.State.{RowPart, Database}
+use Rattle.sky_model.specs.StepNode.{table_number, may_copy}
 use Rattle.sky_trans.specs.declared.trans.TransFault.{TransFault}
 use Rattle.sky_trans.specs.declared.trans.TransFault.TheVariants as trans
 use Rattle.pgq_db.specs.declared.faults.CopyFault.{CopyFault}
@@ -24,6 +25,12 @@ copy_fault_of trans.NoMemory = copy.NoMemory
 abbrev pub worker_fault_of : CopyFault → WorkerFault
 worker_fault_of copy.TxidsSpent = worker.TxidsSpent
 worker_fault_of copy.NoMemory = worker.NoMemory
+
+-- the table of a number is one of the leaf's, in the state in which it is copied
+pub record MayCopy (d : Database) (table : ℕ) : Type 0 where
+  pub name : List ℕ
+  pub number : table_number d name ≡ Some table
+  pub may : may_copy name d.node ≡ true
 
 abbrev pub none_after : List Version → Bool
 none_after [] = true
