@@ -5,6 +5,8 @@ use Rattle.sky_val.specs.declared.event.Event.{Event}
 use Rattle.sky_txid.specs.Snapshot.{SnapshotView}
 use Rattle.sky_names.specs.Places.{place_of}
 use Rattle.sky_model.specs.declared.stmt.InsertedEvent.{InsertedEvent}
+use Rattle.sky_names.proofs.PlaceLemmas.{place_of_within}
+use Rattle.sky_model.specs.StepNode.{table_number}
 use Rattle.sky_model.specs.declared.reply.Reply.{Reply}
 use Rattle.std.specs.Prelude.{not, ◌&&◌}
 use Rattle.sky_model.specs.declared.reply.Reply.TheVariants.{Number, Refused}
@@ -345,9 +347,14 @@ pub entered-steps : {E : Type 0} (d s : Database) (who : ℕ) (alone : Bool) (r 
 entered-steps d s who alone (Ok refusal) enters but = database_enter_from_exact d s who alone refusal enters but
 entered-steps d s who alone (Err e) enters but = tt
 
--- what is found in the rows, and in the queues, is so in the database
-pub table-there : (v now : DbView) (table : List ℕ) (n : ℕ) → v ≡ now → place_of table (seen v.rows).tables ≡ Some n → place_of table (seen_database now).part.tables ≡ Some n
-table-there v now table n same there = subst (λ (w : DbView). place_of table (seen w.rows).tables ≡ Some n) same there
+-- a table that the database has is among those of the rows
+pub table-there : (v now : DbView) (table : List ℕ) (n : ℕ) → v ≡ now → table_number (seen_database now) table ≡ Some n → place_of table (seen v.rows).tables ≡ Some n
+table-there v now table n same number = subst (λ (w : DbView). place_of table (seen w.rows).tables ≡ Some n) (sym same) number
+
+pub table-low : (v now : DbView) (table : List ℕ) (n : ℕ) → v ≡ now → table_number (seen_database now) table ≡ Some n → n < length (seen v.rows).tables
+table-low v now table n same number = place_of_within table (seen v.rows).tables n (table-there v now table n same number)
+
+-- what is found in the queues is so in the database
 
 pub queue-known : (v now : DbView) (queue : List ℕ) (q : ℕ) → v ≡ now → ((beside : Beside) → queue_called queue (seen_with beside v.queues) ≡ Ok q) → queue_called queue (seen_database now) ≡ Ok q
 queue-known v now queue q same known = subst (λ (w : DbView). queue_called queue (seen_database w) ≡ Ok q) same (known (with_node v.node (seen v.rows)))

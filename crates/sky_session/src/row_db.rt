@@ -74,6 +74,14 @@ impl RowDb {
         Some((number, self.state.schema(number)))
     }
 
+    /// The columns of the table of this number.
+    pub fn schema(&self, table: u32) -> &Schema
+        requires { table < length (seen self.now).tables }
+        ensures { result.now ≡ (seen self.now).columns table }
+    {
+        self.state.schema(table)
+    }
+
     /// The snapshot that the session's statements read by.
     pub fn snapshot(&self, who: SessionId) -> Result<Snapshot, NoMemory>
         ensures { IfOk result (λ snapshot. snapshot ≡ snapshot_for (seen self.now) ((seen self.now).session who)) }
