@@ -12,7 +12,7 @@ pub returns-in_err-check_ignored-clause-err : goal.returns-in_err-check_ignored-
 returns-in_err-check_ignored-clause-err c =
     let stop = c.in_err-check_ignored.field-0.0 in
     let stops =
-    bad-column (seen c.args.rows.now) c.args.queues.now.triggers c.args.table c.args.asked.now.name.now c.args.asked.now.ignored.now (sym c.has_trigger.ensures ∙ c.if-has_trigger.false)
+    bad-column (seen c.args.rows.now) c.args.queues.now.triggers c.args.table c.args.asked.now.name c.args.asked.now.ignored (sym c.has_trigger.ensures ∙ c.if-has_trigger.false)
     (subst (λ m. m < 8) c.trigger_count.ensures (subst (λ m. c.trigger_count.result < m) c.most.ensures c.if-trigger_count-most.false)) stop
-    (subst (λ columns. StopsAs stop (refused_by (option_map BadColumn (find (λ x. not (may_ignore columns x)) c.args.asked.now.ignored.now)))) c.requires c.in_err-check_ignored.ensures.err) in
+    (subst (λ columns. StopsAs stop (refused_by (option_map BadColumn (find (λ x. not (may_ignore columns x)) c.args.asked.now.ignored)))) c.requires c.in_err-check_ignored.ensures.err) in
     search (rules, stops)
