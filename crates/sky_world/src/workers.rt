@@ -1,8 +1,9 @@
 //! The workers of leaves: the statements that make their moves and restart them, and what a table that leaves a leaf
 //! leaves behind.
 
-ghost use Rattle.std.specs.Prelude.{◌≡◌, ◌<◌, [], ◌∷◌, true, false, Ok, Some, IfOk, IfErr, OnOk, OnErr, Err, is_some, option_copied, length, None, ◌==◌};
+ghost use Rattle.std.specs.Prelude.{◌≡◌, ◌<◌, [], ◌∷◌, true, false, Ok, Some, IfOk, IfErr, OnOk, OnErr, Err, is_some, option_copied, option_map, length, None, ◌==◌};
 ghost use Rattle.londiste_state.specs.Nodes.{of_leaf, tables_of, is_among};
+ghost use Rattle.sky_model.specs.Hands.{CopyHand, copy_in};
 ghost use Rattle.sky_model.specs.History.{in_hand, batch_in_hand};
 ghost use Rattle.sky_model.specs.Nodes.{is_leaf};
 ghost use Rattle.sky_model.specs.Stops.{StopsAs};
@@ -15,6 +16,7 @@ ghost use Rattle.sky_world.specs.Nodes.{Happened, Does, Ran, DoesAll, Stopped};
 ghost use Rattle.sky_world.specs.Whole.{IsWhole};
 ghost use Rattle.sky_world.specs.Workers.{copies, replays, leaf_called, leaf_with, leaving, lets_go_with, parts_with, stop_of, stopping};
 
+use crate::databases::two_of;
 use crate::nodes::same_columns;
 use crate::state::State;
 use londiste_copy::CopyWorker;
@@ -23,7 +25,6 @@ use londiste_state::{Leaf, Node};
 use pgq_db::WorkerFault;
 use sky_model::{Limit, Refusal, Reply, Stop};
 use sky_val::{NoMemory, Text};
-use std::mem;
 
 impl State {
     /// Runs `copy_step`: one move of the worker that copies the table.
@@ -53,14 +54,13 @@ impl State {
         ensures ok { IfOk result (λ replies. DoesAll self.old self.new replies.items (copies (seen_state self.old) provider database table.now)) }
         ensures err { IfErr result (λ stop. Stopped self.old self.new stop (copies (seen_state self.old) provider database table.now)) }
     {
-        let hand = self.hands.take(database, table);
+        let place = self.hands.place_for(database, table)?;
+        let hand = self.hands.take_at(place);
         let mut worker = CopyWorker::with_hand(self.alloc, hand);
-        mem::swap(&mut self.spare, self.databases.get_mut(provider));
-        let to = self.databases.get_mut(database);
-        let moved = worker.step(&mut self.spare, to, table);
-        mem::swap(&mut self.spare, self.databases.get_mut(provider));
-        let kept = self.hands.set(database, table, worker.into_hand());
-        if_kept(moved, kept)
+        let (from, to) = two_of(self.databases.stores_mut(), provider, database);
+        let moved = worker.step(from, to, table);
+        self.hands.put_at(place, worker.into_hand());
+        stopping(moved)
     }
 
     /// Runs `londiste_step`: one move of the leaf's worker.
@@ -87,10 +87,8 @@ impl State {
     {
         let hand = self.batches.get(database);
         let mut worker = ReplayWorker::with_hand(self.alloc, hand);
-        mem::swap(&mut self.spare, self.databases.get_mut(provider));
-        let to = self.databases.get_mut(database);
-        let moved = worker.step(&mut self.spare, to);
-        mem::swap(&mut self.spare, self.databases.get_mut(provider));
+        let (from, to) = two_of(self.databases.stores_mut(), provider, database);
+        let moved = worker.step(from, to);
         let kept = self.batches.set(database, worker.into_hand());
         if_kept(moved, kept)
     }
@@ -134,10 +132,8 @@ impl State {
     {
         let hand = self.hands.take(database, table);
         let mut worker = CopyWorker::with_hand(self.alloc, hand);
-        mem::swap(&mut self.spare, self.databases.get_mut(provider));
-        let to = self.databases.get_mut(database);
-        worker.restart(&mut self.spare, to, table);
-        mem::swap(&mut self.spare, self.databases.get_mut(provider));
+        let (from, to) = two_of(self.databases.stores_mut(), provider, database);
+        worker.restart(from, to, table);
     }
 
     /// A table leaves a leaf: the snapshot that is held for its copy is let go, its consumer leaves, if it has one, and a
@@ -157,12 +153,22 @@ impl State {
         requires whole { IsWhole self.old }
         ensures { Does self.old self.new result (moves (seen_state self.old) provider database (in_hand database table.now) (Ok (leaving table.now (option_copied consumer.entry) ((seen_state self.old).hands database table.now)))) }
     {
-        let hold = self.hands.hold(database, table);
+        let hold = self.take_hand(database, table);
         self.let_go_if(provider, hold);
         self.part_if(provider, consumer);
         self.drop_from_leaf(database, table);
-        self.empty_hand(database, table);
         Reply::Done
+    }
+
+    /// The worker that copies a table has nothing in hand from now on. If it had a copy, the number of the copy's hold is
+    /// given.
+    fn take_hand(&mut self, database: usize, table: &Text) -> Option<u64>
+        requires { IsWhole self.old }
+        ensures hold { result ≡ option_map CopyHand.hold (copy_in ((seen_state self.old).hands database table.now)) }
+        ensures happened { Happened self.old self.new (in_hand database table.now None ∷ []) }
+    {
+        let hand = self.hands.take(database, table)?;
+        hand.hold()
     }
 
     /// A snapshot that is held in a database is let go, if there is one.
@@ -218,14 +224,6 @@ impl State {
     {
         let store = self.databases.get_mut(database);
         store.leaf_drop(table);
-    }
-
-    /// The worker that copies a table has nothing in hand from now on.
-    fn empty_hand(&mut self, database: usize, table: &Text)
-        requires { IsWhole self.old }
-        ensures { Happened self.old self.new (in_hand database table.now None ∷ []) }
-    {
-        self.hands.take(database, table);
     }
 
     /// The leaf of a name, and the number of its database.
@@ -335,6 +333,13 @@ fn if_kept(
     ensures lost { OnErr kept (result ≡ Err Stop.NoMemory) }
 {
     kept?;
+    stopping(moved)
+}
+
+/// What a worker's move gave, as a statement gives it.
+fn stopping(moved: Result<Vec<Reply>, WorkerFault>) -> Result<Vec<Reply>, Stop>
+    ensures { result ≡ stopping moved }
+{
     match moved {
         Ok(replies) => Ok(replies),
         Err(fault) => Err(stop_of(fault)),
