@@ -1,5 +1,5 @@
 -- What the row part of a database runs in one call.
-use Rattle.std.specs.Prelude.{◌≡◌, ℕ, ⊥}
+use Rattle.std.specs.Prelude.{◌≡◌, ℕ}
 use Rattle.sky_model.specs.declared.stmt.RowStmt.{RowStmt}
 use Rattle.sky_model.specs.declared.stmt.RowStmt.TheVariants.{Commit}
 use Rattle.sky_model.specs.Calls.{row_turn}
