@@ -1,6 +1,6 @@
 //! The databases of a world.
 
-ghost use Rattle.std.specs.Prelude.{◌≡◌, ◌-◌, ◌^◌, ◌<◌, ◌==◌, [], ◌∷◌, ◌++◌, false, None, IfSome, OnOk, length, slice_index_or, slice_set};
+ghost use Rattle.std.specs.Prelude.{◌≡◌, ◌-◌, ◌^◌, ◌<◌, ◌==◌, [], ◌∷◌, ◌++◌, false, None, IfSome, OnOk, OnErr, length, slice_index_or, slice_set};
 ghost use Rattle.std.specs.Borrow.{Lends, LendsBoth, Array, sem};
 ghost use Rattle.sky_names.specs.Named.{with_value};
 ghost use Rattle.sky_names.specs.Places.{place_of};
@@ -94,6 +94,7 @@ impl Databases {
         requires new { place_of name self.old.names ≡ None }
         requires room { length self.old.names < 2 ^ 32 - 1 }
         ensures added { OnOk result (self.new ≡ record { names = self.old.names ++ name ∷ []; values = self.old.values ++ store ∷ [] }) }
+        ensures err { OnErr result (self.new ≡ self.old) }
     {
         self.stores.reserve(1)?;
         self.names.add(name)?;
