@@ -19,11 +19,11 @@ returns-clause-marks c = λ node.
     let last = ap (λ (stmt : RowStmt). after_marks d (first_switches d c.args.now c.args.who stmt)) (sym c.in-Commit.is) in
     elim c.match-txid.branch [
       | in-Some w ↦
-        ap (λ (q : QueuesView). seen_with (with_node node (seen c.args.rows.now)) q) w.queues-is
-        ∙ w.switch_tables.ensures.marks (with_node node (seen c.args.rows.now))
-        ∙ ap (λ (now : ℤ). after_marks d (switches_of d now (Some w.in-Some.txid))) (to_z-of_z w64 c.args.now c.ranges.now)
-        ∙ ap (λ (txid : Option ℕ). after_marks d (switches_of d c.args.now txid)) (sym w.in-Some.is ∙ planned) ∙ last
+          ap (λ (q : QueuesView). seen_with (with_node node (seen c.args.rows.now)) q) w.queues-is
+          ∙ w.switch_tables.ensures.marks (with_node node (seen c.args.rows.now))
+          ∙ ap (λ (now : ℤ). after_marks d (switches_of d now (Some w.in-Some.txid))) (to_z-of_z w64 c.args.now c.ranges.now)
+          ∙ ap (λ (txid : Option ℕ). after_marks d (switches_of d c.args.now txid)) (sym w.in-Some.is ∙ planned) ∙ last
       | in_default-txid w ↦
-        ap (λ (q : QueuesView). seen_with (with_node node (seen c.args.rows.now)) q) w.queues-is
-        ∙ ap (λ (txid : Option ℕ). after_marks d (switches_of d c.args.now txid)) (sym w.in_default-txid.is ∙ planned) ∙ last
+          ap (λ (q : QueuesView). seen_with (with_node node (seen c.args.rows.now)) q) w.queues-is
+          ∙ ap (λ (txid : Option ℕ). after_marks d (switches_of d c.args.now txid)) (sym w.in_default-txid.is ∙ planned) ∙ last
     ]
