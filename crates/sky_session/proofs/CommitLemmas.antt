@@ -1,9 +1,8 @@
 -- A `commit` by its plan is the statement.
-use Rattle.std.proofs.Common.{◌≡◌, ℕ, Option, Some, None, Result, Ok, Err, refl, sym, ◌∙◌, ap, subst}
+use Rattle.std.proofs.Common.{◌≡◌, ℕ, Option, Some, None, Ok, Err, refl, sym, ◌∙◌, ap}
 use Rattle.sky_keys.specs.Waits.{is_waiting}
 use Rattle.sky_model.specs.declared.stmt.RowStmt.TheVariants.{Commit}
 use Rattle.sky_model.specs.declared.stmt.Where.TheVariants.{WhenOpen}
-use Rattle.sky_model.specs.declared.stop.Stop.{Stop}
 use Rattle.sky_model.specs.Allowed.{allowed}
 use Rattle.sky_model.specs.Calls.{row_making, row_statement}
 use Rattle.sky_model.specs.Gates.{Gate, gated, by_gate}
@@ -14,12 +13,7 @@ use Rattle.sky_model.specs.Sessions.{Block, outside, inside, failed}
 use Rattle.sky_model.specs.State.{RowPart}
 use Rattle.sky_model.specs.StepSession.{commit}
 use Rattle.sky_session.specs.Committing.{plan_by, plan_if, plan_of, planned}
-use Rattle.sky_session.specs.Gives.{Ran, Passes, Writes}
-use Rattle.sky_session.specs.declared.answer.RowStep.{RowStep}
-use Rattle.sky_session.specs.declared.committing.CommitPlan.{CommitPlan}
 use Rattle.sky_session.specs.declared.committing.CommitPlan.TheVariants.{Commits}
-use Rattle.sky_state.specs.Seen.{seen}
-use Rattle.sky_state.specs.Views.{RowStateView}
 
 -- the transaction that is committed is the session's
 pub plans-own : (may : Checked (Unit {0})) (block : Block) (txid own : Option ℕ) → plan_if may block txid ≡ Commits own → own ≡ txid
@@ -29,7 +23,7 @@ plans-own (Ok _) inside txid own is = cc
 plans-own (Ok _) failed txid own is = absurd (cc)
 
 -- what is planned of a `commit` that is admitted is what it does
-planned-block : (who : ℕ) (block : Block) (txid : Option ℕ) → planned who txid (plan_by block txid) ≡ commit who txid block
+pub planned-block : (who : ℕ) (block : Block) (txid : Option ℕ) → planned who txid (plan_by block txid) ≡ commit who txid block
 planned-block who outside txid = refl
 planned-block who inside txid = refl
 planned-block who failed txid = refl
@@ -54,13 +48,3 @@ planned-statement gate g d who = by (allowed (is_waiting who d.waiting) (d.sessi
         ≡ runs_if (row_making (by_gate gate part_by_itself) who Commit) WhenOpen who (d, g) may
     by (Err refusal) = refl
     by (Ok _) = ap (or_refused who (d.session who)) (planned-gated gate g who (d.session who).block (d.session who).txid)
-
--- and a `commit` that was admitted with other statements is made by its plan too
-pub commit-writes : {G : Type 0} (gate : Gate G) (old new : RowStateView × G) (before after : RowStep) (who : ℕ) (result : Result (Unit {0}) Stop) (plan : CommitPlan)
-    → plan ≡ plan_by ((seen old.0).session who).block ((seen old.0).session who).txid → Ran old.0 new.0 before after who result (planned who ((seen old.0).session who).txid plan)
-    → Passes gate old.1 new.1 result (planned who ((seen old.0).session who).txid plan)
-    → Writes gate old new before after who result (commit who ((seen old.0).session who).txid ((seen old.0).session who).block)
-commit-writes gate old new before after who result plan is ran passes =
-    let s = (seen old.0).session who in
-    let same : planned who s.txid plan ≡ gated gate old.1 (commit who s.txid s.block) = ap (planned who s.txid) is ∙ planned-gated gate old.1 who s.block s.txid in
-    record { ran = subst (Ran old.0 new.0 before after who result) same ran; passes = subst (Passes gate old.1 new.1 result) same passes }

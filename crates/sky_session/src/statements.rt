@@ -10,7 +10,7 @@ ghost use Rattle.sky_model.specs.Sessions.{outside};
 ghost use Rattle.sky_model.specs.State.{after_part_marks};
 ghost use Rattle.sky_model.specs.ShownRows.{rows_by};
 ghost use Rattle.sky_model.specs.Outcome.{Outcome, Checked, or_refused};
-ghost use Rattle.sky_model.specs.StepSession.{open_db, begin, begin_repeatable_read, rollback, close, cancel, leaves, txid_current, txid_current_snapshot, txid_visible_in_snapshot};
+ghost use Rattle.sky_model.specs.StepSession.{open_db, begin, begin_repeatable_read, commit, rollback, close, cancel, leaves, txid_current, txid_current_snapshot, txid_visible_in_snapshot};
 ghost use Rattle.sky_model.specs.Calls.{row_form, row_statement};
 ghost use Rattle.sky_model.specs.Reader.{part_by_itself};
 ghost use Rattle.sky_model.specs.Settling.{turn_of};
@@ -128,7 +128,7 @@ fn run_form<G: WriteGate>(
         RowStmt::Cancel => cancel(state, who, gate, step),
         RowStmt::Begin => begin(state, who, step),
         RowStmt::BeginRepeatableRead => begin_repeatable_read(state, who, step),
-        RowStmt::Commit => commit(state, who, plan_of_block(state, who), gate, step),
+        RowStmt::Commit => commit_unplanned(state, who, gate, step),
         RowStmt::Rollback => rollback(state, who, gate, step),
         RowStmt::TxidCurrent => txid_current(state, who, step),
         RowStmt::TxidCurrentSnapshot => txid_current_snapshot(state, who, step),
@@ -219,6 +219,22 @@ fn begin_repeatable_read(
     state.block_begun(who)?;
     state.repeats(who)?;
     Ok(step.answer(who, Reply::Begin)?)
+}
+
+/// `commit`, if no plan was made for it before.
+// Never inlined, so that no other statement has room for a plan, which is as large as a refusal.
+#[inline(never)]
+fn commit_unplanned<G: WriteGate>(
+    state: &mut RowState,
+    who: SessionId,
+    gate: &mut G,
+    step: &mut RowStep,
+) -> Result<(), Stop>
+    ensures ran { Ran state.old state.new step.old step.new who result (commit who ((seen state.old).session who).txid ((seen state.old).session who).block) }
+    ensures passes { Passes G.rule gate.old gate.new result (commit who ((seen state.old).session who).txid ((seen state.old).session who).block) }
+{
+    let plan = plan_of_block(state, who);
+    commit(state, who, plan, gate, step)
 }
 
 /// `commit`, by its plan.

@@ -1,5 +1,5 @@
--- A read writes nothing, so no gate is asked, and neither does a `commit`. The columns of a new table have names, as the statement is in form.
-use Rattle.std.proofs.Common.{Ok, sym, ◌∙◌, subst}
+-- A read writes nothing, so no gate is asked. The columns of a new table have names, as the statement is in form.
+use Rattle.std.proofs.Common.{sym, subst}
 use Rattle.sky_model.specs.ShownRows.{rows_by}
 use Rattle.sky_model.specs.StepRows.{get}
 use Rattle.sky_model.specs.Calls.{row_form}
@@ -8,7 +8,6 @@ use Rattle.sky_session.specs.Gives.{Writes}
 use Rattle.sky_state.specs.Seen.{seen}
 use Rattle.sky_model.specs.InForm.{IsRowInForm}
 use Rattle.sky_session.proofs.Steps.{unnoticed-get, writes-plain}
-use Rattle.sky_session.proofs.CommitLemmas.{plans-own, commit-writes}
 use Rattle.sky_session.proofs.FormLemmas.{columns_named}
 use Rattle.sky_session.proofs.statements.run_form.Goals as goal
 
@@ -21,12 +20,3 @@ returns-in-Get g c =
 
 pub create_table-requires : goal.create_table-requires
 create_table-requires g c = columns_named c.in-CreateTable.columns (subst IsRowInForm c.in-CreateTable.is c.requires.form).1.1
-
-pub commit-requires : goal.commit-requires
-commit-requires g c = λ txid is. let s = (seen c.args.state.now).session c.args.who in plans-own (Ok tt) s.block s.txid txid (sym c.plan_of_block.ensures ∙ is)
-
-pub returns-in-Commit : goal.returns-in-Commit
-returns-in-Commit g c =
-    let d = seen c.args.state.now in
-    subst (λ stmt. Writes g.G.WriteGate.rule (c.args.state.now, c.args.gate.now) (c.commit.new.state, c.commit.new.gate) c.args.step.now c.commit.new.step c.args.who c.commit.result (row_form d (rows_by d) c.args.who stmt)) (sym c.in-Commit.is)
-    (commit-writes g.G.WriteGate.rule (c.args.state.now, c.args.gate.now) (c.commit.new.state, c.commit.new.gate) c.args.step.now c.commit.new.step c.args.who c.commit.result c.plan_of_block.result c.plan_of_block.ensures c.commit.ensures.ran c.commit.ensures.passes)
