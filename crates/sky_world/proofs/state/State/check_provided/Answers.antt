@@ -32,11 +32,11 @@ returns-in_ok-table-in_default-table-clause-err c =
     let differs : are_columns c.args.columns.now (columns_called c.args.table.now (w.database c.in-Some.provider)) ≡ false =
     elim c.in_default-table.branch [
       | in_default-table-via-in-Some-table+else-same_columns x ↦
-        ap (are_columns c.args.columns.now) (sym (columns-found (seen_database c.store.result.now) (w.database c.in-Some.provider) c.args.table.now _ _ x.in-Some-table.ensures.0 x.in-Some-table.ensures.1 c.store.ensures))
-        ∙ ap (same_columns c.args.columns.now) (sym x.columns.ensures.value) ∙ sym x.same_columns.ensures ∙ x.if-same_columns.false
+          ap (are_columns c.args.columns.now) (sym (columns-found (seen_database c.store.result.now) (w.database c.in-Some.provider) c.args.table.now _ _ x.in-Some-table.ensures.0 x.in-Some-table.ensures.1 c.store.ensures))
+          ∙ ap (same_columns c.args.columns.now) (sym x.columns.ensures.value) ∙ sym x.same_columns.ensures ∙ x.if-same_columns.false
       | in_default-table-via-in_default-table x ↦
-        ap (λ (d : Database). are_columns c.args.columns.now (columns_called c.args.table.now d)) (sym c.store.ensures)
-        ∙ ap (λ o. are_columns c.args.columns.now (option_map (seen_database c.store.result.now).part.columns o)) x.in_default-table.ensures
+          ap (λ (d : Database). are_columns c.args.columns.now (columns_called c.args.table.now d)) (sym c.store.ensures)
+          ∙ ap (λ o. are_columns c.args.columns.now (option_map (seen_database c.store.result.now).part.columns o)) x.in_default-table.ensures
     ] in
     tested w c.args.columns.now c.args.table.now _ c.in-Some.provider false
     (ap (λ name. provides c.args.table.now (node_called w name)) (sym c.provider.ensures) ∙ sym c.in-Some.ensures.database) differs
