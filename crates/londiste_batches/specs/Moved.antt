@@ -8,8 +8,8 @@ use Rattle.sky_model.specs.Outcome.{Checked, marks_of}
 use Rattle.sky_model.specs.StepNode.{NodeCall, node_does}
 use Rattle.sky_model.specs.WorkerMoves.{Move}
 use Rattle.sky_model.specs.Stops.{Refuses}
-use Rattle.pgq_db.specs.declared.faults.WorkerFault.{WorkerFault}
-use Rattle.pgq_db.specs.declared.faults.WorkerFault.TheVariants as fault
+use Rattle.londiste_calls.specs.declared.faults.WorkerFault.{WorkerFault}
+use Rattle.londiste_calls.specs.declared.faults.WorkerFault.TheVariants as fault
 
 -- a database after a call, and after calls, one after another
 abbrev pub after_call : Database → NodeCall → Database

@@ -7,7 +7,7 @@ ghost use Rattle.sky_model.specs.History as history;
 ghost use Rattle.sky_model.specs.State.{Database};
 ghost use Rattle.sky_model.specs.StepApply.{may_apply};
 ghost use Rattle.sky_model.specs.StepNode.{set_queue, finishing};
-ghost use Rattle.pgq_db.specs.Applying.{pick_of};
+ghost use Rattle.londiste_calls.specs.Picks.{pick_of};
 ghost use Rattle.pgq_db.specs.Seen.{seen_database};
 ghost use Rattle.pgq_db.specs.Served.{Serves};
 ghost use Rattle.londiste_batches.specs.Moved.{MovesBy, MoveRefused};

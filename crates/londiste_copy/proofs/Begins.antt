@@ -28,13 +28,13 @@ use Rattle.sky_model.specs.StepNode.{joining, parting, holding, beginning_copy, 
 use Rattle.sky_model.specs.NodesOfWorld.{columns_called}
 use Rattle.sky_model.specs.Hands.{CopyHand}
 use Rattle.sky_model.specs.WorkerMoves.{Move, behind_calls}
-use Rattle.sky_model.specs.CopyMoves.{copy_running, held_snapshot, newest_of, first_hand, copy_consumer, next_piece, starts_copy}
+use Rattle.sky_model.specs.CopyMoves.{held_snapshot, newest_of, first_hand, copy_consumer, next_piece, starts_copy}
 use Rattle.sky_model.specs.DatabaseSteps.{IsMade}
 use Rattle.sky_model.proofs.LeastNumbers.{least-free}
 use Rattle.sky_histories.proofs.NodeDeeds.{is-served}
 use Rattle.sky_histories.proofs.MadeCopies.{room-without}
-use Rattle.pgq_db.specs.declared.faults.JoinFault.{JoinFault}
-use Rattle.pgq_db.specs.declared.faults.JoinFault.TheVariants as join
+use Rattle.londiste_calls.specs.declared.faults.JoinFault.{JoinFault}
+use Rattle.londiste_calls.specs.declared.faults.JoinFault.TheVariants as join
 use Rattle.pgq_db.specs.Served.{Serves, JoinRefused}
 use Rattle.pgq_db.proofs.CopySteps.{tabled-marks}
 use Rattle.londiste_batches.specs.Moved.{ServesAll}
@@ -184,46 +184,46 @@ written-called : (d : Database) (table t : ℕ) (ws : List Write) (name : List �
 written-called d table t ws name =
     ap (columns_called name) (tabled-marks d table t ws) ∙ (λ i. option_map (written-columns d.part table t ws i) (place_of name (written-tables d.part table t ws i)))
 
+pub written-names : (d : Database) (table t : ℕ) (ws : List Write) → (after_marks d (copy_writes d.part table t ws)).part.tables ≡ d.part.tables
+written-names d table t ws = ap (λ (x : Database). x.part.tables) (tabled-marks d table t ws) ∙ written-tables d.part table t ws
+
 pub written-node : (d : Database) (table t : ℕ) (ws : List Write) → (after_marks d (copy_writes d.part table t ws)).node ≡ d.node
 written-node d table t ws = ap Database.node (tabled-marks d table t ws)
 
--- neither the node nor the columns change
+-- neither the node nor the tables' names and columns change
 record Cleared (r s : Database) (name : List ℕ) : Type 0 where
   pub t : ℕ
   pub left : next_id r.part ≡ Ok t
   pub node : s.node ≡ r.node
+  pub tables : s.part.tables ≡ r.part.tables
   pub columns : columns_called name s ≡ columns_called name r
 
-module _ (r : Database) (name : List ℕ) (may : may_copy name r.node ≡ true) (idle : copy_running r name ≡ None) where
-  begins-there : (table : ℕ) → table_number r name ≡ Some table → node_does r (beginning_copy name) ≡ begins_copy r table None
-  begins-there table there =
-      is-served r (beginning_copy name) may ∙ ap (λ o. if_there o (λ n. begins_copy r n (copy_txid n r.copies))) there
-      ∙ ap (begins_copy r table) (sym (ap (option_and_then (λ n. copy_txid n r.copies)) there) ∙ idle)
+module _ (r : Database) (name : List ℕ) (table : ℕ) (number : table_number r name ≡ Some table) (may : may_copy name r.node ≡ true) (idle : copy_txid table r.copies ≡ None) where
+  begins-there : node_does r (beginning_copy name) ≡ begins_copy r table None
+  begins-there =
+      is-served r (beginning_copy name) may ∙ ap (λ o. if_there o (λ n. begins_copy r n (copy_txid n r.copies))) number ∙ ap (begins_copy r table) idle
 
-  begins-with : (table : ℕ) → table_number r name ≡ Some table → (c : Checked ℕ) → next_id r.part ≡ c → node_does r (beginning_copy name)
+  begins-with : (c : Checked ℕ) → next_id r.part ≡ c → node_does r (beginning_copy name)
       ≡ (c >>= (λ u. does_marks Done (began (of_copy table) u ∷ copy_writes (after_part r.part (began (of_copy table) u)) table u (deletions (rows_now r.part table)))))
-  begins-with table there c left =
-      begins-there table there
+  begins-with c left =
+      begins-there
       ∙ ap (λ x. x >>= (λ u. does_marks Done (began (of_copy table) u ∷ copy_writes (after_part r.part (began (of_copy table) u)) table u (deletions (rows_now r.part table))))) left
 
-  cleared-by : (table : ℕ) → table_number r name ≡ Some table → (c : Checked ℕ) → next_id r.part ≡ c → (s : Database) → Serves r s (beginning_copy name) → Cleared r s name
-  cleared-by table there (Err refusal) left s serves = absurd (let none : is_ok (node_does r (beginning_copy name)) ≡ false = ap is_ok (begins-with table there (Err refusal) left) in cc)
-  cleared-by table there (Ok t) left s serves =
+  cleared-by : (c : Checked ℕ) → next_id r.part ≡ c → (s : Database) → Serves r s (beginning_copy name) → Cleared r s name
+  cleared-by (Err refusal) left s serves = absurd (let none : is_ok (node_does r (beginning_copy name)) ≡ false = ap is_ok (begins-with (Err refusal) left) in cc)
+  cleared-by (Ok t) left s serves =
       let one : Database = after_mark r (began (of_copy table) t) in
       let ws : List Write = deletions (rows_now r.part table) in
-      let to : s ≡ after_marks one (copy_writes one.part table t ws) = serves.changed ∙ ap (λ c. after_marks r (marks_of c)) (begins-with table there (Ok t) left) in record {
+      let to : s ≡ after_marks one (copy_writes one.part table t ws) = serves.changed ∙ ap (λ c. after_marks r (marks_of c)) (begins-with (Ok t) left) in record {
         t = t;
         left = left;
         node = ap Database.node to ∙ written-node one table t ws;
+        tables = ap (λ (x : Database). x.part.tables) to ∙ written-names one table t ws;
         columns = ap (columns_called name) to ∙ written-called one table t ws name;
       }
 
-  cleared : is_some (table_number r name) ≡ true → (s : Database) → Serves r s (beginning_copy name) → Cleared r s name
-  cleared there s serves = at (table_number r name) refl there
-    where
-      at : (o : Option ℕ) → table_number r name ≡ o → is_some o ≡ true → Cleared r s name
-      at None is there = absurd (cc)
-      at (Some table) is there = cleared-by table is (next_id r.part) refl s serves
+  cleared : (s : Database) → Serves r s (beginning_copy name) → Cleared r s name
+  cleared s serves = cleared-by (next_id r.part) refl s serves
 
 -- ---- all of this together
 
@@ -234,14 +234,6 @@ module _ (p r : Database) (name : List ℕ) where
 
   starts-well : is_full p (copy_consumer r.node) ≡ false → sub_ids_spent p ≡ false → (t : ℕ) → next_id r.part ≡ Ok t → starts_copy p r name ≡ Ok (first_move (first_hand p))
   starts-well free unspent t left = λ i. refused_if (free i) (TooMany Consumers) >> (refused_if (unspent i) IdsSpent >> (left i >>= (λ u. Ok (first_move (first_hand p)))))
-
--- the replica has the table too
-also-there : (p r : Database) (name : List ℕ) → SameTable p r name → is_some (table_number r name) ≡ true
-also-there p r name same = columned r (table_number r name) ∙ sym (ap is_some same.columns) ∙ sym (columned p (table_number p name)) ∙ same.there
-  where
-    columned : (d : Database) (o : Option ℕ) → is_some o ≡ is_some (option_map d.part.columns o)
-    columned d None = refl
-    columned d (Some t) = refl
 
 module _ (p r : Database) (name consumer : List ℕ) (made : IsMade p) (root : is_some (set_queue p) ≡ true) (of_node : consumer ≡ copy_consumer r.node) (free : is_full p consumer ≡ false) (unspent : sub_ids_spent p ≡ false) where
   refused-not : (s : Database) → Serves p s (parting consumer) → (refusal : Refusal) → node_does s (joining consumer) ≡ Err refusal → ⊥
@@ -258,13 +250,13 @@ module _ (p r : Database) (name consumer : List ℕ) (made : IsMade p) (root : i
   not-refused s j leaves join.IdsSpent other refuses = refused-not s leaves IdsSpent refuses.refused
   not-refused s j leaves join.NoMemory other refuses = other refl
 
-  module _ (same : SameTable p r name) (idle : copy_running r name ≡ None) (may : may_copy name r.node ≡ true) (s j h c : Database) (number tick : ℕ) (begins : Serves r c (beginning_copy name)) (leaves : Serves p s (parting consumer))
+  module _ (from to : ℕ) (same : SameTable p r name from to) (idle : copy_txid to r.copies ≡ None) (may : may_copy name r.node ≡ true) (s j h c : Database) (number tick : ℕ) (begins : Serves r c (beginning_copy name)) (leaves : Serves p s (parting consumer))
       (newest : option_map (λ queue. newest_id (s.queue queue)) (set_queue s) ≡ Some tick) (returns : Serves s j (joining consumer)) (answered : reply_of (node_does j holding) ≡ Number number) (holds : Serves j h holding) where
     begun-at : (q : ℕ) → set_queue p ≡ Some q → Begun p h r c name (record { hold = number; tick = tick; last = None })
     begun-at q set =
         let is : Parted p s q consumer = parted-as p made q consumer set free s leaves in
         let held : Held p h = held-as p s j h q consumer is unspent returns holds in
-        let clear : Cleared r c name = cleared r name may idle (also-there p r name same) c begins in
+        let clear : Cleared r c name = cleared r name to same.here may idle c begins in
         let numbered : number ≡ least_free (map Hold.number p.holds) = hold-first p s j h q consumer is unspent returns number answered in
         let ticked : tick ≡ newest_of p = tick-first p s j h q consumer is unspent returns tick set newest in
         let first : ◌≡◌ {A = CopyHand} (record { hold = number; tick = tick; last = None }) (first_hand p) = (λ i. record { hold = numbered i; tick = ticked i; last = None }) in record {
@@ -276,6 +268,7 @@ module _ (p r : Database) (name consumer : List ℕ) (made : IsMade p) (root : i
           held = ap (held_snapshot h) numbered ∙ held.held;
           rows = held.rows;
           node = clear.node;
+          tables = clear.tables;
           columns = clear.columns;
         }
 

@@ -23,8 +23,8 @@ use Rattle.sky_model.specs.WorkerMoves.{Move, handing, moves_to, only_prints}
 use Rattle.sky_model.specs.BatchMoves.{Follower, goes_through, takes_next}
 use Rattle.sky_model.specs.CopyMoves.{catches_up, copier, copy_consumer, copy_running, covers, starts_or_continues, hands_over, has_caught_up, if_copied, table_at, table_move, moves_in, copy_move, goes_through_or}
 use Rattle.sky_model.proofs.Cases.{by_test}
-use Rattle.pgq_db.specs.declared.faults.WorkerFault.{WorkerFault}
-use Rattle.pgq_db.specs.declared.faults.WorkerFault.TheVariants as fault
+use Rattle.londiste_calls.specs.declared.faults.WorkerFault.{WorkerFault}
+use Rattle.londiste_calls.specs.declared.faults.WorkerFault.TheVariants as fault
 use Rattle.pgq_db.specs.Served.{Serves}
 use Rattle.londiste_batches.specs.Moved.{ServesAll, MovesBy, MoveRefused}
 use Rattle.londiste_batches.proofs.Calls.{serves-none, serves-one}

@@ -1,5 +1,5 @@
 -- A whole move, from what its parts did.
-use Rattle.std.proofs.Common.{◌≡◌, ℕ, ◌<◌, ◌≤◌, Bool, true, false, List, [], ◌∷◌, take, length, nat_lt, Option, Some, None, IfSome, is_some, option_map, unwrap_or, refl, sym, ◌∙◌, ap, subst, arith, if◌then◌else◌}
+use Rattle.std.proofs.Common.{◌≡◌, ℕ, ◌<◌, ◌≤◌, Bool, true, false, List, [], ◌∷◌, take, length, nat_lt, Option, Some, None, IfSome, is_some, option_map, option_and_then, unwrap_or, refl, sym, ◌∙◌, ap, subst, arith, if◌then◌else◌}
 use Rattle.std.proofs.lemmas.Bool.Decides.{nat_tests}
 use Rattle.sky_val.specs.declared.val.Val.{Val}
 use Rattle.sky_val.specs.Entries.{Entries}
@@ -11,6 +11,7 @@ use Rattle.londiste_state.specs.declared.state.TableState.TheVariants.{CatchingU
 use Rattle.sky_model.specs.declared.reply.Reply.{Reply}
 use Rattle.sky_model.specs.declared.reply.Reply.TheVariants.{AwaitsTable, Done, Null, RowsCopied, TableMoved}
 use Rattle.sky_model.specs.Copies.{copy_txid}
+use Rattle.sky_model.specs.Rows.{Write}
 use Rattle.sky_model.specs.Nodes.{leaf_tables}
 use Rattle.sky_model.specs.State.{RowPart, Database, after_marks}
 use Rattle.sky_model.specs.ShownRows.{snapshot_now}
@@ -19,37 +20,49 @@ use Rattle.sky_model.specs.StepCopy.{copy_writes, insertions, all_fit, copies_ro
 use Rattle.sky_model.specs.StepNode.{NodeCall, copying_rows, ending_copy, letting_go, if_there, table_number, may_copy}
 use Rattle.sky_model.specs.Hands.{CopyHand}
 use Rattle.sky_model.specs.WorkerMoves.{Move, behind_calls}
-use Rattle.sky_model.specs.CopyMoves.{columns_for, continues, copies_piece, starts_or_continues, held_snapshot, last_key, next_piece, rows_from, rows_of, starts_copy, under_way}
+use Rattle.sky_model.specs.CopyMoves.{columns_for, copy_running, continues, copies_piece, starts_or_continues, held_snapshot, last_key, next_piece, rows_from, rows_of, starts_copy, under_way}
 use Rattle.sky_model.specs.DatabaseSteps.{IsMade}
 use Rattle.sky_histories.proofs.NodeDeeds.{is-served}
 use Rattle.pgq_db.specs.Served.{Serves}
 use Rattle.londiste_batches.specs.Moved.{ServesAll, MovesAs, MovesBy}
 use Rattle.londiste_copy.specs.Copying.{SameTable, Begun, last_row_key}
-use Rattle.londiste_batches.proofs.Calls.{serves-none, serves-one, serves-then, serves-append, made-served_all}
+use Rattle.londiste_batches.proofs.Calls.{serves-none, serves-one, serves-then, serves-append}
 use Rattle.londiste_copy.proofs.Pieces.{piece-fits, piece-last, piece-count}
-use Rattle.londiste_copy.proofs.Begins.{written-node}
+use Rattle.londiste_copy.proofs.Begins.{written-names, written-node}
 
--- ---- rows that are copied leave the replica's node as it is
+-- ---- rows that are copied leave the replica's node as it is, and the names of its tables
 
-copied-node : (r s : Database) (name : List ℕ) (rows : List (List Val)) → may_copy name r.node ≡ true → Serves r s (copying_rows name rows) → s.node ≡ r.node
-copied-node r s name rows may serves = ap Database.node (serves.changed ∙ ap (λ c. after_marks r (marks_of c)) (is-served r (copying_rows name rows) may)) ∙ of (table_number r name)
+copied-still : {A : Type 0} (f : Database → A) (r s : Database) (name : List ℕ) (rows : List (List Val)) → ((table t : ℕ) (ws : List Write) → f (after_marks r (copy_writes r.part table t ws)) ≡ f r)
+    → may_copy name r.node ≡ true → Serves r s (copying_rows name rows) → f s ≡ f r
+copied-still f r s name rows kept may serves = ap f (serves.changed ∙ ap (λ c. after_marks r (marks_of c)) (is-served r (copying_rows name rows) may)) ∙ of (table_number r name)
   where
-    fitting : (table t : ℕ) (b : Bool) → (after_marks r (marks_of (if b then does_marks Done (copy_writes r.part table t (insertions (r.part.columns table) rows)) else answers Null))).node ≡ r.node
-    fitting table t true = written-node r table t (insertions (r.part.columns table) rows)
+    fitting : (table t : ℕ) (b : Bool) → f (after_marks r (marks_of (if b then does_marks Done (copy_writes r.part table t (insertions (r.part.columns table) rows)) else answers Null))) ≡ f r
+    fitting table t true = kept table t (insertions (r.part.columns table) rows)
     fitting table t false = refl
 
-    running : (table : ℕ) (o : Option ℕ) → (after_marks r (marks_of (if_there o (λ t. copies_rows r table t rows)))).node ≡ r.node
+    running : (table : ℕ) (o : Option ℕ) → f (after_marks r (marks_of (if_there o (λ t. copies_rows r table t rows)))) ≡ f r
     running table None = refl
     running table (Some t) = fitting table t (all_fit (r.part.columns table) rows)
 
-    of : (o : Option ℕ) → (after_marks r (marks_of (if_there o (λ table. if_there (copy_txid table r.copies) (λ t. copies_rows r table t rows))))).node ≡ r.node
+    of : (o : Option ℕ) → f (after_marks r (marks_of (if_there o (λ table. if_there (copy_txid table r.copies) (λ t. copies_rows r table t rows))))) ≡ f r
     of None = refl
     of (Some table) = running table (copy_txid table r.copies)
 
 pub still-may : (r s : Database) (name : List ℕ) (rows : List (List Val)) → may_copy name r.node ≡ true → Serves r s (copying_rows name rows) → may_copy name s.node ≡ true
-still-may r s name rows may serves = ap (may_copy name) (copied-node r s name rows may serves) ∙ may
+still-may r s name rows may serves = ap (may_copy name) (copied-still Database.node r s name rows (written-node r) may serves) ∙ may
+
+pub still-numbered : (r s : Database) (name : List ℕ) (rows : List (List Val)) → may_copy name r.node ≡ true → Serves r s (copying_rows name rows) → (table : ℕ) → table_number r name ≡ Some table → table_number s name ≡ Some table
+still-numbered r s name rows may serves table number = ap (place_of name) (copied-still (λ d. d.part.tables) r s name rows (written-names r) may serves) ∙ number
 
 -- ---- the next rows are copied
+
+-- the columns of a table of a number
+pub columns-at : (d : Database) (name : List ℕ) (table : ℕ) → table_number d name ≡ Some table → d.part.columns table ≡ columns_for d name
+columns-at d name table number = sym (ap (λ o. unwrap_or (option_map d.part.columns o) []) number)
+
+-- and the copy of it that runs
+pub running-at : (d : Database) (name : List ℕ) (table : ℕ) → table_number d name ≡ Some table → copy_running d name ≡ copy_txid table d.copies
+running-at d name table number = ap (option_and_then (λ t. copy_txid t d.copies)) number
 
 -- rows that were read for a hand, and how many they are
 module _ (p r : Database) (made : IsMade p) (name : List ℕ) (v hand : CopyHand) (same : v ≡ hand) (after : Option (List Val)) (from : after ≡ v.last) (rows : List (List Val))
@@ -60,8 +73,8 @@ module _ (p r : Database) (made : IsMade p) (name : List ℕ) (v hand : CopyHand
       (subst (λ k. IfSome (held_snapshot p v.hold) (λ s. rows ≡ rows_of (rows_from p name s k 1000))) from read)
 
   -- they fit the replica's table
-  pub rows-fit : SameTable p r name → is_some (held_snapshot p hand.hold) ≡ true → all_fit (columns_for r name) rows ≡ true
-  rows-fit table held = by (held_snapshot p hand.hold) held reads
+  pub rows-fit : (source to : ℕ) → SameTable p r name source to → is_some (held_snapshot p hand.hold) ≡ true → all_fit (r.part.columns to) rows ≡ true
+  rows-fit source to table held = ap (λ columns. all_fit columns rows) (columns-at r name to table.here) ∙ by (held_snapshot p hand.hold) held reads
     where
       by : (o : Option SnapshotView) → is_some o ≡ true → IfSome o (λ s. rows ≡ rows_of (rows_from p name s hand.last 1000)) → all_fit (columns_for r name) rows ≡ true
       by None held is = absurd (cc)
@@ -160,25 +173,13 @@ moves-begun p m p_new r n r_new name hand replies now begun piece = record {
       (subst (λ o. IfSome o (λ s. MovesAs (next_piece m name s hand) m p_new n r_new replies now)) begun.held piece));
 }
 
--- what a piece asks of the two databases after that
-pub record Ready (m n : Database) (name : List ℕ) (hand : CopyHand) : Type 0 where
-  pub provider : IsMade m
-  pub replica : IsMade n
-  pub same : SameTable m n name
-  pub held : is_some (held_snapshot m hand.hold) ≡ true
-  pub may : may_copy name n.node ≡ true
-
-pub ready-begun : (p r m n : Database) (name : List ℕ) (hand : CopyHand) → IsMade p → IsMade r → SameTable p r name → may_copy name r.node ≡ true → Begun p m r n name hand → Ready m n name hand
-ready-begun p r m n name hand made also same may begun = record {
-  provider = made-served_all p m _ made begun.provider;
-  replica = made-served_all r n _ also begun.replica;
-  same = record {
-    joined = subst (λ x. is_among name (leaf_tables x) ≡ true) (sym begun.node) same.joined;
-    there = subst (λ (x : RowPart). is_some (place_of name x.tables) ≡ true) (sym begun.rows) same.there;
-    columns = ap (λ (x : RowPart). option_map x.columns (place_of name x.tables)) begun.rows ∙ same.columns ∙ sym begun.columns;
-  };
-  held = ap is_some begun.held;
-  may = ap (may_copy name) begun.node ∙ may;
+-- both databases have the table as before
+pub same-begun : (p r m n : Database) (name : List ℕ) (from to : ℕ) (hand : CopyHand) → SameTable p r name from to → Begun p m r n name hand → SameTable m n name from to
+same-begun p r m n name from to hand same begun = record {
+  joined = subst (λ x. is_among name (leaf_tables x) ≡ true) (sym begun.node) same.joined;
+  there = ap (λ (x : RowPart). place_of name x.tables) begun.rows ∙ same.there;
+  here = ap (place_of name) begun.tables ∙ same.here;
+  columns = ap (λ (x : RowPart). option_map x.columns (place_of name x.tables)) begun.rows ∙ same.columns ∙ sym begun.columns;
 }
 
 -- one that is in hand goes on

@@ -9,13 +9,13 @@ ghost use Rattle.sky_model.specs.CopyMoves.{catches_up, copier, copy_consumer, c
 ghost use Rattle.sky_model.specs.DatabaseSteps.{IsMade};
 ghost use Rattle.sky_model.specs.History.{copy_of};
 ghost use Rattle.sky_model.specs.StepApply.{may_apply};
-ghost use Rattle.sky_model.specs.StepNode.{set_queue};
+ghost use Rattle.sky_model.specs.StepNode.{set_queue, table_number};
 ghost use Rattle.pgq_db.specs.Seen.{seen_database};
 ghost use Rattle.londiste_batches.specs.Moved.{MovesBy, MoveRefused};
 ghost use Rattle.londiste_copy.specs.CatchingUp.{is_following, progress_of, the_table, without_batch};
 
 use crate::copying::copy_consumer;
-use crate::table::{Progress, table_at};
+use crate::table::{CopiedTable, Progress, table_at};
 use londiste_batches::{BatchHand, go_through, move_table, take_next};
 use londiste_state::{Node, TableState};
 use pgq_db::{Db, Pick, WorkerFault};
@@ -30,20 +30,21 @@ pub(crate) fn follow(
     alloc: Global,
     provider: &mut Db,
     replica: &mut Db,
-    table: &Text,
+    table: &CopiedTable,
     progress: Progress,
     hand: Option<BatchHand>,
     replies: &mut Vec<Reply>,
 ) -> Result<Option<BatchHand>, WorkerFault>
     requires replica_made { IsMade (seen_database replica.old) }
     requires root { is_some (set_queue (seen_database provider.old)) ≡ true }
-    requires progress { progress ≡ progress_of (the_table table.now (seen_database replica.old).node) }
+    requires progress { progress ≡ progress_of (the_table table.now.name.now (seen_database replica.old).node) }
     requires state { is_following progress.state ≡ true }
-    requires may { may_apply (copy_of table.now) (seen_database replica.old).node ≡ true }
+    requires may { may_apply (copy_of table.now.name.now) (seen_database replica.old).node ≡ true }
+    requires number { table_number (seen_database replica.old) table.now.name.now ≡ Some table.now.to }
     requires nothing { replies.old.items ≡ [] }
-    ensures moves { IfOk result (λ now. MovesBy (goes_through_or (seen_database provider.old) (seen_database replica.old) (the_table table.now (seen_database replica.old).node) hand (without_batch progress.state (seen_database provider.old) (seen_database replica.old) (the_table table.now (seen_database replica.old).node)))
+    ensures moves { IfOk result (λ now. MovesBy (goes_through_or (seen_database provider.old) (seen_database replica.old) (the_table table.now.name.now (seen_database replica.old).node) hand (without_batch progress.state (seen_database provider.old) (seen_database replica.old) (the_table table.now.name.now (seen_database replica.old).node)))
         (seen_database provider.old) (seen_database provider.new) (seen_database replica.old) (seen_database replica.new) replies.new.items now) }
-    ensures fault { IfErr result (λ fault. MoveRefused fault (goes_through_or (seen_database provider.old) (seen_database replica.old) (the_table table.now (seen_database replica.old).node) hand (without_batch progress.state (seen_database provider.old) (seen_database replica.old) (the_table table.now (seen_database replica.old).node)))
+    ensures fault { IfErr result (λ fault. MoveRefused fault (goes_through_or (seen_database provider.old) (seen_database replica.old) (the_table table.now.name.now (seen_database replica.old).node) hand (without_batch progress.state (seen_database provider.old) (seen_database replica.old) (the_table table.now.name.now (seen_database replica.old).node)))
         (seen_database provider.old) (seen_database provider.new) (seen_database replica.old) (seen_database replica.new) hand hand) }
 {
     let tick = progress.tick;
@@ -61,22 +62,22 @@ fn go_through_batch(
     alloc: Global,
     provider: &mut Db,
     replica: &mut Db,
-    table: &Text,
+    table: &CopiedTable,
     tick: u64,
     hand: BatchHand,
     replies: &mut Vec<Reply>,
 ) -> Result<Option<BatchHand>, WorkerFault>
     requires replica_made { IsMade (seen_database replica.old) }
     requires root { is_some (set_queue (seen_database provider.old)) ≡ true }
-    requires tick { tick ≡ (the_table table.now (seen_database replica.old).node).tick }
-    requires may { may_apply (copy_of table.now) (seen_database replica.old).node ≡ true }
+    requires tick { tick ≡ (the_table table.now.name.now (seen_database replica.old).node).tick }
+    requires may { may_apply (copy_of table.now.name.now) (seen_database replica.old).node ≡ true }
     requires nothing { replies.old.items ≡ [] }
-    ensures moves { IfOk result (λ now. MovesBy (goes_through (seen_database provider.old) (seen_database replica.old) (copier (seen_database replica.old).node (the_table table.now (seen_database replica.old).node)) hand)
+    ensures moves { IfOk result (λ now. MovesBy (goes_through (seen_database provider.old) (seen_database replica.old) (copier (seen_database replica.old).node (the_table table.now.name.now (seen_database replica.old).node)) hand)
         (seen_database provider.old) (seen_database provider.new) (seen_database replica.old) (seen_database replica.new) replies.new.items now) }
-    ensures fault { IfErr result (λ fault. MoveRefused fault (goes_through (seen_database provider.old) (seen_database replica.old) (copier (seen_database replica.old).node (the_table table.now (seen_database replica.old).node)) hand)
+    ensures fault { IfErr result (λ fault. MoveRefused fault (goes_through (seen_database provider.old) (seen_database replica.old) (copier (seen_database replica.old).node (the_table table.now.name.now (seen_database replica.old).node)) hand)
         (seen_database provider.old) (seen_database provider.new) (seen_database replica.old) (seen_database replica.new) (Some hand) (Some hand)) }
 {
-    let pick = Pick::CopyOf(table.copy(alloc)?);
+    let pick = Pick::CopyOf(table.name.copy(alloc)?);
     go_through(provider, replica, tick, &pick, hand, replies)
 }
 
@@ -86,23 +87,25 @@ fn catch_up(
     alloc: Global,
     provider: &mut Db,
     replica: &mut Db,
-    table: &Text,
+    table: &CopiedTable,
     reached: u64,
     replies: &mut Vec<Reply>,
 ) -> Result<Option<BatchHand>, WorkerFault>
     requires replica_made { IsMade (seen_database replica.old) }
     requires root { is_some (set_queue (seen_database provider.old)) ≡ true }
-    requires state { (the_table table.now (seen_database replica.old).node).state ≡ state.CatchingUp }
-    requires reached { reached ≡ (the_table table.now (seen_database replica.old).node).tick }
+    requires state { (the_table table.now.name.now (seen_database replica.old).node).state ≡ state.CatchingUp }
+    requires reached { reached ≡ (the_table table.now.name.now (seen_database replica.old).node).tick }
+    requires number { table_number (seen_database replica.old) table.now.name.now ≡ Some table.now.to }
     requires nothing { replies.old.items ≡ [] }
-    ensures moves { IfOk result (λ now. MovesBy (catches_up (seen_database provider.old) (seen_database replica.old) (the_table table.now (seen_database replica.old).node))
+    ensures moves { IfOk result (λ now. MovesBy (catches_up (seen_database provider.old) (seen_database replica.old) (the_table table.now.name.now (seen_database replica.old).node))
         (seen_database provider.old) (seen_database provider.new) (seen_database replica.old) (seen_database replica.new) replies.new.items now) }
-    ensures fault { IfErr result (λ fault. MoveRefused fault (catches_up (seen_database provider.old) (seen_database replica.old) (the_table table.now (seen_database replica.old).node))
+    ensures fault { IfErr result (λ fault. MoveRefused fault (catches_up (seen_database provider.old) (seen_database replica.old) (the_table table.now.name.now (seen_database replica.old).node))
         (seen_database provider.old) (seen_database provider.new) (seen_database replica.old) (seen_database replica.new) None None) }
 {
-    if has_caught_up(provider, replica.node(), table) {
-        let name = table.copy(alloc)?;
-        move_table(replica, name, TableState::WannaSync(reached), replies)?;
+    if has_caught_up(provider, replica.node(), table.name) {
+        let name = table.name.copy(alloc)?;
+        let to = TableState::WannaSync(reached);
+        move_table(replica, name, table.to, to, replies)?;
         return Ok(None);
     }
     take_copy_batch(alloc, provider, replica, replies)
@@ -114,28 +117,29 @@ fn hand_over(
     alloc: Global,
     provider: &mut Db,
     replica: &mut Db,
-    table: &Text,
+    table: &CopiedTable,
     reached: u64,
     at: u64,
     replies: &mut Vec<Reply>,
 ) -> Result<Option<BatchHand>, WorkerFault>
     requires replica_made { IsMade (seen_database replica.old) }
     requires root { is_some (set_queue (seen_database provider.old)) ≡ true }
-    requires state { (the_table table.now (seen_database replica.old).node).state ≡ state.DoSync at }
-    requires reached { reached ≡ (the_table table.now (seen_database replica.old).node).tick }
+    requires state { (the_table table.now.name.now (seen_database replica.old).node).state ≡ state.DoSync at }
+    requires reached { reached ≡ (the_table table.now.name.now (seen_database replica.old).node).tick }
+    requires number { table_number (seen_database replica.old) table.now.name.now ≡ Some table.now.to }
     requires nothing { replies.old.items ≡ [] }
-    ensures moves { IfOk result (λ now. MovesBy (hands_over (seen_database provider.old) (seen_database replica.old) at (the_table table.now (seen_database replica.old).node))
+    ensures moves { IfOk result (λ now. MovesBy (hands_over (seen_database provider.old) (seen_database replica.old) at (the_table table.now.name.now (seen_database replica.old).node))
         (seen_database provider.old) (seen_database provider.new) (seen_database replica.old) (seen_database replica.new) replies.new.items now) }
-    ensures fault { IfErr result (λ fault. MoveRefused fault (hands_over (seen_database provider.old) (seen_database replica.old) at (the_table table.now (seen_database replica.old).node))
+    ensures fault { IfErr result (λ fault. MoveRefused fault (hands_over (seen_database provider.old) (seen_database replica.old) at (the_table table.now.name.now (seen_database replica.old).node))
         (seen_database provider.old) (seen_database provider.new) (seen_database replica.old) (seen_database replica.new) None None) }
 {
     if reached != at {
         return take_copy_batch(alloc, provider, replica, replies);
     }
     let consumer = copy_consumer(alloc, replica.node())?;
-    let name = table.copy(alloc)?;
+    let name = table.name.copy(alloc)?;
     provider.part(&consumer);
-    move_table(replica, name, TableState::Synced, replies)?;
+    move_table(replica, name, table.to, TableState::Synced, replies)?;
     Ok(None)
 }
 

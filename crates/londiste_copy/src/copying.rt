@@ -2,20 +2,21 @@
 //! its end.
 
 ghost use Rattle.std.specs.Prelude.{◌≡◌, [], ◌∷◌, true, None, IfOk, IfErr, IfSome, is_some, option_copied};
-ghost use Rattle.sky_model.specs.CopyMoves.{columns_for, copy_consumer, copy_running, continues, held_snapshot, lets_go_for, next_piece, starts_copy, under_way};
+ghost use Rattle.sky_model.specs.Copies.{copy_txid};
+ghost use Rattle.sky_model.specs.CopyMoves.{copy_consumer, continues, held_snapshot, lets_go_for, next_piece, starts_copy, under_way};
 ghost use Rattle.sky_model.specs.DatabaseSteps.{IsMade};
-ghost use Rattle.sky_model.specs.StepNode.{set_queue, table_number, may_copy, giving_up_copy};
+ghost use Rattle.sky_model.specs.StepNode.{set_queue, may_copy, giving_up_copy};
 ghost use Rattle.pgq_db.specs.Seen.{seen_database};
 ghost use Rattle.londiste_batches.specs.Moved.{ServesAll, MovesAs, MovesBy, MoveRefused};
 ghost use Rattle.londiste_copy.specs.Copying.{Begun, SameTable, last_row_key};
 
 use crate::hand::CopyHand;
-use crate::table::progress_of;
+use crate::table::{CopiedTable, progress_of};
 use londiste_batches::add_reply;
 use londiste_state::{Node, TableState};
 use pgq_db::{Db, JoinFault, WorkerFault};
 use sky_model::Reply;
-use sky_val::{Key, NoMemory, Row, Text};
+use sky_val::{Key, NoMemory, Row, Schema, Text};
 use std::alloc::Global;
 
 /// How many rows are copied at once.
@@ -26,19 +27,19 @@ pub(crate) fn start_copy(
     alloc: Global,
     provider: &mut Db,
     replica: &mut Db,
-    table: &Text,
+    table: &CopiedTable,
     replies: &mut Vec<Reply>,
 ) -> Result<Option<CopyHand>, WorkerFault>
     requires provider_made { IsMade (seen_database provider.old) }
     requires replica_made { IsMade (seen_database replica.old) }
     requires root { is_some (set_queue (seen_database provider.old)) ≡ true }
-    requires same { SameTable (seen_database provider.old) (seen_database replica.old) table.now }
-    requires may { may_copy table.now (seen_database replica.old).node ≡ true }
-    requires idle { copy_running (seen_database replica.old) table.now ≡ None }
+    requires same { SameTable (seen_database provider.old) (seen_database replica.old) table.now.name.now table.now.from table.now.to }
+    requires may { may_copy table.now.name.now (seen_database replica.old).node ≡ true }
+    requires idle { copy_txid table.now.to (seen_database replica.old).copies ≡ None }
     requires nothing { replies.old.items ≡ [] }
-    ensures moves { IfOk result (λ now. MovesBy (starts_copy (seen_database provider.old) (seen_database replica.old) table.now)
+    ensures moves { IfOk result (λ now. MovesBy (starts_copy (seen_database provider.old) (seen_database replica.old) table.now.name.now)
         (seen_database provider.old) (seen_database provider.new) (seen_database replica.old) (seen_database replica.new) replies.new.items now) }
-    ensures fault { IfErr result (λ fault. MoveRefused fault (starts_copy (seen_database provider.old) (seen_database replica.old) table.now)
+    ensures fault { IfErr result (λ fault. MoveRefused fault (starts_copy (seen_database provider.old) (seen_database replica.old) table.now.name.now)
         (seen_database provider.old) (seen_database provider.new) (seen_database replica.old) (seen_database replica.new) None None) }
 {
     let hand = begin(alloc, provider, replica, table)?;
@@ -51,16 +52,16 @@ pub(crate) fn continue_copy(
     alloc: Global,
     provider: &mut Db,
     replica: &mut Db,
-    table: &Text,
+    table: &CopiedTable,
     hand: Option<CopyHand>,
     replies: &mut Vec<Reply>,
 ) -> Result<Option<CopyHand>, NoMemory>
     requires provider_made { IsMade (seen_database provider.old) }
     requires replica_made { IsMade (seen_database replica.old) }
-    requires same { SameTable (seen_database provider.old) (seen_database replica.old) table.now }
-    requires may { may_copy table.now (seen_database replica.old).node ≡ true }
+    requires same { SameTable (seen_database provider.old) (seen_database replica.old) table.now.name.now table.now.from table.now.to }
+    requires may { may_copy table.now.name.now (seen_database replica.old).node ≡ true }
     requires nothing { replies.old.items ≡ [] }
-    ensures { IfOk result (λ now. MovesBy (continues (seen_database provider.old) table.now hand (under_way (seen_database provider.old) hand))
+    ensures { IfOk result (λ now. MovesBy (continues (seen_database provider.old) table.now.name.now hand (under_way (seen_database provider.old) hand))
         (seen_database provider.old) (seen_database provider.new) (seen_database replica.old) (seen_database replica.new) replies.new.items now) }
 {
     match hand {
@@ -68,7 +69,7 @@ pub(crate) fn continue_copy(
             copy_piece(alloc, provider, replica, table, hand, replies)
         }
         hand => {
-            add_reply(Reply::AwaitsTable(table.copy(alloc)?), replies)?;
+            add_reply(Reply::AwaitsTable(table.name.copy(alloc)?), replies)?;
             Ok(hand)
         }
     }
@@ -80,16 +81,16 @@ fn begin(
     alloc: Global,
     provider: &mut Db,
     replica: &mut Db,
-    table: &Text,
+    table: &CopiedTable,
 ) -> Result<CopyHand, WorkerFault>
     requires provider_made { IsMade (seen_database provider.old) }
     requires replica_made { IsMade (seen_database replica.old) }
-    requires same { SameTable (seen_database provider.old) (seen_database replica.old) table.now }
+    requires same { SameTable (seen_database provider.old) (seen_database replica.old) table.now.name.now table.now.from table.now.to }
     requires root { is_some (set_queue (seen_database provider.old)) ≡ true }
-    requires idle { copy_running (seen_database replica.old) table.now ≡ None }
-    requires may { may_copy table.now (seen_database replica.old).node ≡ true }
-    ensures begun { IfOk result (λ hand. Begun (seen_database provider.old) (seen_database provider.new) (seen_database replica.old) (seen_database replica.new) table.now hand) }
-    ensures fault { IfErr result (λ fault. MoveRefused fault (starts_copy (seen_database provider.old) (seen_database replica.old) table.now)
+    requires idle { copy_txid table.now.to (seen_database replica.old).copies ≡ None }
+    requires may { may_copy table.now.name.now (seen_database replica.old).node ≡ true }
+    ensures begun { IfOk result (λ hand. Begun (seen_database provider.old) (seen_database provider.new) (seen_database replica.old) (seen_database replica.new) table.now.name.now hand) }
+    ensures fault { IfErr result (λ fault. MoveRefused fault (starts_copy (seen_database provider.old) (seen_database replica.old) table.now.name.now)
         (seen_database provider.old) (seen_database provider.new) (seen_database replica.old) (seen_database replica.new) None None) }
 {
     let consumer = copy_consumer(alloc, replica.node())?;
@@ -99,7 +100,7 @@ fn begin(
     if provider.spent() {
         return Err(WorkerFault::IdsSpent);
     }
-    replica.copy_begin(table)?;
+    replica.copy_begin(table.to)?;
     provider.part(&consumer);
     let tick = match provider.join(&consumer) {
         Ok(tick) => tick,
@@ -120,33 +121,33 @@ fn copy_piece(
     alloc: Global,
     provider: &mut Db,
     replica: &mut Db,
-    table: &Text,
+    table: &CopiedTable,
     hand: CopyHand,
     replies: &mut Vec<Reply>,
 ) -> Result<Option<CopyHand>, NoMemory>
     requires provider_made { IsMade (seen_database provider.old) }
     requires replica_made { IsMade (seen_database replica.old) }
-    requires same { SameTable (seen_database provider.old) (seen_database replica.old) table.now }
+    requires same { SameTable (seen_database provider.old) (seen_database replica.old) table.now.name.now table.now.from table.now.to }
     requires held { is_some (held_snapshot (seen_database provider.old) hand.hold) ≡ true }
-    requires may { may_copy table.now (seen_database replica.old).node ≡ true }
+    requires may { may_copy table.now.name.now (seen_database replica.old).node ≡ true }
     requires nothing { replies.old.items ≡ [] }
     ensures { IfOk result (λ now. IfSome (held_snapshot (seen_database provider.old) hand.hold) (λ snapshot.
-        MovesAs (next_piece (seen_database provider.old) table.now snapshot hand)
+        MovesAs (next_piece (seen_database provider.old) table.now.name.now snapshot hand)
         (seen_database provider.old) (seen_database provider.new) (seen_database replica.old) (seen_database replica.new) replies.new.items now)) }
 {
     let CopyHand { hold, tick, last } = hand;
-    let rows = provider.held_rows(hold, table, last.as_ref(), PIECE)?;
+    let rows = provider.held_rows(hold, table.from, last.as_ref(), PIECE)?;
     let count = rows.len();
     let is_whole = count >= PIECE;
-    let last = last_key(provider, table, &rows, last)?;
-    replica.copy_rows(table, rows)?;
+    let last = last_key(provider.schema(table.from), &rows, last)?;
+    replica.copy_rows(table.to, rows)?;
     replies.push(Reply::RowsCopied(count as u64))?;
     if is_whole {
         return Ok(Some(CopyHand { hold, tick, last }));
     }
-    replica.copy_end(table, provider.held_snapshot(hold), tick)?;
+    replica.copy_end(table.name, table.to, provider.held_snapshot(hold), tick)?;
     provider.let_go(hold);
-    let moved = table.copy(alloc)?;
+    let moved = table.name.copy(alloc)?;
     replies.push(Reply::TableMoved(moved, TableState::CatchingUp))?;
     Ok(None)
 }
@@ -166,26 +167,18 @@ pub(crate) fn give_up(replica: &mut Db, table: &Text)
     ensures { ServesAll (seen_database replica.old) (seen_database replica.new) (giving_up_copy table.now ∷ []) }
 {
     if progress_of(replica.node(), table).state == TableState::InCopy {
-        replica.copy_drop(table);
+        let number = replica.leaf_table(table);
+        replica.copy_drop(number);
     }
 }
 
-/// The key of the last of some rows of a table that the database has, or if there are none, one from before.
-fn last_key(
-    provider: &Db,
-    table: &Text,
-    rows: &[Row],
-    before: Option<Key>,
-) -> Result<Option<Key>, NoMemory>
-    requires { is_some (table_number (seen_database provider.now) table.now) ≡ true }
-    ensures { IfOk result (λ last. last ≡ last_row_key (columns_for (seen_database provider.now) table.now) before rows.now) }
+/// The key of the last of some rows of these columns, or if there are none, one from before.
+fn last_key(schema: &Schema, rows: &[Row], before: Option<Key>) -> Result<Option<Key>, NoMemory>
+    ensures { IfOk result (λ last. last ≡ last_row_key schema.now before rows.now) }
 {
-    let Some(row) = rows.last() else {
-        return Ok(before);
-    };
-    match provider.schema(table) {
-        Some(schema) => Ok(Some(schema.key_of(row)?)),
-        None => unreachable!(),
+    match rows.last() {
+        Some(row) => Ok(Some(schema.key_of(row)?)),
+        None => Ok(before),
     }
 }
 

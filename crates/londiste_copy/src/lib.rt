@@ -15,4 +15,5 @@ mod worker;
 
 pub use copying::copy_consumer;
 pub use hand::{CopyHand, Hand};
+pub use table::CopiedTable;
 pub use worker::CopyWorker;

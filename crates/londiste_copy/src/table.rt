@@ -1,4 +1,4 @@
-//! The table that a worker copies, in its leaf.
+//! The table that a worker copies, in its leaf and in the two databases.
 
 ghost use Rattle.std.specs.Prelude.{◌≡◌, option_copied};
 ghost use Rattle.sky_model.specs.CopyMoves.{table_at};
@@ -6,6 +6,14 @@ ghost use Rattle.londiste_copy.specs.CatchingUp.{progress_of, the_table};
 
 use londiste_state::{LeafTable, Node, TableState};
 use sky_val::Text;
+
+/// A table that is copied: its name, and its numbers in the provider's database and in the leaf's.
+#[derive(Clone, Copy, Debug)]
+pub struct CopiedTable<'a> {
+    pub name: &'a Text,
+    pub from: u32,
+    pub to: u32,
+}
 
 /// The table of a name, if the node is a leaf that has it.
 pub(crate) fn table_at<'a>(node: Option<&'a Node>, table: &Text) -> Option<&'a LeafTable>

@@ -1,10 +1,10 @@
 //! The worker that copies a table of a leaf.
 
-ghost use Rattle.std.specs.Prelude.{◌≡◌, [], true, None, IfOk, IfErr, OnOk, is_some, option_map};
+ghost use Rattle.std.specs.Prelude.{◌≡◌, [], true, None, Some, IfOk, IfErr, OnOk, is_some, option_map};
 ghost use Rattle.londiste_state.specs.declared.state.TableState.TheVariants as state;
 ghost use Rattle.sky_model.specs.CopyMoves.{copy_move, gives_up_in};
 ghost use Rattle.sky_model.specs.DatabaseSteps.{IsMade};
-ghost use Rattle.sky_model.specs.StepNode.{set_queue};
+ghost use Rattle.sky_model.specs.StepNode.{set_queue, table_number};
 ghost use Rattle.pgq_db.specs.Seen.{seen_database};
 ghost use Rattle.londiste_batches.specs.Moved.{MovesAs, MovesBy, MoveRefused};
 ghost use Rattle.londiste_copy.specs.CatchingUp.{is_following, progress_of, the_table};
@@ -14,7 +14,7 @@ ghost use Rattle.londiste_copy.specs.Hands.{hand_of};
 use crate::catching_up::follow;
 use crate::copying::{continue_copy, give_up, let_go, start_copy};
 use crate::hand::{Hand, batch_in, copy_in, of_batch, of_copy};
-use crate::table::{Progress, progress_of};
+use crate::table::{CopiedTable, Progress, progress_of};
 use londiste_batches::add_reply;
 use londiste_state::TableState;
 use pgq_db::{Db, WorkerFault};
@@ -67,15 +67,15 @@ impl CopyWorker {
         &mut self,
         provider: &mut Db,
         replica: &mut Db,
-        table: &Text,
+        table: &CopiedTable,
     ) -> Result<Vec<Reply>, WorkerFault>
         requires provider_made { IsMade (seen_database provider.old) }
         requires replica_made { IsMade (seen_database replica.old) }
         requires root { is_some (set_queue (seen_database provider.old)) ≡ true }
-        requires same { SameTable (seen_database provider.old) (seen_database replica.old) table.now }
-        ensures moves { IfOk result (λ replies. MovesBy (copy_move (seen_database provider.old) (seen_database replica.old) table.now self.old)
+        requires same { SameTable (seen_database provider.old) (seen_database replica.old) table.now.name.now table.now.from table.now.to }
+        ensures moves { IfOk result (λ replies. MovesBy (copy_move (seen_database provider.old) (seen_database replica.old) table.now.name.now self.old)
             (seen_database provider.old) (seen_database provider.new) (seen_database replica.old) (seen_database replica.new) replies.items self.new) }
-        ensures fault { IfErr result (λ fault. MoveRefused fault (copy_move (seen_database provider.old) (seen_database replica.old) table.now self.old)
+        ensures fault { IfErr result (λ fault. MoveRefused fault (copy_move (seen_database provider.old) (seen_database replica.old) table.now.name.now self.old)
             (seen_database provider.old) (seen_database provider.new) (seen_database replica.old) (seen_database replica.new) self.old self.new) }
     {
         let mut replies = Vec::new(self.alloc);
@@ -88,20 +88,20 @@ impl CopyWorker {
         &mut self,
         provider: &mut Db,
         replica: &mut Db,
-        table: &Text,
+        table: &CopiedTable,
         replies: &mut Vec<Reply>,
     ) -> Result<(), WorkerFault>
         requires provider_made { IsMade (seen_database provider.old) }
         requires replica_made { IsMade (seen_database replica.old) }
         requires root { is_some (set_queue (seen_database provider.old)) ≡ true }
-        requires same { SameTable (seen_database provider.old) (seen_database replica.old) table.now }
+        requires same { SameTable (seen_database provider.old) (seen_database replica.old) table.now.name.now table.now.from table.now.to }
         requires nothing { replies.old.items ≡ [] }
-        ensures moves { OnOk result (MovesBy (copy_move (seen_database provider.old) (seen_database replica.old) table.now self.old)
+        ensures moves { OnOk result (MovesBy (copy_move (seen_database provider.old) (seen_database replica.old) table.now.name.now self.old)
             (seen_database provider.old) (seen_database provider.new) (seen_database replica.old) (seen_database replica.new) replies.new.items self.new) }
-        ensures fault { IfErr result (λ fault. MoveRefused fault (copy_move (seen_database provider.old) (seen_database replica.old) table.now self.old)
+        ensures fault { IfErr result (λ fault. MoveRefused fault (copy_move (seen_database provider.old) (seen_database replica.old) table.now.name.now self.old)
             (seen_database provider.old) (seen_database provider.new) (seen_database replica.old) (seen_database replica.new) self.old self.new) }
     {
-        let progress = progress_of(replica.node(), table);
+        let progress = progress_of(replica.node(), table.name);
         match progress.state {
             TableState::InCopy => self.step_copy(provider, replica, table, replies),
             TableState::CatchingUp | TableState::DoSync(_) => {
@@ -112,7 +112,7 @@ impl CopyWorker {
                 Ok(())
             }
             _ => {
-                add_reply(Reply::AwaitsTable(table.copy(self.alloc)?), replies)?;
+                add_reply(Reply::AwaitsTable(table.name.copy(self.alloc)?), replies)?;
                 Ok(())
             }
         }
@@ -123,21 +123,21 @@ impl CopyWorker {
         &mut self,
         provider: &mut Db,
         replica: &mut Db,
-        table: &Text,
+        table: &CopiedTable,
         replies: &mut Vec<Reply>,
     ) -> Result<(), WorkerFault>
         requires provider_made { IsMade (seen_database provider.old) }
         requires replica_made { IsMade (seen_database replica.old) }
         requires root { is_some (set_queue (seen_database provider.old)) ≡ true }
-        requires state { (the_table table.now (seen_database replica.old).node).state ≡ state.InCopy }
-        requires same { SameTable (seen_database provider.old) (seen_database replica.old) table.now }
+        requires state { (the_table table.now.name.now (seen_database replica.old).node).state ≡ state.InCopy }
+        requires same { SameTable (seen_database provider.old) (seen_database replica.old) table.now.name.now table.now.from table.now.to }
         requires nothing { replies.old.items ≡ [] }
-        ensures moves { OnOk result (MovesBy (copy_move (seen_database provider.old) (seen_database replica.old) table.now self.old)
+        ensures moves { OnOk result (MovesBy (copy_move (seen_database provider.old) (seen_database replica.old) table.now.name.now self.old)
             (seen_database provider.old) (seen_database provider.new) (seen_database replica.old) (seen_database replica.new) replies.new.items self.new) }
-        ensures fault { IfErr result (λ fault. MoveRefused fault (copy_move (seen_database provider.old) (seen_database replica.old) table.now self.old)
+        ensures fault { IfErr result (λ fault. MoveRefused fault (copy_move (seen_database provider.old) (seen_database replica.old) table.now.name.now self.old)
             (seen_database provider.old) (seen_database provider.new) (seen_database replica.old) (seen_database replica.new) self.old self.new) }
     {
-        if replica.copy_of(table).is_none() {
+        if replica.copy_of(table.to).is_none() {
             let hand = start_copy(self.alloc, provider, replica, table, replies)?;
             self.hand = of_copy(hand);
             return Ok(());
@@ -153,22 +153,23 @@ impl CopyWorker {
         &mut self,
         provider: &mut Db,
         replica: &mut Db,
-        table: &Text,
+        table: &CopiedTable,
         progress: Progress,
         replies: &mut Vec<Reply>,
     ) -> Result<(), WorkerFault>
         requires replica_made { IsMade (seen_database replica.old) }
         requires root { is_some (set_queue (seen_database provider.old)) ≡ true }
-        requires progress { progress ≡ progress_of (the_table table.now (seen_database replica.old).node) }
+        requires progress { progress ≡ progress_of (the_table table.now.name.now (seen_database replica.old).node) }
         requires state { is_following progress.state ≡ true }
+        requires number { table_number (seen_database replica.old) table.now.name.now ≡ Some table.now.to }
         requires nothing { replies.old.items ≡ [] }
-        ensures moves { OnOk result (MovesBy (copy_move (seen_database provider.old) (seen_database replica.old) table.now self.old)
+        ensures moves { OnOk result (MovesBy (copy_move (seen_database provider.old) (seen_database replica.old) table.now.name.now self.old)
             (seen_database provider.old) (seen_database provider.new) (seen_database replica.old) (seen_database replica.new) replies.new.items self.new) }
-        ensures fault { IfErr result (λ fault. MoveRefused fault (copy_move (seen_database provider.old) (seen_database replica.old) table.now self.old)
+        ensures fault { IfErr result (λ fault. MoveRefused fault (copy_move (seen_database provider.old) (seen_database replica.old) table.now.name.now self.old)
             (seen_database provider.old) (seen_database provider.new) (seen_database replica.old) (seen_database replica.new) self.old self.new) }
     {
         if !progress.is_copied {
-            add_reply(Reply::AwaitsTable(table.copy(self.alloc)?), replies)?;
+            add_reply(Reply::AwaitsTable(table.name.copy(self.alloc)?), replies)?;
             return Ok(());
         }
         let hand = batch_in(&self.hand);

@@ -71,6 +71,15 @@ among-found name (x ∷ ts) t is =
     by_test (λ b. (if b then Some x else find (λ (y : LeafTable). bytes_eq name y.name) ts) ≡ Some t → (b || is_among name (map LeafTable.name ts)) ≡ true) (bytes_eq name x.name)
     (λ _ _. refl) (λ _ found. among-found name ts t found) is
 
+-- one that is found by its state is among the leaf's
+first-among : (is : TableState → Bool) (name : List ℕ) (ts : List LeafTable) → option_map LeafTable.name (find (λ (t : LeafTable). is t.state) ts) ≡ Some name → is_among name (map LeafTable.name ts) ≡ true
+first-among is name [] found = absurd (cc)
+first-among is name (t ∷ ts) found =
+    by_test (λ b. option_map LeafTable.name (if b then Some t else find (λ (x : LeafTable). is x.state) ts) ≡ Some name → (bytes_eq name t.name || is_among name (map LeafTable.name ts)) ≡ true) (is t.state)
+    (λ _ here. let same : t.name ≡ name = cc in
+    ap (λ n. bytes_eq name n || is_among name (map LeafTable.name ts)) same ∙ ap (λ b. b || is_among name (map LeafTable.name ts)) (bytes_eq_refl name))
+    (λ _ later. let rest = first-among is name ts later in grind (arith, rest)) found
+
 record IsFound (is : TableState → Bool) (ts : List LeafTable) (t : LeafTable) : Type 0 where
   pub named : find (λ (x : LeafTable). bytes_eq t.name x.name) ts ≡ Some t
   pub state : is t.state ≡ true
@@ -109,6 +118,9 @@ module _ (r : Database) (made : IsMade r) (l : Leaf) (leaf : r.node ≡ Some (of
           let it = found-itself is l.tables t distinct-tables found in
           ap (λ name. may_move name to (Some (of_leaf l))) (sym same) ∙ ap (λ o. unwrap_or (option_map (λ (x : LeafTable). is_allowed x.state to) o) false) it.named ∙ allowed t.state it.state
 
+  pub has-first : (is : TableState → Bool) (table : List ℕ) → first_in is l ≡ Some table → is_among table (leaf_tables r.node) ≡ true
+  has-first is table first = ap (λ n. is_among table (leaf_tables n)) leaf ∙ first-among is table l.tables first
+
   -- a table that the leaf has come up to may be handed over
   pub may-hand_over : (table : List ℕ) → first_in (is_met l.tick) l ≡ Some table → may_serve (moving table (DoSync l.tick)) r.node ≡ true
   may-hand_over = may-go (is_met l.tick) (DoSync l.tick) allowed
@@ -122,10 +134,15 @@ module _ (r : Database) (made : IsMade r) (l : Leaf) (leaf : r.node ≡ Some (of
       allowed Synced met = absurd (cc)
 
   -- and the next copy may begin
+  first-absent : (table : List ℕ) → next_to_copy l ≡ Some table → first_in is_absent l ≡ Some table
+  first-absent table is =
+      by_test (λ b. (if b then None else first_in is_absent l) ≡ Some table → first_in is_absent l ≡ Some table) (list_any (λ (t : LeafTable). is_on_way t.state) l.tables) (λ _ none. absurd (cc)) (λ _ first. first) is
+
+  pub has-next : (table : List ℕ) → next_to_copy l ≡ Some table → is_among table (leaf_tables r.node) ≡ true
+  has-next table is = has-first is_absent table (first-absent table is)
+
   pub may-copy_next : (table : List ℕ) → next_to_copy l ≡ Some table → may_serve (moving table InCopy) r.node ≡ true
-  may-copy_next table is =
-      may-go is_absent InCopy allowed table
-      (by_test (λ b. (if b then None else first_in is_absent l) ≡ Some table → first_in is_absent l ≡ Some table) (list_any (λ (t : LeafTable). is_on_way t.state) l.tables) (λ _ none. absurd (cc)) (λ _ first. first) is)
+  may-copy_next table is = may-go is_absent InCopy allowed table (first-absent table is)
     where
       allowed : (state : TableState) → is_absent state ≡ true → is_allowed state InCopy ≡ true
       allowed Absent absent = refl

@@ -104,12 +104,14 @@ impl ReplayWorker {
         if let Some(table) = first_in(leaf, |state| is_met(leaf.tick(), state)) {
             let to = TableState::DoSync(leaf.tick());
             let table = table.copy(self.alloc)?;
-            move_table(replica, table, to, replies)?;
+            let number = replica.leaf_table(&table);
+            move_table(replica, table, number, to, replies)?;
             return Ok(None);
         }
         if let Some(table) = next_to_copy(leaf) {
             let table = table.copy(self.alloc)?;
-            move_table(replica, table, TableState::InCopy, replies)?;
+            let number = replica.leaf_table(&table);
+            move_table(replica, table, number, TableState::InCopy, replies)?;
             return Ok(None);
         }
         take_leaf_batch(provider, replica, replies)

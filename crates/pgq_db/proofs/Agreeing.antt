@@ -19,6 +19,7 @@ use Rattle.pgq_queues.specs.Views.{QueuesView}
 use Rattle.pgq_queues.specs.Seen.{seen_with, no_queues}
 use Rattle.pgq_queues.specs.Traced.{AreTables, KeepsRest}
 use Rattle.pgq_queues.specs.EventRule.{event_rule}
+use Rattle.londiste_apply.specs.Writing.{Marked}
 use Rattle.pgq_db.specs.Agreeing.{Agree}
 use Rattle.pgq_db.specs.Seen.{with_node}
 use Rattle.pgq_db.proofs.Tables.{tables-behind, tables-stay}
@@ -79,6 +80,9 @@ agree-then old new marks q is are =
       given = omega (arith, more, are.given);
       few = are.few;
     }
+
+pub agree-marked : (old new : RowPart) (q : QueuesView) → Marked old new → Agree old q → Agree new q
+agree-marked old new q is are = agree-then old new is.marks q is.left are
 
 pub agree-same : (old new : RowPart) (q : QueuesView) → new ≡ old → Agree old q → Agree new q
 agree-same old new q is are = subst (λ part. Agree part q) (sym is) are

@@ -1,6 +1,7 @@
 -- How a queue is set anew.
 use Rattle.std.proofs.Common.{◌≡◌, ℕ, List, [], ◌∷◌, ◌++◌, Option, Some, None, Result, Ok, Err, true, is_ok, refl, sym, ◌∙◌, ap, subst}
 use Rattle.std.specs.Prelude.{ok_or}
+use Rattle.sky_model.specs.declared.stmt.QueueSetting.{QueueSetting}
 use Rattle.sky_model.specs.declared.reply.Reply.{Reply}
 use Rattle.sky_model.specs.declared.reply.Reply.TheVariants.{Number}
 use Rattle.sky_model.specs.declared.reply.Refusal.{Refusal}
@@ -50,24 +51,24 @@ pub set-refused : (c : Config) (param value : List ℕ) (f : ConfigFault) → se
 set-refused c param value f is = set-checked c param value ∙ ap (as_checked param) is
 
 -- a statement whose parameter is set
-config-form : (d : Database) (name param value : List ℕ) (q : ℕ) → queue_called name d ≡ Ok q
-    → set_queue_config d name param value ≡ (configured_as (d.queue q).config param value >>= (λ c. does_marks (Number 1) (queued (configured q c) ∷ [])))
-config-form d name param value q is = ap (λ x. x >>= sets) is ∙ by (param_of param)
+config-form : (d : Database) (setting : QueueSetting) (q : ℕ) → queue_called setting.queue d ≡ Ok q
+    → set_queue_config d setting ≡ (configured_as (d.queue q).config setting.param setting.value >>= (λ c. does_marks (Number 1) (queued (configured q c) ∷ [])))
+config-form d setting q is = ap (λ x. x >>= sets) is ∙ by (param_of setting.param)
   where
     sets : ℕ → Checked Outcome
     sets queue =
-        found_or (param_of param) (NoParam param) >>= (λ p. found_or (configured_by (d.queue queue).config p value) (BadValue param) >>= (λ c. does_marks (Number 1) (queued (configured queue c) ∷ [])))
+        found_or (param_of setting.param) (NoParam setting.param) >>= (λ p. found_or (configured_by (d.queue queue).config p setting.value) (BadValue setting.param) >>= (λ c. does_marks (Number 1) (queued (configured queue c) ∷ [])))
 
     by : (o : Option Param)
-        → (found_or o (NoParam param) >>= (λ p. found_or (configured_by (d.queue q).config p value) (BadValue param) >>= (λ c. does_marks (Number 1) (queued (configured q c) ∷ []))))
-        ≡ ((found_or o (NoParam param) >>= (λ p. found_or (configured_by (d.queue q).config p value) (BadValue param))) >>= (λ c. does_marks (Number 1) (queued (configured q c) ∷ [])))
+        → (found_or o (NoParam setting.param) >>= (λ p. found_or (configured_by (d.queue q).config p setting.value) (BadValue setting.param) >>= (λ c. does_marks (Number 1) (queued (configured q c) ∷ []))))
+        ≡ ((found_or o (NoParam setting.param) >>= (λ p. found_or (configured_by (d.queue q).config p setting.value) (BadValue setting.param))) >>= (λ c. does_marks (Number 1) (queued (configured q c) ∷ [])))
     by None = refl
     by (Some p) = refl
 
-pub gives-config : (d s : Database) (who : ℕ) (name param value : List ℕ) (q : ℕ) (before after : List (ℕ × Reply)) → queue_called name d ≡ Ok q
-    → Configures d s q (configured_as (d.queue q).config param value) → after ≡ before ++ (who, Number 1) ∷ [] → Runs d s before after who (set_queue_config d name param value)
-gives-config d s who name param value q before after is set pushed =
-    subst (Runs d s before after who) (sym (config-form d name param value q is)) (by (configured_as (d.queue q).config param value) set)
+pub gives-config : (d s : Database) (who : ℕ) (setting : QueueSetting) (q : ℕ) (before after : List (ℕ × Reply)) → queue_called setting.queue d ≡ Ok q
+    → Configures d s q (configured_as (d.queue q).config setting.param setting.value) → after ≡ before ++ (who, Number 1) ∷ [] → Runs d s before after who (set_queue_config d setting)
+gives-config d s who setting q before after is set pushed =
+    subst (Runs d s before after who) (sym (config-form d setting q is)) (by (configured_as (d.queue q).config setting.param setting.value) set)
   where
     by : (x : Checked Config) → Configures d s q x → Runs d s before after who (x >>= (λ c. does_marks (Number 1) (queued (configured q c) ∷ [])))
     by (Ok c) set = (record { accepted = refl; replied = pushed; changed = set }, tt)

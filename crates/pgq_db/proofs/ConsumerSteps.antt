@@ -79,30 +79,30 @@ module _ (d : Database) (name consumer : List ℕ) (q : ℕ) (found : queue_call
   abbrev at_number : ℕ → ℕ → Checked Outcome
   at_number id n = if is_some ((d.queue n).sub consumer) then does_marks (Number 0) (queued (moved n consumer id) ∷ []) else registers d n consumer id
 
-  has-tick : (id : ℕ) → (id == 0 || nat_lt (newest_id (d.queue q)) id) ≡ false → register_consumer_at d name consumer id ≡ by_floor id (floor (d.queue q)) (at_number id q)
+  has-tick : (id : ℕ) → (id == 0 || nat_lt (newest_id (d.queue q)) id) ≡ false → register_consumer_at d (record { queue = name; consumer = consumer; tick = id }) ≡ by_floor id (floor (d.queue q)) (at_number id q)
   has-tick id within =
       behind (λ n. refused_if (id == 0 || nat_lt (newest_id (d.queue n)) id) (NoTick id (newest_id (d.queue n))) >> by_floor id (floor (d.queue n)) (at_number id n))
       ∙ ap (λ x. refused_if x (NoTick id (newest_id (d.queue q))) >> by_floor id (floor (d.queue q)) (at_number id q)) within
 
   -- one that is too old
-  pub too-old : (id oldest : ℕ) → (id == 0 || nat_lt (newest_id (d.queue q)) id) ≡ false → oldest ≡ floor (d.queue q) → id < oldest → register_consumer_at d name consumer id ≡ Err (TickTooOld id oldest)
+  pub too-old : (id oldest : ℕ) → (id == 0 || nat_lt (newest_id (d.queue q)) id) ≡ false → oldest ≡ floor (d.queue q) → id < oldest → register_consumer_at d (record { queue = name; consumer = consumer; tick = id }) ≡ Err (TickTooOld id oldest)
   too-old id oldest within is low =
       let old : nat_lt id oldest ≡ true = grind (arith, nat_tests) in
       has-tick id within ∙ ap (λ m. by_floor id m (at_number id q)) (sym is) ∙ ap (λ b. refused_if b (TickTooOld id oldest) >> at_number id q) old
 
   at-tick : (id oldest : ℕ) (b : Bool) → (id == 0 || nat_lt (newest_id (d.queue q)) id) ≡ false → oldest ≡ floor (d.queue q) → oldest ≤ id → is_some ((d.queue q).sub consumer) ≡ b
-      → register_consumer_at d name consumer id ≡ (if b then does_marks (Number 0) (queued (moved q consumer id) ∷ []) else registers d q consumer id)
+      → register_consumer_at d (record { queue = name; consumer = consumer; tick = id }) ≡ (if b then does_marks (Number 0) (queued (moved q consumer id) ∷ []) else registers d q consumer id)
   at-tick id oldest b within low le is =
       let new : nat_lt id oldest ≡ false = grind (arith, nat_tests) in
       has-tick id within ∙ ap (λ m. by_floor id m (at_number id q)) (sym low) ∙ ap (λ x. refused_if x (TickTooOld id oldest) >> at_number id q) new
       ∙ ap (λ x. if x then does_marks (Number 0) (queued (moved q consumer id) ∷ []) else registers d q consumer id) is
 
   pub register_at-new : (id oldest : ℕ) → (id == 0 || nat_lt (newest_id (d.queue q)) id) ≡ false → oldest ≡ floor (d.queue q) → oldest ≤ id → is_some ((d.queue q).sub consumer) ≡ false
-      → registers d q consumer id ≡ register_consumer_at d name consumer id
+      → registers d q consumer id ≡ register_consumer_at d (record { queue = name; consumer = consumer; tick = id })
   register_at-new id oldest within low le new = sym (at-tick id oldest false within low le new)
 
   pub gives-moved : (s : Database) (who id oldest : ℕ) (before after : List (ℕ × Reply)) → (id == 0 || nat_lt (newest_id (d.queue q)) id) ≡ false → oldest ≡ floor (d.queue q) → oldest ≤ id
-      → is_some ((d.queue q).sub consumer) ≡ true → s ≡ after_mark d (queued (moved q consumer id)) → after ≡ before ++ (who, Number 0) ∷ [] → Runs d s before after who (register_consumer_at d name consumer id)
+      → is_some ((d.queue q).sub consumer) ≡ true → s ≡ after_mark d (queued (moved q consumer id)) → after ≡ before ++ (who, Number 0) ∷ [] → Runs d s before after who (register_consumer_at d (record { queue = name; consumer = consumer; tick = id }))
   gives-moved s who id oldest before after within low le known changed pushed =
       subst (Runs d s before after who) (sym (at-tick id oldest true within low le known)) (record { accepted = refl; replied = pushed; changed = changed }, tt)
 

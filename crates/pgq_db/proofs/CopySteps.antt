@@ -29,15 +29,16 @@ use Rattle.sky_model.specs.State.{RowPart, after_part, after_part_marks, Databas
 use Rattle.sky_model.specs.ShownRows.{snapshot_now}
 use Rattle.sky_model.specs.OwnTransaction.{next_id}
 use Rattle.sky_model.specs.Outcome.{Outcome, Checked, ◌>>=◌, ◌>>◌, refused_if, answers, does_marks, reply_of, marks_of}
-use Rattle.sky_model.specs.CopyMoves.{columns_for, copy_running, rows_from, rows_of}
+use Rattle.sky_model.specs.CopyMoves.{rows_from, rows_of}
 use Rattle.sky_model.specs.StepCopy.{copy_write, copy_writes, deletions, insertions, rows_now, begins_copy, all_fit, copies_rows, ends_copy, given_up}
-use Rattle.sky_model.specs.StepNode.{beginning_copy, copying_rows, ending_copy, giving_up_copy, holding, letting_go, if_there, table_number, may_serve, node_does}
+use Rattle.sky_model.specs.StepNode.{beginning_copy, copying_rows, ending_copy, giving_up_copy, holding, letting_go, if_there, table_number, may_copy, may_serve, node_does}
 use Rattle.sky_model.specs.Promises.{after_all}
 use Rattle.sky_model.specs.DatabaseCalls.{database_part}
 use Rattle.sky_model.specs.DatabaseSteps.{IsMade}
 use Rattle.sky_histories.proofs.Legal.{Legal}
 use Rattle.sky_histories.proofs.Snapshots.{sound, runs-unended, copys-of}
 use Rattle.sky_histories.proofs.KeyVersions.{kept, key_holds}
+use Rattle.sky_histories.proofs.NodeTables.{one-place}
 use Rattle.sky_histories.proofs.Guarded.{copy_txid-some}
 use Rattle.sky_histories.proofs.Histories.{legal_calls}
 use Rattle.sky_trans.specs.declared.trans.TransFault.{TransFault}
@@ -52,39 +53,18 @@ use Rattle.pgq_queues.specs.EventRule.{event_rule}
 use Rattle.pgq_db.specs.Agreeing.{Agree}
 use Rattle.pgq_db.specs.Views.{DbView}
 use Rattle.pgq_db.specs.Seen.{with_node, seen_database}
-use Rattle.pgq_db.specs.declared.faults.CopyFault.{CopyFault}
-use Rattle.pgq_db.specs.declared.faults.CopyFault.TheVariants as copy
+use Rattle.londiste_calls.specs.declared.faults.CopyFault.{CopyFault}
+use Rattle.londiste_calls.specs.declared.faults.CopyFault.TheVariants as copy
 use Rattle.pgq_db.specs.Served.{Serves, CopyRefused}
-use Rattle.pgq_db.specs.Copying.{copy_fault_of, none_after, is_own_last, MayWrite, deletion, under_key, insertion}
+use Rattle.londiste_calls.specs.Faults.{copy_fault_of}
+use Rattle.pgq_db.specs.Copying.{MayCopy, none_after, is_own_last, MayWrite, deletion, under_key, insertion}
+pub use Rattle.londiste_apply.proofs.Own.{own-with, own-newest, own-fresh}
 use Rattle.pgq_db.proofs.Agreeing.{agree-then, agree-same, agree-stay}
-use Rattle.pgq_db.proofs.Databases.{table-there}
+use Rattle.pgq_db.proofs.Databases.{table-there, table-low}
 use Rattle.pgq_db.proofs.EventsAlike.{undone-shown}
-use Rattle.pgq_db.proofs.NodeSteps.{serves-by, served-nothing, table-missing}
+use Rattle.pgq_db.proofs.NodeSteps.{serves-by, served-nothing}
 
 -- ---- a copy may go on writing
-
--- a transaction's write leaves it so that only the last version may be the transaction's
-pub own-with : (t : ℕ) (row : Option (List Val)) (vs : List Version) → is_own_last t vs ≡ true → is_own_last t (with_version t row vs) ≡ true
-own-with t row [] own = grind (arith, nat_tests)
-own-with t row (v ∷ vs) own = grind (arith, nat_tests, own, own-with t row vs)
-
--- then its own version is the newest, if it has one
-pub own-newest : (t : ℕ) (vs : List Version) (newest : Option Version) → is_own_last t vs ≡ true → IsSome (version_of t vs) → newest_from (is_other None) newest vs ≡ version_of t vs
-own-newest t [] newest own is = absurd (cc)
-own-newest t (v ∷ []) newest own is = by (t == v.txid) refl is
-  where
-    by : (b : Bool) → (t == v.txid) ≡ b → IsSome (if b then Some v else None) → Some v ≡ (if t == v.txid then Some v else None)
-    by true same is = ap (λ b. if b then Some v else None) (sym same)
-    by false same is = absurd (cc)
-own-newest t (v ∷ w ∷ vs) newest own is = by (own-newest t (w ∷ vs) (Some v)) (t == v.txid) refl own is
-  where
-    by : (is_own_last t (w ∷ vs) ≡ true → IsSome (version_of t (w ∷ vs)) → newest_from (is_other None) (Some v) (w ∷ vs) ≡ version_of t (w ∷ vs)) → (b : Bool) → (t == v.txid) ≡ b → ((not b || false) && is_own_last t (w ∷ vs)) ≡ true → IsSome (if b then Some v else version_of t (w ∷ vs)) → newest_from (is_other None) (Some v) (w ∷ vs) ≡ (if t == v.txid then Some v else version_of t (w ∷ vs))
-    by rest true same own is = absurd (cc)
-    by rest false same own is = rest own is ∙ ap (λ b. if b then Some v else version_of t (w ∷ vs)) (sym same)
-
-pub own-fresh : (t : ℕ) (vs : List Version) → version_of t vs ≡ None → is_own_last t vs ≡ true
-own-fresh t [] none = refl
-own-fresh t (v ∷ vs) none = grind (arith, nat_tests, none, own-fresh t vs)
 
 own-only : (p : ℕ → Bool) (t : ℕ) (vs : List Version) → OnlyLast p vs → p t ≡ false → is_own_last t vs ≡ true
 own-only p t [] only unseen = refl
@@ -187,26 +167,33 @@ pub contains-last : (t : ℕ) (ts : List ℕ) → contains t (ts ++ t ∷ []) �
 contains-last t [] = grind (arith, nat_tests)
 contains-last t (u ∷ ts) = grind (arith, nat_tests, contains-last t ts)
 
-module _ (v now : DbView) (name : List ℕ) (table : ℕ) (same : v ≡ now) (there : place_of name (seen v.rows).tables ≡ Some table) where
+-- the table of a number that may be copied has one name
+pub may-named : (d : Database) (table : ℕ) → MayCopy d table → (name : List ℕ) → table_number d name ≡ Some table → may_copy name d.node ≡ true
+may-named d table may name number = ap (λ n. may_copy n d.node) (one-place name may.name d.part.tables table number may.number) ∙ may.may
+
+module _ (v now : DbView) (name : List ℕ) (table : ℕ) (same : v ≡ now) (number : table_number (seen_database now) name ≡ Some table) where
+  there : place_of name (seen v.rows).tables ≡ Some table
+  there = table-there v now name table same number
+
   -- a copy that begins may write
   pub begun-may : IsMade (seen_database now) → may_serve (beginning_copy name) (seen_database now).node ≡ true → (t : ℕ) → next_id (seen v.rows) ≡ Ok t → (begun : RowStateView) → seen begun ≡ after_part (seen v.rows) (began of_worker t)
-      → table < length (seen v.rows).tables → MayWrite (seen begun) table t
-  begun-may made may t left begun is low =
-      let begins = subst (λ (w : DbView). CopyMayBegin (seen_database w) table) (sym same) (copy-may-begin (seen_database now) made name table may (table-there v now name table same there)) in
+      → MayWrite (seen begun) table t
+  begun-may made may t left begun is =
+      let begins = subst (λ (w : DbView). CopyMayBegin (seen_database w) table) (sym same) (copy-may-begin (seen_database now) made name table may number) in
       subst (λ (d : RowPart). MayWrite d table t) (sym is) (record {
-        within = low;
+        within = table-low v now name table same number;
         runs = contains-last t (seen v.rows).workers;
         free = begins.free;
         last = λ key. own-fresh t (versions_at key ((seen v.rows).versions table)) (ap (λ u. version_of u (versions_at key ((seen v.rows).versions table))) (next-is (seen v.rows) t left) ∙ begins.fresh key);
       })
 
-  begin-there : may_serve (beginning_copy name) (seen_database v).node ≡ true → copy_running (seen_database v) name ≡ None → node_does (seen_database v) (beginning_copy name) ≡ begins_copy (seen_database v) table None
+  begin-there : may_serve (beginning_copy name) (seen_database v).node ≡ true → copy_txid table v.node.copies ≡ None → node_does (seen_database v) (beginning_copy name) ≡ begins_copy (seen_database v) table None
   begin-there may idle =
       is-served (seen_database v) (beginning_copy name) may
       ∙ ap (λ o. if_there o (λ n. begins_copy (seen_database v) n (copy_txid n v.node.copies))) there
-      ∙ ap (begins_copy (seen_database v) table) (sym (ap (option_and_then (λ n. copy_txid n v.node.copies)) there) ∙ idle)
+      ∙ ap (begins_copy (seen_database v) table) idle
 
-  pub begin-does : may_serve (beginning_copy name) (seen_database now).node ≡ true → copy_running (seen_database now) name ≡ None → (t : ℕ) → next_id (seen v.rows) ≡ Ok t
+  pub begin-does : may_serve (beginning_copy name) (seen_database now).node ≡ true → copy_txid table now.node.copies ≡ None → (t : ℕ) → next_id (seen v.rows) ≡ Ok t
       → (begun left : RowStateView) → seen begun ≡ after_part (seen v.rows) (began of_worker t) → (copies : List Copy) → copies ≡ v.node.copies ++ record { table = table; txid = t } ∷ []
       → (snapshot : SnapshotView) → snapshot ≡ snapshot_now (seen v.rows) → (keys : List (List Val)) → keys ≡ map (λ e. e.0) (rows_read snapshot None ((seen v.rows).versions table))
       → seen left ≡ after_part_marks (seen begun) (copy_writes (seen begun) table t (map deletion keys))
@@ -214,7 +201,7 @@ module _ (v now : DbView) (name : List ℕ) (table : ℕ) (same : v ≡ now) (th
   begin-does may idle t next begun left begins copies copied_is snapshot taken keys read is =
       subst (λ (d : DbView). Serves (seen_database d) (seen_database (record v { rows = left; node = record v.node { copies = copies } })) (beginning_copy name)) same
       (serves-by d _ (beginning_copy name) _
-      (begin-there (subst (λ (w : DbView). may_serve (beginning_copy name) (seen_database w).node ≡ true) (sym same) may) (subst (λ (w : DbView). copy_running (seen_database w) name ≡ None) (sym same) idle)
+      (begin-there (subst (λ (w : DbView). may_serve (beginning_copy name) (seen_database w).node ≡ true) (sym same) may) (subst (λ (w : DbView). copy_txid table w.node.copies ≡ None) (sym same) idle)
       ∙ ap (λ c. c >>= (λ u. does_marks Done (began (of_copy table) u ∷ copy_writes (after_part d.part (began (of_copy table) u)) table u (deletions (rows_now d.part table))))) next)
       ((λ i. seen_with (with_node (record v.node { copies = copied_is i }) (part i)) v.queues) ∙ sym (tabled-marks one table t (deletions (rows_now d.part table)))))
     where
@@ -231,13 +218,13 @@ module _ (v now : DbView) (name : List ℕ) (table : ℕ) (same : v ≡ now) (th
       part = is ∙ (λ i. after_part_marks (begins i) (copy_writes (begins i) table t (writes i)))
 
   -- unless there is no id
-  begin-spent : may_serve (beginning_copy name) (seen_database now).node ≡ true → copy_running (seen_database now) name ≡ None → next_id (seen v.rows) ≡ Err TxidsSpent → node_does (seen_database now) (beginning_copy name) ≡ Err TxidsSpent
+  begin-spent : may_serve (beginning_copy name) (seen_database now).node ≡ true → copy_txid table now.node.copies ≡ None → next_id (seen v.rows) ≡ Err TxidsSpent → node_does (seen_database now) (beginning_copy name) ≡ Err TxidsSpent
   begin-spent may idle spent =
       ap (λ (w : DbView). node_does (seen_database w) (beginning_copy name)) (sym same)
-      ∙ begin-there (subst (λ (w : DbView). may_serve (beginning_copy name) (seen_database w).node ≡ true) (sym same) may) (subst (λ (w : DbView). copy_running (seen_database w) name ≡ None) (sym same) idle)
+      ∙ begin-there (subst (λ (w : DbView). may_serve (beginning_copy name) (seen_database w).node ≡ true) (sym same) may) (subst (λ (w : DbView). copy_txid table w.node.copies ≡ None) (sym same) idle)
       ∙ ap (λ c. c >>= (λ u. does_marks Done (began (of_copy table) u ∷ copy_writes (after_part (seen v.rows) (began (of_copy table) u)) table u (deletions (rows_now (seen v.rows) table))))) spent
 
-  pub begin-refused : may_serve (beginning_copy name) (seen_database now).node ≡ true → copy_running (seen_database now) name ≡ None → (r : Result ℕ TransFault) (fault : TransFault) (to : CopyFault) (rows : RowStateView) → r ≡ Err fault
+  pub begin-refused : may_serve (beginning_copy name) (seen_database now).node ≡ true → copy_txid table now.node.copies ≡ None → (r : Result ℕ TransFault) (fault : TransFault) (to : CopyFault) (rows : RowStateView) → r ≡ Err fault
       → ((r ≡ Err trans.TxidsSpent) ↔ (next_id (seen v.rows) ≡ Err TxidsSpent)) → seen rows ≡ seen v.rows → to ≡ copy_fault_of fault → CopyRefused to (seen_database now) (seen_database (record v { rows = rows })) name
   begin-refused may idle r trans.TxidsSpent to rows is spent kept given = subst (λ f. CopyRefused f (seen_database now) (seen_database (record v { rows = rows })) name) (sym given) (record {
     refused = begin-spent may idle (spent.0 is);
@@ -247,33 +234,23 @@ module _ (v now : DbView) (name : List ℕ) (table : ℕ) (same : v ≡ now) (th
 
   -- ---- it goes on
 
-  pub goes-on : IsMade (seen_database now) → (o : Option ℕ) → o ≡ copy_txid table v.node.copies → IfSome o (λ t. CopyGoesOn (seen_database v) table t)
-  goes-on made None is = tt
-  goes-on made (Some t) is = subst (λ (w : DbView). CopyGoesOn (seen_database w) table t) (sym same) (copy-goes-on (seen_database now) made table t (ap (λ (w : DbView). copy_txid table w.node.copies) (sym same) ∙ sym is))
-
-  pub goes-on-runs : IsMade (seen_database now) → (o : Option ℕ) → o ≡ copy_txid table v.node.copies → IfSome o (λ t. contains t (seen v.rows).workers ≡ true)
-  goes-on-runs made None is = tt
-  goes-on-runs made (Some t) is = (goes-on made (Some t) is).runs
-
-  pub rows-may : IsMade (seen_database now) → (t : ℕ) → copy_txid table v.node.copies ≡ Some t → table < length (seen v.rows).tables → MayWrite (seen v.rows) table t
-  rows-may made t runs low =
-      let on = goes-on made (Some t) (sym runs) in
-      let own = subst (λ (w : DbView). (key : List Val) → is_own_last t (versions_at key ((seen w.rows).versions table)) ≡ true) (sym same)
-      (copy-own (seen_database now) made table t (ap (λ (w : DbView). copy_txid table w.node.copies) (sym same) ∙ runs)) in
-      record { within = low; runs = on.runs; free = on.free; last = own }
+  pub rows-may : IsMade (seen_database now) → (t : ℕ) → copy_txid table now.node.copies ≡ Some t → MayWrite (seen v.rows) table t
+  rows-may made t runs =
+      let on = subst (λ (w : DbView). CopyGoesOn (seen_database w) table t) (sym same) (copy-goes-on (seen_database now) made table t runs) in
+      let own = subst (λ (w : DbView). (key : List Val) → is_own_last t (versions_at key ((seen w.rows).versions table)) ≡ true) (sym same) (copy-own (seen_database now) made table t runs) in
+      record { within = table-low v now name table same number; runs = on.runs; free = on.free; last = own }
 
   -- nothing is written if no copy runs
-  pub rows-none : (rows : List (List Val)) → may_serve (copying_rows name rows) (seen_database now).node ≡ true → copy_txid table v.node.copies ≡ None → Serves (seen_database now) (seen_database now) (copying_rows name rows)
+  pub rows-none : (rows : List (List Val)) → may_serve (copying_rows name rows) (seen_database now).node ≡ true → copy_txid table now.node.copies ≡ None → Serves (seen_database now) (seen_database now) (copying_rows name rows)
   rows-none rows may none =
-      subst (λ (w : DbView). Serves (seen_database w) (seen_database w) (copying_rows name rows)) same
-      (served-nothing (seen_database v) (copying_rows name rows) (subst (λ (w : DbView). may_serve (copying_rows name rows) (seen_database w).node ≡ true) (sym same) may)
-      (ap (λ o. if_there o (λ n. if_there (copy_txid n v.node.copies) (λ t. copies_rows (seen_database v) n t rows))) there ∙ ap (λ o. if_there o (λ t. copies_rows (seen_database v) table t rows)) none))
+      served-nothing (seen_database now) (copying_rows name rows) may
+      (ap (λ o. if_there o (λ n. if_there (copy_txid n now.node.copies) (λ t. copies_rows (seen_database now) n t rows))) number ∙ ap (λ o. if_there o (λ t. copies_rows (seen_database now) table t rows)) none)
 
   inserted-rows : (columns : List Column) (rows : List (List Val)) → map insertion (map (under_key columns) rows) ≡ insertions columns rows
   inserted-rows columns [] = refl
   inserted-rows columns (row ∷ rows) = ap (λ ws. record { key = key_of columns row; row = Some row } ∷ ws) (inserted-rows columns rows)
 
-  pub rows-does : (rows : List (List Val)) → may_serve (copying_rows name rows) (seen_database now).node ≡ true → all_fit (columns_for (seen_database now) name) rows ≡ true → (t : ℕ) → copy_txid table v.node.copies ≡ Some t
+  pub rows-does : (rows : List (List Val)) → may_serve (copying_rows name rows) (seen_database now).node ≡ true → all_fit ((seen_database now).part.columns table) rows ≡ true → (t : ℕ) → copy_txid table now.node.copies ≡ Some t
       → (columns : List Column) → columns ≡ (seen v.rows).columns table → (keyed : List (List Val × List Val)) → keyed ≡ map (under_key columns) rows
       → (left : RowStateView) → seen left ≡ after_part_marks (seen v.rows) (copy_writes (seen v.rows) table t (map insertion keyed))
       → Serves (seen_database now) (seen_database (record v { rows = left })) (copying_rows name rows)
@@ -282,7 +259,7 @@ module _ (v now : DbView) (name : List ℕ) (table : ℕ) (same : v ≡ now) (th
       (serves-by d _ (copying_rows name rows) _
       (is-served d (copying_rows name rows) (subst (λ (w : DbView). may_serve (copying_rows name rows) (seen_database w).node ≡ true) (sym same) may)
       ∙ ap (λ o. if_there o (λ n. if_there (copy_txid n v.node.copies) (λ u. copies_rows d n u rows))) there
-      ∙ ap (λ o. if_there o (λ u. copies_rows d table u rows)) runs
+      ∙ ap (λ o. if_there o (λ u. copies_rows d table u rows)) (subst (λ (w : DbView). copy_txid table w.node.copies ≡ Some t) (sym same) runs)
       ∙ ap (λ b. if b then does_marks Done (copy_writes d.part table t (insertions (d.part.columns table) rows)) else answers Null) fits)
       ((λ i. seen_with (with_node v.node (part i)) v.queues) ∙ sym (tabled-marks d table t (insertions (d.part.columns table) rows))))
     where
@@ -290,7 +267,7 @@ module _ (v now : DbView) (name : List ℕ) (table : ℕ) (same : v ≡ now) (th
       d = seen_database v
 
       fits : all_fit (d.part.columns table) rows ≡ true
-      fits = sym (ap (λ o. all_fit (unwrap_or (option_map d.part.columns o) []) rows) there) ∙ subst (λ (w : DbView). all_fit (columns_for (seen_database w) name) rows ≡ true) (sym same) fit
+      fits = subst (λ (w : DbView). all_fit ((seen_database w).part.columns table) rows ≡ true) (sym same) fit
 
       writes : map insertion keyed ≡ insertions (d.part.columns table) rows
       writes = ap (map insertion) read ∙ inserted-rows columns rows ∙ ap (λ cs. insertions cs rows) of_table
@@ -298,48 +275,20 @@ module _ (v now : DbView) (name : List ℕ) (table : ℕ) (same : v ≡ now) (th
       part : seen left ≡ after_part_marks d.part (copy_writes d.part table t (insertions (d.part.columns table) rows))
       part = is ∙ ap (λ ws. after_part_marks d.part (copy_writes d.part table t ws)) writes
 
--- ---- a table that isn't there
-
-module _ (v now : DbView) (name : List ℕ) (same : v ≡ now) (missing : place_of name (seen v.rows).tables ≡ None) where
-  pub begin-nothing : may_serve (beginning_copy name) (seen_database now).node ≡ true → Serves (seen_database now) (seen_database now) (beginning_copy name)
-  begin-nothing may = served-nothing (seen_database now) (beginning_copy name) may (ap (λ o. if_there o (λ t. begins_copy (seen_database now) t (copy_txid t now.node.copies))) (table-missing v now name same missing))
-
-  pub rows-nothing : (rows : List (List Val)) → may_serve (copying_rows name rows) (seen_database now).node ≡ true → Serves (seen_database now) (seen_database now) (copying_rows name rows)
-  rows-nothing rows may = served-nothing (seen_database now) (copying_rows name rows) may
-      (ap (λ o. if_there o (λ t. if_there (copy_txid t now.node.copies) (λ u. copies_rows (seen_database now) t u rows))) (table-missing v now name same missing))
-
-  pub drop-nothing : may_serve (giving_up_copy name) (seen_database now).node ≡ true → Serves (seen_database now) (seen_database now) (giving_up_copy name)
-  drop-nothing may = served-nothing (seen_database now) (giving_up_copy name) may (ap (λ o. if_there o (λ t. does_marks Done (given_up t name (copy_txid t now.node.copies)))) (table-missing v now name same missing))
-
 -- ---- a copy ends
 
--- one that runs is a worker's
-pub running-works : (d : Database) → IsMade d → (name : List ℕ) (t : ℕ) → copy_running d name ≡ Some t → contains t d.part.workers ≡ true
-running-works d made name t runs = by (table_number d name) runs
-  where
-    by : (o : Option ℕ) → option_and_then (λ n. copy_txid n d.copies) o ≡ Some t → contains t d.part.workers ≡ true
-    by None runs = absurd (cc)
-    by (Some table) runs = (copy-goes-on d made table t runs).runs
+module _ (d : Database) (name : List ℕ) (table : ℕ) (number : table_number d name ≡ Some table) (snapshot : SnapshotView) (tick : ℕ) (may : may_serve (ending_copy name snapshot tick) d.node ≡ true) where
+  ends-there : node_does d (ending_copy name snapshot tick) ≡ if_there (copy_txid table d.copies) (λ t. ends_copy table t name snapshot tick)
+  ends-there = is-served d (ending_copy name snapshot tick) may ∙ ap (λ o. if_there o (λ n. if_there (copy_txid n d.copies) (λ t. ends_copy n t name snapshot tick))) number
 
-module _ (d : Database) (name : List ℕ) (snapshot : SnapshotView) (tick : ℕ) (may : may_serve (ending_copy name snapshot tick) d.node ≡ true) where
-  abbrev ends : Option ℕ → Checked Outcome
-  ends o = if_there o (λ table. if_there (copy_txid table d.copies) (λ t. ends_copy table t name snapshot tick))
+  pub end-nothing : copy_txid table d.copies ≡ None → Serves d d (ending_copy name snapshot tick)
+  end-nothing none =
+      let nothing = ends-there ∙ ap (λ o. if_there o (λ t. ends_copy table t name snapshot tick)) none in
+      record { accepted = ap is_ok nothing; changed = sym (ap (λ c. after_marks d (marks_of c)) nothing) }
 
-  pub end-nothing : copy_running d name ≡ None → Serves d d (ending_copy name snapshot tick)
-  end-nothing none = served-nothing d (ending_copy name snapshot tick) may (by (table_number d name) none)
-    where
-      by : (o : Option ℕ) → option_and_then (λ n. copy_txid n d.copies) o ≡ None → ends o ≡ answers Null
-      by None none = refl
-      by (Some table) none = ap (λ o. if_there o (λ t. ends_copy table t name snapshot tick)) none
-
-  pub end-does : (t : ℕ) → copy_running d name ≡ Some t → (new : Database)
-      → ((table : ℕ) → new ≡ after_mark (record d { node = after_node (copied name snapshot tick) d.node }) (ended (of_copy table) t true)) → Serves d new (ending_copy name snapshot tick)
-  end-does t runs new ended_is = by (table_number d name) refl runs
-    where
-      by : (o : Option ℕ) → table_number d name ≡ o → option_and_then (λ n. copy_txid n d.copies) o ≡ Some t → Serves d new (ending_copy name snapshot tick)
-      by None at runs = absurd (cc)
-      by (Some table) at runs =
-          serves-by d new (ending_copy name snapshot tick) _ (is-served d (ending_copy name snapshot tick) may ∙ ap ends at ∙ ap (λ o. if_there o (λ u. ends_copy table u name snapshot tick)) runs) (ended_is table)
+  pub end-does : (t : ℕ) → copy_txid table d.copies ≡ Some t → (new : Database)
+      → new ≡ after_mark (record d { node = after_node (copied name snapshot tick) d.node }) (ended (of_copy table) t true) → Serves d new (ending_copy name snapshot tick)
+  end-does t runs new ended_is = serves-by d new (ending_copy name snapshot tick) _ (ends-there ∙ ap (λ o. if_there o (λ u. ends_copy table u name snapshot tick)) runs) ended_is
 
 -- it commits, or rolls back
 pub committed-as : (v now : DbView) (rows : RowStateView) (copies : List Copy) (table t : ℕ) → v ≡ now → seen rows ≡ after_part (seen v.rows) (ended of_worker t true) → copies ≡ without_copy t v.node.copies
@@ -378,12 +327,12 @@ drop-does now name table may there new is =
     (is-served (seen_database now) (giving_up_copy name) may ∙ ap (λ o. if_there o (λ t. does_marks Done (given_up t name (copy_txid t now.node.copies)))) there) is
 
 -- so a table is still there
-pub low-still : (v now w left : DbView) (name : List ℕ) (table : ℕ) → v ≡ now → place_of name (seen v.rows).tables ≡ Some table → w ≡ left
+pub low-still : (now w left : DbView) (name : List ℕ) (table : ℕ) → table_number (seen_database now) name ≡ Some table → w ≡ left
     → seen_database left ≡ after_marks (seen_database now) (given_up table name (copy_txid table now.node.copies)) → table < length (seen w.rows).tables
-low-still v now w left name table same there is given =
+low-still now w left name table number is given =
     subst (λ (names : List (List ℕ)). table < length names)
     (sym (ap (λ (x : DbView). (seen x.rows).tables) is ∙ given_up-tables (seen_database now) (seen_database left) table name (copy_txid table now.node.copies) given))
-    (place_of_within name (seen_database now).part.tables table (table-there v now name table same there))
+    (place_of_within name (seen_database now).part.tables table number)
 
 pub runs-now : (d : Database) → IsMade d → (table : ℕ) → IfSome (copy_txid table d.copies) (λ t. contains t d.part.workers ≡ true)
 runs-now d made table = of (copy_txid table d.copies) refl
@@ -435,14 +384,14 @@ lets-go v now same holds number is =
         record { accepted = ap is_ok nothing; changed = ap with_holds (is ∙ none-gone number v.node.holds none) ∙ sym (ap (λ c. after_marks (seen_database v) (marks_of c)) nothing) }
 
 -- rows that are read under a hold's snapshot
-pub held-rows : (v now : DbView) (name : List ℕ) (table : ℕ) → v ≡ now → place_of name (seen v.rows).tables ≡ Some table → (snapshot : SnapshotView) (o : Option SnapshotView) → o ≡ Some snapshot
+held-rows : (v now : DbView) (name : List ℕ) (table : ℕ) → v ≡ now → table_number (seen_database now) name ≡ Some table → (snapshot : SnapshotView) (o : Option SnapshotView) → o ≡ Some snapshot
     → (after : Option (List Val)) (most : ℕ) (rows : List (List Val)) → rows ≡ take most (map (λ e. e.1) (rows_read snapshot None (above after ((seen v.rows).versions table))))
     → IfSome o (λ s. rows ≡ rows_of (rows_from (seen_database now) name s after most))
-held-rows v now name table same there snapshot o held after most rows read =
+held-rows v now name table same number snapshot o held after most rows read =
     subst (λ x. IfSome x (λ s. rows ≡ rows_of (rows_from (seen_database now) name s after most))) (sym held)
     (read
     ∙ take-map (λ (e : List Val × List Val). e.1) most (rows_read snapshot None (above after ((seen v.rows).versions table)))
-    ∙ sym (ap (λ x. rows_of (unwrap_or (option_map (λ t. take most (rows_read snapshot None (above after ((seen v.rows).versions t)))) x) [])) there)
+    ∙ sym (ap (λ x. rows_of (unwrap_or (option_map (λ t. take most (rows_read snapshot None (above after ((seen v.rows).versions t)))) x) [])) (table-there v now name table same number))
     ∙ ap (λ (w : DbView). rows_of (rows_from (seen_database w) name snapshot after most)) same)
 
 -- ---- what the calls return
@@ -464,19 +413,19 @@ module _ {E : Type 0} (v now : DbView) (same : v ≡ now) where
   hold-fails (Ok number) holds is = tt
   hold-fails (Err e) holds is = (λ i. seen_with (with_node (record v.node { holds = is i }) (seen v.rows)) v.queues) ∙ ap seen_database same
 
-  pub rows-serve : (r : Result (Unit {0}) E) (name : List ℕ) (table : ℕ) → place_of name (seen v.rows).tables ≡ Some table → (rows : List (List Val)) → may_serve (copying_rows name rows) (seen_database now).node ≡ true
-      → all_fit (columns_for (seen_database now) name) rows ≡ true → (t : ℕ) → copy_txid table v.node.copies ≡ Some t → (columns : List Column) → columns ≡ (seen v.rows).columns table
+  pub rows-serve : (r : Result (Unit {0}) E) (name : List ℕ) (table : ℕ) → table_number (seen_database now) name ≡ Some table → MayCopy (seen_database now) table → (rows : List (List Val)) → all_fit ((seen_database now).part.columns table) rows ≡ true → (t : ℕ) → copy_txid table now.node.copies ≡ Some t → (columns : List Column) → columns ≡ (seen v.rows).columns table
       → (keyed : List (List Val × List Val)) → keyed ≡ map (under_key columns) rows → (left : RowStateView) → OnOk r (seen left ≡ after_part_marks (seen v.rows) (copy_writes (seen v.rows) table t (map insertion keyed)))
       → OnOk r (Serves (seen_database now) (seen_database (record v { rows = left })) (copying_rows name rows))
-  rows-serve (Ok u) name table there rows may fit t runs columns of_table keyed read left is = rows-does v now name table same there rows may fit t runs columns of_table keyed read left is
-  rows-serve (Err e) name table there rows may fit t runs columns of_table keyed read left is = tt
+  rows-serve (Ok u) name table number may rows fit t runs columns of_table keyed read left is =
+      rows-does v now name table same number rows (may-named (seen_database now) table may name number) fit t runs columns of_table keyed read left is
+  rows-serve (Err e) name table number may rows fit t runs columns of_table keyed read left is = tt
 
 pub held-not : (o : Option SnapshotView) → None ≡ o → is_some o ≡ true → ⊥
 held-not None none held = absurd (cc)
 held-not (Some s) none held = absurd (cc)
 
-pub held-rows-if : {V E : Type 0} (items : V → List (List Val)) (r : Result V E) (v now : DbView) (name : List ℕ) (table : ℕ) → v ≡ now → place_of name (seen v.rows).tables ≡ Some table → (snapshot : SnapshotView) (o : Option SnapshotView)
+pub held-rows-if : {V E : Type 0} (items : V → List (List Val)) (r : Result V E) (v now : DbView) (name : List ℕ) (table : ℕ) → v ≡ now → table_number (seen_database now) name ≡ Some table → (snapshot : SnapshotView) (o : Option SnapshotView)
     → o ≡ Some snapshot → (after : Option (List Val)) (most : ℕ) → IfOk r (λ rows. items rows ≡ take most (map (λ e. e.1) (rows_read snapshot None (above after ((seen v.rows).versions table)))))
     → IfOk r (λ rows. IfSome o (λ s. items rows ≡ rows_of (rows_from (seen_database now) name s after most)))
-held-rows-if items (Ok rows) v now name table same there snapshot o held after most read = held-rows v now name table same there snapshot o held after most (items rows) read
-held-rows-if items (Err e) v now name table same there snapshot o held after most read = tt
+held-rows-if items (Ok rows) v now name table same number snapshot o held after most read = held-rows v now name table same number snapshot o held after most (items rows) read
+held-rows-if items (Err e) v now name table same number snapshot o held after most read = tt

@@ -1,29 +1,29 @@
 -- What a database shows, after what the code changed in it.
-use Rattle.std.proofs.Common.{Err, is_ok, ◌≡◌, ℕ, ℤ, ◌+◌, ◌<◌, ◌≤◌, ◌^◌, List, [], ◌∷◌, ◌++◌, Bool, true, false, nat_le, Option, Some, None, Result, Ok, IfOk, OnOk, is_some, length, append_assoc, option_map, refl, sym, ◌∙◌, ap, subst, arith, if◌then◌else◌, ◌↔◌, ◌==◌}
+use Rattle.std.proofs.Common.{Err, ◌≡◌, ℕ, ℤ, ◌+◌, ◌<◌, ◌≤◌, ◌^◌, List, [], ◌∷◌, ◌++◌, Bool, true, false, nat_le, Option, Some, None, Result, Ok, IfOk, OnOk, is_some, length, append_assoc, option_map, refl, sym, ◌∙◌, ap, subst, arith, if◌then◌else◌, ◌↔◌, ◌==◌}
 use Rattle.std.proofs.lemmas.Bool.Decides.{nat_tests}
 use Rattle.sky_val.specs.declared.event.Event.{Event}
 use Rattle.sky_txid.specs.Snapshot.{SnapshotView}
 use Rattle.sky_names.specs.Places.{place_of}
-use Rattle.sky_model.specs.declared.stmt.Extra.{Extra}
+use Rattle.sky_model.specs.declared.stmt.InsertedEvent.{InsertedEvent}
+use Rattle.sky_names.proofs.PlaceLemmas.{place_of_within}
+use Rattle.sky_model.specs.StepNode.{table_number}
 use Rattle.sky_model.specs.declared.reply.Reply.{Reply}
-use Rattle.std.specs.Prelude.{find, not, ◌&&◌}
-use Rattle.sky_model.specs.ShownRows.{least_writer}
-use Rattle.sky_model.specs.StepTrigger.{has_trigger, may_ignore, add_trigger}
-use Rattle.sky_model.specs.declared.reply.Reply.TheVariants.{Done, Number, Refused}
-use Rattle.sky_model.specs.declared.reply.Limit.TheVariants.{Queues, Triggers}
+use Rattle.std.specs.Prelude.{not, ◌&&◌}
+use Rattle.sky_model.specs.declared.reply.Reply.TheVariants.{Number, Refused}
+use Rattle.sky_model.specs.declared.reply.Limit.TheVariants.{Queues}
 use Rattle.sky_model.specs.declared.reply.Refusal.{Refusal}
-use Rattle.sky_model.specs.declared.reply.Refusal.TheVariants.{BadColumn, HasConsumers, HasTriggers, NoTable, QueueBusy, ReservedType, SetQueue, TableBusy, TooMany, TriggerExists, EventIdsSpent, IdsSpent}
+use Rattle.sky_model.specs.declared.reply.Refusal.TheVariants.{HasConsumers, HasTriggers, QueueBusy, ReservedType, SetQueue, TooMany, EventIdsSpent, IdsSpent}
 use Rattle.sky_model.specs.declared.stmt.DbStmt.{DbStmt}
 use Rattle.sky_model.specs.declared.stmt.Where.{Where}
-use Rattle.sky_model.specs.History.{Mark, sight_taken, block_failed, queued, QueueMark, made, raised, put, dropped, traced}
+use Rattle.sky_model.specs.History.{Mark, sight_taken, block_failed, queued, QueueMark, made, raised, put, dropped}
 use Rattle.sky_model.specs.Sessions.{Block, outside, inside}
 use Rattle.sky_model.specs.Queues.{queue_number}
 use Rattle.sky_model.specs.Nodes.{is_set_queue}
-use Rattle.sky_model.specs.Triggers.{TableTrigger, triggers_of}
+use Rattle.sky_model.specs.Triggers.{TableTrigger}
 use Rattle.sky_model.specs.Printed.{ReplyHasMoments}
 use Rattle.sky_model.specs.State.{RowPart, after_part_marks, Database, after_mark, after_marks}
 use Rattle.sky_model.specs.ShownRows.{snapshot_now}
-use Rattle.sky_model.specs.Outcome.{Outcome, Checked, ◌>>=◌, ◌>>◌, refused_if, refused_by, found_or, answers, does_marks, reply_of, end_of, aborts, abort, or_refused}
+use Rattle.sky_model.specs.Outcome.{Outcome, Checked, ◌>>=◌, ◌>>◌, refused_if, refused_by, answers, does_marks, reply_of, end_of, aborts, abort, or_refused}
 use Rattle.sky_model.specs.OwnTransaction.{txid_for, begin_of, commit_of, in_own}
 use Rattle.sky_model.specs.StepQueue.{create_queue, drop_queue, first_trigger_into, shown_name, least_producer, insert_event, tells_of_rows, queue_called, next_event_id, made_event}
 use Rattle.sky_model.specs.Allowed.{where_of}
@@ -42,7 +42,7 @@ use Rattle.pgq_queues.specs.Seen.{seen_with, Beside}
 use Rattle.pgq_db.specs.Views.{DbView}
 use Rattle.pgq_db.specs.Seen.{with_node, seen_database}
 use Rattle.pgq_db.specs.Gives.{Gives, Adds, Answers, Does}
-use Rattle.sky_model.specs.Stops.{Refuses, Stops, StopsAs, Keeps}
+use Rattle.sky_model.specs.Stops.{Refuses, Stops}
 use Rattle.sky_model.specs.declared.stop.Stop.{Stop}
 use Rattle.sky_model.specs.declared.stop.Stop.TheVariants as stops
 use Rattle.pgq_tick.specs.declared.ticks.TickFault.{TickFault}
@@ -103,13 +103,13 @@ behind-queue d name ev_type q place plain rest =
     ap (λ c. c >>= (λ n. refused_if (is_set_queue name d.node && tells_of_rows ev_type) ReservedType >> rest n)) place ∙ ap (λ b. refused_if b ReservedType >> rest q) plain
 
 -- what an inserted event gives
-pub gives-event : (d s1 s2 s3 : Database) (now time : ℤ) (who : ℕ) (name : List ℕ) (ev_type ev_data : Option (List ℕ)) (extra : Option Extra) (q seq t : ℕ) (event : Event) (before after : List (ℕ × Reply))
-    → queue_called name d ≡ Ok q → (is_set_queue name d.node && tells_of_rows ev_type) ≡ false → txid_for d.part who ≡ Ok t → seq ≡ (d.queue q).seq → seq + 1 < 2 ^ 62 → time ≡ now
-    → event ≡ made_event (seq + 1) time t ev_type ev_data extra
+pub gives-event : (d s1 s2 s3 : Database) (now time : ℤ) (who : ℕ) (inserted : InsertedEvent) (q seq t : ℕ) (event : Event) (before after : List (ℕ × Reply))
+    → queue_called inserted.queue d ≡ Ok q → (is_set_queue inserted.queue d.node && tells_of_rows inserted.ev_type) ≡ false → txid_for d.part who ≡ Ok t → seq ≡ (d.queue q).seq → seq + 1 < 2 ^ 62 → time ≡ now
+    → event ≡ made_event (seq + 1) time t inserted.ev_type inserted.ev_data inserted.extra
     → s1 ≡ after_marks d (begin_of who t (d.part.session who).txid ++ commit_of who t (d.part.session who).block)
     → s2 ≡ after_mark s1 (queued (raised q (seq + 1))) → s3 ≡ after_mark s2 (queued (put q event))
-    → after ≡ before ++ (who, Number (seq + 1)) ∷ [] → Runs d s3 before after who (insert_event d now who name ev_type ev_data extra)
-gives-event d s1 s2 s3 now time who name ev_type ev_data extra q seq t event before after place plain txid is room at made_is m1 m2 m3 pushed =
+    → after ≡ before ++ (who, Number (seq + 1)) ∷ [] → Runs d s3 before after who (insert_event d now who inserted)
+gives-event d s1 s2 s3 now time who inserted q seq t event before after place plain txid is room at made_is m1 m2 m3 pushed =
     subst (Runs d s3 before after who) (sym whole) (
       record {
         accepted = refl;
@@ -117,7 +117,7 @@ gives-event d s1 s2 s3 now time who name ev_type ev_data extra q seq t event bef
         changed = m3 ∙ ap (λ s. after_mark s (queued (put q event))) (m2 ∙ ap (λ s. after_mark s (queued (raised q (seq + 1)))) m1)
             ∙ event-written d who t (d.part.session who).txid (d.part.session who).block q (seq + 1) event
             ∙ ap (λ e. after_marks d (in_own who t (d.part.session who) (queued (raised q (seq + 1)) ∷ queued (put q e) ∷ [])))
-            (made_is ∙ ap (λ x. made_event (seq + 1) x t ev_type ev_data extra) at);
+            (made_is ∙ ap (λ x. made_event (seq + 1) x t inserted.ev_type inserted.ev_data inserted.extra) at);
       },
       tt,
     )
@@ -126,14 +126,14 @@ gives-event d s1 s2 s3 now time who name ev_type ev_data extra q seq t event bef
     unspent = grind (arith, nat_tests)
 
     result : ℕ → Checked Outcome
-    result id = does_marks (Number id) (in_own who t (d.part.session who) (queued (raised q id) ∷ queued (put q (made_event id now t ev_type ev_data extra)) ∷ []))
+    result id = does_marks (Number id) (in_own who t (d.part.session who) (queued (raised q id) ∷ queued (put q (made_event id now t inserted.ev_type inserted.ev_data inserted.extra)) ∷ []))
 
-    whole : insert_event d now who name ev_type ev_data extra ≡ result (seq + 1)
+    whole : insert_event d now who inserted ≡ result (seq + 1)
     whole =
-        behind-queue d name ev_type q place plain (λ n. txid_for d.part who >>= (λ x. next_event_id (d.queue n) >>= (λ id.
-        does_marks (Number id) (in_own who x (d.part.session who) (queued (raised n id) ∷ queued (put n (made_event id now x ev_type ev_data extra)) ∷ [])))))
+        behind-queue d inserted.queue inserted.ev_type q place plain (λ n. txid_for d.part who >>= (λ x. next_event_id (d.queue n) >>= (λ id.
+        does_marks (Number id) (in_own who x (d.part.session who) (queued (raised n id) ∷ queued (put n (made_event id now x inserted.ev_type inserted.ev_data inserted.extra)) ∷ [])))))
         ∙ ap (λ c. c >>= (λ x. next_event_id (d.queue q) >>= (λ id.
-        does_marks (Number id) (in_own who x (d.part.session who) (queued (raised q id) ∷ queued (put q (made_event id now x ev_type ev_data extra)) ∷ []))))) txid
+        does_marks (Number id) (in_own who x (d.part.session who) (queued (raised q id) ∷ queued (put q (made_event id now x inserted.ev_type inserted.ev_data inserted.extra)) ∷ []))))) txid
         ∙ ap (λ b. (refused_if b EventIdsSpent >> Ok ((d.queue q).seq + 1)) >>= result) unspent
         ∙ ap (λ n. result (n + 1)) (sym is)
 
@@ -331,23 +331,6 @@ adds-then now d s1 s2 turn before between after first later = record {
 pub gives-added : (d s : Database) (before after : List (ℕ × Reply)) (turn : Turn) → before ≡ [] → Adds d s before after turn → Gives d s after turn
 gives-added d s before after turn none adds = record { replied = adds.replied ∙ ap (λ xs. xs ++ turn.answers) none; changed = adds.changed }
 
--- ids that are spent keep an event from being made
-pub spent-events : (d : Database) (now : ℤ) (who : ℕ) (name : List ℕ) (ev_type ev_data : Option (List ℕ)) (extra : Option Extra) (q seq : ℕ) → queue_called name d ≡ Ok q
-    → (is_set_queue name d.node && tells_of_rows ev_type) ≡ false → is_ok (txid_for d.part who) ≡ true → seq ≡ (d.queue q).seq → 2 ^ 62 ≤ seq + 1 → insert_event d now who name ev_type ev_data extra ≡ Err EventIdsSpent
-spent-events d now who name ev_type ev_data extra q seq place plain left is over =
-    behind-queue d name ev_type q place plain (λ n. txid_for d.part who >>= (λ x. next_event_id (d.queue n) >>= (λ id.
-    does_marks (Number id) (in_own who x (d.part.session who) (queued (raised n id) ∷ queued (put n (made_event id now x ev_type ev_data extra)) ∷ [])))))
-    ∙ of (txid_for d.part who) left
-  where
-    spent : nat_le (2 ^ 62) ((d.queue q).seq + 1) ≡ true
-    spent = grind (arith, nat_tests)
-
-    of : (c : Checked ℕ) → is_ok c ≡ true → (c >>= (λ x. next_event_id (d.queue q) >>= (λ id.
-        does_marks (Number id) (in_own who x (d.part.session who) (queued (raised q id) ∷ queued (put q (made_event id now x ev_type ev_data extra)) ∷ []))))) ≡ Err EventIdsSpent
-    of (Ok x) e = ap (λ b. (refused_if b EventIdsSpent >> Ok ((d.queue q).seq + 1)) >>= (λ id.
-        does_marks (Number id) (in_own who x (d.part.session who) (queued (raised q id) ∷ queued (put q (made_event id now x ev_type ev_data extra)) ∷ [])))) spent
-    of (Err refusal) e = absurd (cc)
-
 -- a transaction that got its id, and ended if it is in no block
 pub took : (d : Database) (left : RowPart) (who t : ℕ) → left ≡ after_part_marks d.part (in_own who t (d.part.session who) [])
     → record d { part = left } ≡ after_marks d (begin_of who t (d.part.session who).txid ++ commit_of who t (d.part.session who).block)
@@ -364,33 +347,14 @@ pub entered-steps : {E : Type 0} (d s : Database) (who : ℕ) (alone : Bool) (r 
 entered-steps d s who alone (Ok refusal) enters but = database_enter_from_exact d s who alone refusal enters but
 entered-steps d s who alone (Err e) enters but = tt
 
--- what is found in the rows, and in the queues, is so in the database
-pub table-there : (v now : DbView) (table : List ℕ) (n : ℕ) → v ≡ now → place_of table (seen v.rows).tables ≡ Some n → place_of table (seen_database now).part.tables ≡ Some n
-table-there v now table n same there = subst (λ (w : DbView). place_of table (seen w.rows).tables ≡ Some n) same there
+-- a table that the database has is among those of the rows
+pub table-there : (v now : DbView) (table : List ℕ) (n : ℕ) → v ≡ now → table_number (seen_database now) table ≡ Some n → place_of table (seen v.rows).tables ≡ Some n
+table-there v now table n same number = subst (λ (w : DbView). place_of table (seen w.rows).tables ≡ Some n) (sym same) number
+
+pub table-low : (v now : DbView) (table : List ℕ) (n : ℕ) → v ≡ now → table_number (seen_database now) table ≡ Some n → n < length (seen v.rows).tables
+table-low v now table n same number = place_of_within table (seen v.rows).tables n (table-there v now table n same number)
+
+-- what is found in the queues is so in the database
 
 pub queue-known : (v now : DbView) (queue : List ℕ) (q : ℕ) → v ≡ now → ((beside : Beside) → queue_called queue (seen_with beside v.queues) ≡ Ok q) → queue_called queue (seen_database now) ≡ Ok q
 queue-known v now queue q same known = subst (λ (w : DbView). queue_called queue (seen_database w) ≡ Ok q) same (known (with_node v.node (seen v.rows)))
-
--- a trigger that is to ignore a column that it may not, or memory ran out
-pub bad-column : {A : Type 0} (d : Database) (name table queue : List ℕ) (backup : Bool) (ignored : List (List ℕ)) (n q : ℕ) → place_of table d.part.tables ≡ Some n → queue_called queue d ≡ Ok q
-    → is_set_queue queue d.node ≡ false → has_trigger name (triggers_of n d.triggers) ≡ false → length (triggers_of n d.triggers) < 8 → (stop : Stop) (replies : A)
-    → StopsAs stop (refused_by (option_map BadColumn (find (λ x. not (may_ignore (d.part.columns n) x)) ignored))) → Stops stop d d (add_trigger d name table queue backup ignored) × Keeps stop replies replies
-bad-column d name table queue backup ignored n q there known unset new few stops.NoMemory replies bad = (tt, tt)
-bad-column d name table queue backup ignored n q there known unset new few (stops.Refused refusal) replies bad = (record { refused = refused; same = refl }, refl)
-  where
-    checked : ℕ → Checked (Unit {0})
-    checked t = refused_by (option_map BadColumn (find (λ y. not (may_ignore (d.part.columns t) y)) ignored))
-
-    rest : ℕ → ℕ → Bool → Bool → Checked (Unit {0}) → Checked Outcome
-    rest t x has full ignores = refused_if has (TriggerExists name) >> (refused_if full (TooMany Triggers) >> (ignores >> (refused_by (option_map TableBusy (least_writer d.part t))
-        >> does_marks Done (queued (traced t (Some name) (record { queue = x; backup = backup; ignored = ignored })) ∷ []))))
-
-    free : nat_le 8 (length (triggers_of n d.triggers)) ≡ false
-    free = grind (arith, nat_tests)
-
-    refused : add_trigger d name table queue backup ignored ≡ Err refusal
-    refused =
-        ap (λ o. found_or o (NoTable table) >>= (λ t. queue_called queue d >>= (λ x. refused_if (is_set_queue queue d.node) SetQueue >> rest t x (has_trigger name (triggers_of t d.triggers)) (nat_le 8 (length (triggers_of t d.triggers))) (checked t)))) there
-        ∙ ap (λ c. c >>= (λ x. refused_if (is_set_queue queue d.node) SetQueue >> rest n x (has_trigger name (triggers_of n d.triggers)) (nat_le 8 (length (triggers_of n d.triggers))) (checked n))) known
-        ∙ ap (λ b. refused_if b SetQueue >> rest n q (has_trigger name (triggers_of n d.triggers)) (nat_le 8 (length (triggers_of n d.triggers))) (checked n)) unset
-        ∙ (λ i. rest n q (new i) (free i) (bad i))

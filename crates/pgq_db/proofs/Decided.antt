@@ -1,8 +1,9 @@
 -- A statement whose tests come first: it stops at one of them, or does what they decided.
-use Rattle.std.proofs.Common.{Err, ◌≡◌, ℕ, ◌<◌, List, [], ◌∷◌, ◌++◌, Bool, true, false, nat_le, length, option_map, Some, Ok, refl, sym, ◌∙◌, ap, subst, arith}
+use Rattle.std.proofs.Common.{Err, ◌≡◌, ℕ, ◌<◌, List, [], ◌∷◌, ◌++◌, true, false, nat_le, length, option_map, Some, Ok, refl, sym, ◌∙◌, ap, subst, arith}
 use Rattle.std.proofs.lemmas.Bool.Decides.{nat_tests}
 use Rattle.std.specs.Prelude.{find, not}
 use Rattle.sky_names.specs.Places.{place_of}
+use Rattle.sky_model.specs.declared.stmt.AddedTrigger.{AddedTrigger}
 use Rattle.sky_model.specs.declared.reply.Reply.{Reply}
 use Rattle.sky_model.specs.declared.reply.Reply.TheVariants.{Done}
 use Rattle.sky_model.specs.declared.reply.Limit.TheVariants.{Triggers}
@@ -55,29 +56,29 @@ is-sets queue d n is set = λ i. is i >>= (λ q. refused_if (set i) SetQueue >> 
 pub is-free : (queue : List ℕ) (d : Database) (n : ℕ) → queue_called queue d ≡ Ok n → is_set_queue queue d.node ≡ false → queue_of_no_set queue d ≡ Ok n
 is-free queue d n is unset = λ i. is i >>= (λ q. refused_if (unset i) SetQueue >> Ok q)
 
-module _ (d : Database) (name table queue : List ℕ) (backup : Bool) (ignored : List (List ℕ)) where
+module _ (d : Database) (asked : AddedTrigger) where
   -- the tests of a table, in their order
   abbrev is_new : ℕ → Checked (Unit {0})
-  is_new t = refused_if (has_trigger name (triggers_of t d.triggers)) (TriggerExists name)
+  is_new t = refused_if (has_trigger asked.name (triggers_of t d.triggers)) (TriggerExists asked.name)
 
   abbrev has_room : ℕ → Checked (Unit {0})
   has_room t = refused_if (nat_le 8 (length (triggers_of t d.triggers))) (TooMany Triggers)
 
   abbrev ignores : ℕ → Checked (Unit {0})
-  ignores t = refused_by (option_map BadColumn (find (λ x. not (may_ignore (d.part.columns t) x)) ignored))
+  ignores t = refused_by (option_map BadColumn (find (λ x. not (may_ignore (d.part.columns t) x)) asked.ignored))
 
   abbrev is_idle : ℕ → Checked (Unit {0})
   is_idle t = refused_by (option_map TableBusy (least_writer d.part t))
 
   abbrev marks_made : ℕ → ℕ → Checked Outcome
-  marks_made t q = does_marks Done (queued (traced t (Some name) (record { queue = q; backup = backup; ignored = ignored })) ∷ [])
+  marks_made t q = does_marks Done (queued (traced t (Some asked.name) (record { queue = q; backup = asked.backup; ignored = asked.ignored })) ∷ [])
 
   -- what is left once the table's number is known, and its queue's
   abbrev of_queue : ℕ → ℕ → Checked Outcome
   of_queue t q = is_new t >> (has_room t >> (ignores t >> (is_idle t >> marks_made t q)))
 
   abbrev of_table : ℕ → Checked Outcome
-  of_table t = queue_called queue d >>= (λ q. refused_if (is_set_queue queue d.node) SetQueue >> of_queue t q)
+  of_table t = queue_called asked.queue d >>= (λ q. refused_if (is_set_queue asked.queue d.node) SetQueue >> of_queue t q)
 
   -- four tests as one
   tested : (a b c e : Checked (Unit {0})) (rest : Checked Outcome) → (a >> (b >> (c >> e))) ≡ Ok tt → (a >> (b >> (c >> (e >> rest)))) ≡ rest
@@ -107,20 +108,20 @@ module _ (d : Database) (name table queue : List ℕ) (backup : Bool) (ignored :
   past (Ok q) (Err r) next n is = absurd (cc)
   past (Ok q) (Ok u) next n is = let same : q ≡ n = cc in ap next same
 
-  there : (t : ℕ) → place_of table d.part.tables ≡ Some t → add_trigger d name table queue backup ignored ≡ of_table t
-  there t is = ap (λ o. found_or o (NoTable table) >>= of_table) is
+  there : (t : ℕ) → place_of asked.table d.part.tables ≡ Some t → add_trigger d asked ≡ of_table t
+  there t is = ap (λ o. found_or o (NoTable asked.table) >>= of_table) is
 
-  pub no-queue : (t : ℕ) → place_of table d.part.tables ≡ Some t → (stop : Stop) → StopsAs stop (queue_of_no_set queue d) → StopsAs stop (add_trigger d name table queue backup ignored)
-  no-queue t is stop bad = subst (StopsAs stop) (sym (there t is)) (guarded (queue_called queue d) (refused_if (is_set_queue queue d.node) SetQueue) (of_queue t) stop bad)
+  pub no-queue : (t : ℕ) → place_of asked.table d.part.tables ≡ Some t → (stop : Stop) → StopsAs stop (queue_of_no_set asked.queue d) → StopsAs stop (add_trigger d asked)
+  no-queue t is stop bad = subst (StopsAs stop) (sym (there t is)) (guarded (queue_called asked.queue d) (refused_if (is_set_queue asked.queue d.node) SetQueue) (of_queue t) stop bad)
 
-  known : (t q : ℕ) → place_of table d.part.tables ≡ Some t → queue_of_no_set queue d ≡ Ok q → add_trigger d name table queue backup ignored ≡ of_queue t q
-  known t q is at = there t is ∙ past (queue_called queue d) (refused_if (is_set_queue queue d.node) SetQueue) (of_queue t) q at
+  known : (t q : ℕ) → place_of asked.table d.part.tables ≡ Some t → queue_of_no_set asked.queue d ≡ Ok q → add_trigger d asked ≡ of_queue t q
+  known t q is at = there t is ∙ past (queue_called asked.queue d) (refused_if (is_set_queue asked.queue d.node) SetQueue) (of_queue t) q at
 
-  pub no-fit : (t q : ℕ) → place_of table d.part.tables ≡ Some t → queue_of_no_set queue d ≡ Ok q → (stop : Stop) → StopsAs stop (trigger_fits d.part d.triggers t name ignored)
-      → StopsAs stop (add_trigger d name table queue backup ignored)
+  pub no-fit : (t q : ℕ) → place_of asked.table d.part.tables ≡ Some t → queue_of_no_set asked.queue d ≡ Ok q → (stop : Stop) → StopsAs stop (trigger_fits d.part d.triggers t asked.name asked.ignored)
+      → StopsAs stop (add_trigger d asked)
   no-fit t q is at stop bad = subst (StopsAs stop) (sym (known t q is at)) (failed (is_new t) (has_room t) (ignores t) (is_idle t) (marks_made t q) stop bad)
 
-  pub adds : (t q : ℕ) → place_of table d.part.tables ≡ Some t → queue_of_no_set queue d ≡ Ok q → trigger_fits d.part d.triggers t name ignored ≡ Ok tt
-      → (trigger : TableTrigger) → trigger ≡ record { table = t; name = Some name; trigger = record { queue = q; backup = backup; ignored = ignored } }
-      → add_trigger d name table queue backup ignored ≡ does_marks Done (queued (traced trigger.table trigger.name trigger.trigger) ∷ [])
+  pub adds : (t q : ℕ) → place_of asked.table d.part.tables ≡ Some t → queue_of_no_set asked.queue d ≡ Ok q → trigger_fits d.part d.triggers t asked.name asked.ignored ≡ Ok tt
+      → (trigger : TableTrigger) → trigger ≡ record { table = t; name = Some asked.name; trigger = record { queue = q; backup = asked.backup; ignored = asked.ignored } }
+      → add_trigger d asked ≡ does_marks Done (queued (traced trigger.table trigger.name trigger.trigger) ∷ [])
   adds t q is at fits trigger made = known t q is at ∙ tested (is_new t) (has_room t) (ignores t) (is_idle t) (marks_made t q) fits ∙ ap (λ (x : TableTrigger). does_marks Done (queued (traced x.table x.name x.trigger) ∷ [])) (sym made)

@@ -19,13 +19,9 @@ use Rattle.sky_model.specs.Outcome.{Checked, ◌>>=◌, ◌>>◌, refused_if}
 use Rattle.sky_model.specs.Telling.{write_in, events_of_write, told_event, event_marks, told_by, told_of}
 use Rattle.sky_model.specs.Reader.{part_by_itself, database_by_itself, within_part}
 use Rattle.sky_model.specs.Gates.{RowWrite, takes, passed, passed_all, by_gate}
-use Rattle.sky_model.specs.Settling.{Turn, settling}
-use Rattle.sky_model.specs.Calls.{row_turn, database_turn}
-use Rattle.sky_model.specs.declared.stmt.RowStmt.{RowStmt}
-use Rattle.sky_model.specs.declared.stmt.DbStmt.TheVariants.{Row}
+use Rattle.sky_model.specs.Settling.{Turn}
 use Rattle.sky_histories.proofs.RowOutcomes.{RowMarks, TurnOfRows, failure-rows, itself-rows, by_gate-rows, settling-rows-by, row_turn-rows-by}
 use Rattle.sky_histories.proofs.Telling.{IsOther, TellsAlike, SameTold, settling-told, row_turn-told}
-use Rattle.sky_histories.proofs.DatabaseStanding.{after_marks-append}
 use Rattle.sky_histories.proofs.Inserted.{Inserted}
 use Rattle.sky_histories.proofs.Inserted as inserted
 use Rattle.sky_histories.proofs.GatedLemmas.{is_no_write, WritesNone, plain-if}
@@ -43,8 +39,10 @@ use Rattle.pgq_queues.proofs.RotatedQueues.{undone-as}
 use Rattle.pgq_queues.specs.Rotated.{undone_in}
 use Rattle.pgq_tables.specs.Tables.{with_stored}
 use Rattle.pgq_db.specs.Seen.{with_node}
-use Rattle.pgq_db.specs.Switches.{first_switches}
-use Rattle.pgq_db.proofs.Switched.{turn-first}
+use Rattle.pgq_db.specs.RowRuns.{run_turn}
+use Rattle.sky_model.specs.declared.stmt.RowStmt.TheVariants.{Commit}
+use Rattle.pgq_db.specs.declared.row_run.RowRun.{RowRun}
+use Rattle.pgq_db.specs.declared.row_run.RowRun.TheVariants as run
 use Rattle.pgq_db.proofs.Tables.{tables-kept}
 
 -- ---- events that record writes, and those that queues store
@@ -293,14 +291,12 @@ module _ (now : ℤ) (node : NodePart) where
 
   -- ---- what a database gives
 
-  -- a statement on rows does the same with the queues as its gate and in the database, and so do those that may resume
-  pub step-told : (d : Database) (p : RowPart) (q : QueuesView) (who : ℕ) (stmt : RowStmt) → Here d p q
-      → SameTold event_rule Here d p q (row_turn (by_gate event_rule part_by_itself) (p, q) who stmt) (row_turn (within_part database_by_itself now) d who stmt)
-  step-told d p q who stmt is = row_turn-told event_rule now Here events-alike d p q who stmt is
-
-  pub settle-told : (d : Database) (p : RowPart) (q : QueuesView) → Here d p q
-      → SameTold event_rule Here d p q (settling (by_gate event_rule part_by_itself) (p, q)) (settling (within_part database_by_itself now) d)
-  settle-told d p q is = settling-told event_rule now Here events-alike d p q is
+  -- what the row part runs does the same with the queues as its gate and in the database
+  pub run-told : (d : Database) (p : RowPart) (q : QueuesView) (what : RowRun) → Here d p q
+      → SameTold event_rule Here d p q (run_turn (by_gate event_rule part_by_itself) (p, q) what) (run_turn (within_part database_by_itself now) d what)
+  run-told d p q (run.Statement who stmt) is = row_turn-told event_rule now Here events-alike d p q who stmt.now is
+  run-told d p q (run.Commit who plan) is = row_turn-told event_rule now Here events-alike d p q who Commit is
+  run-told d p q run.Ready is = settling-told event_rule now Here events-alike d p q is
 
   -- after a turn the row part and the queues show the database
   pub told-changed : (d : Database) (p after : RowPart) (q left : QueuesView) (gated told : Turn) → SameTold event_rule Here d p q gated told → TurnOfRows gated → d.copies ≡ node.copies
@@ -327,46 +323,11 @@ pub tables-behind_turn : (now : ℤ) (node : NodePart) (at : ℤ) (p after : Row
 tables-behind_turn now node at p after was q left gated told tells is time tables within =
     told-tables now node (seen_with (with_node node p) was) p after q left gated told (tells (alike-at now node at p was q is time tables within))
 
--- the turns of rows do marks of rows, and list no event
-pub step-rows : (p : RowPart) (q : QueuesView) (who : ℕ) (stmt : RowStmt) → TurnOfRows (row_turn (by_gate event_rule part_by_itself) (p, q) who stmt)
-step-rows p q who stmt = row_turn-rows-by (by_gate event_rule part_by_itself) (by_gate-rows event_rule part_by_itself itself-rows) (p, q) who stmt
-
-pub settle-rows : (p : RowPart) (q : QueuesView) → TurnOfRows (settling (by_gate event_rule part_by_itself) (p, q))
-settle-rows p q = settling-rows-by (by_gate event_rule part_by_itself) (by_gate-rows event_rule part_by_itself itself-rows) (p, q)
-
--- ---- a statement on rows, after the switches that it makes
-
--- what the code answers is what the whole database does, and so is what it leaves
-pub record Stepped (now : ℤ) (d s : Database) (who : ℕ) (stmt : RowStmt) (gated : Turn) : Type 0 where
-  pub answers : (database_turn database_by_itself d now who (Row stmt)).answers ≡ gated.answers
-  pub changed : s ≡ after_marks d (database_turn database_by_itself d now who (Row stmt)).marks
-
-pub stepped : (now : ℤ) (node : NodePart) (at : ℤ) (p after : RowPart) (old was q left : QueuesView) (who : ℕ) (stmt : RowStmt)
-    → seen_with (with_node node p) was ≡ after_marks (seen_with (with_node node p) old) (first_switches (seen_with (with_node node p) old) at who stmt)
-    → q ≡ record was { time = at } → at ≡ now → AreTables p was → All (λ t. t.trigger.queue < length q.queues) q.triggers
-    → after ≡ after_part_marks p (row_turn (by_gate event_rule part_by_itself) (p, q) who stmt).marks → left ≡ passed_all event_rule q (row_turn (by_gate event_rule part_by_itself) (p, q) who stmt).marks
-    → Stepped now (seen_with (with_node node p) old) (seen_with (with_node node after) left) who stmt (row_turn (by_gate event_rule part_by_itself) (p, q) who stmt)
-stepped now node at p after old was q left who stmt first is time tables within part_is left_is =
-    record {
-      answers = ap Turn.answers (turn-first d now who stmt) ∙ same.answers;
-      changed = changed ∙ ap (λ (t : Turn). after_marks d t.marks) (sym (turn-first d now who stmt));
-    }
-  where
-    d : Database
-    d = seen_with (with_node node p) old
-
-    gated : Turn
-    gated = row_turn (by_gate event_rule part_by_itself) (p, q) who stmt
-
-    made : seen_with (with_node node p) was ≡ after_marks d (first_switches d now who stmt)
-    made = first ∙ ap (λ n. after_marks d (first_switches d n who stmt)) time
-
-    same : SameTold event_rule (Alike now node) (after_marks d (first_switches d now who stmt)) p q gated (row_turn (within_part database_by_itself now) (after_marks d (first_switches d now who stmt)) who stmt)
-    same = subst (λ x. SameTold event_rule (Alike now node) x p q gated (row_turn (within_part database_by_itself now) x who stmt)) made
-        (step-told now node (seen_with (with_node node p) was) p q who stmt (alike-at now node at p was q is time tables within))
-
-    changed : seen_with (with_node node after) left ≡ after_marks d (first_switches d now who stmt ++ (row_turn (within_part database_by_itself now) (after_marks d (first_switches d now who stmt)) who stmt).marks)
-    changed = told-changed now node (after_marks d (first_switches d now who stmt)) p after q left gated _ same (step-rows p q who stmt) (ap Database.copies (sym made)) part_is left_is ∙ sym (after_marks-append d (first_switches d now who stmt) _)
+-- its turn does marks of rows, and lists no event
+pub run-rows : (p : RowPart) (q : QueuesView) (what : RowRun) → TurnOfRows (run_turn (by_gate event_rule part_by_itself) (p, q) what)
+run-rows p q (run.Statement who stmt) = row_turn-rows-by (by_gate event_rule part_by_itself) (by_gate-rows event_rule part_by_itself itself-rows) (p, q) who stmt.now
+run-rows p q (run.Commit who plan) = row_turn-rows-by (by_gate event_rule part_by_itself) (by_gate-rows event_rule part_by_itself itself-rows) (p, q) who Commit
+run-rows p q run.Ready = settling-rows-by (by_gate event_rule part_by_itself) (by_gate-rows event_rule part_by_itself itself-rows) (p, q)
 
 -- ---- a block that is rolled back
 

@@ -93,22 +93,22 @@ no-other-same q (Some b) = λ n apart. refl
 
 pub looks-none : (old new : QueuesView) (stmt : DbStmt) → ReadsNone old new → LooksWithin old new stmt
 looks-none old new (Queue (GetBatchEvents id)) none = λ n. let same = none n in omega (arith, same)
-looks-none old new (Queue (EventRetry id event seconds)) none = λ n. let same = none n in omega (arith, same)
+looks-none old new (Queue (EventRetry again)) none = λ n. let same = none n in omega (arith, same)
 looks-none old new _ none = tt
 
 pub looks-done : (old new : QueuesView) (stmt : DbStmt) (done : Unit {0}) → RanWithin old new stmt (Ok done) → LooksWithin old new stmt
 looks-done old new (Queue (GetBatchEvents id)) done looks = looks
-looks-done old new (Queue (EventRetry id event seconds)) done looks = looks
+looks-done old new (Queue (EventRetry again)) done looks = looks
 looks-done old new _ done looks = tt
 
 pub looks-then : (old mid new : QueuesView) (stmt : DbStmt) → LooksWithin old mid stmt → ReadsNone mid new → LooksWithin old new stmt
 looks-then old mid new (Queue (GetBatchEvents id)) looks none = λ n. let most = looks n in let same = none n in omega (arith, most, same)
-looks-then old mid new (Queue (EventRetry id event seconds)) looks none = λ n. let most = looks n in let same = none n in omega (arith, most, same)
+looks-then old mid new (Queue (EventRetry again)) looks none = λ n. let most = looks n in let same = none n in omega (arith, most, same)
 looks-then old mid new _ looks none = tt
 
 pub looks-refused : (old mid new : QueuesView) (stmt : DbStmt) (refusal : Refusal) → RanWithin old mid stmt (Err (Refused refusal)) → ReadsNone mid new → LooksWithin old new stmt
 looks-refused old mid new (Queue (GetBatchEvents id)) refusal looks none = λ n. let most = looks n in let same = none n in omega (arith, most, same)
-looks-refused old mid new (Queue (EventRetry id event seconds)) refusal looks none = λ n. let most = looks n in let same = none n in omega (arith, most, same)
+looks-refused old mid new (Queue (EventRetry again)) refusal looks none = λ n. let most = looks n in let same = none n in omega (arith, most, same)
 looks-refused old mid new _ refusal looks none = tt
 
 -- ---- the events that are listed

@@ -1,15 +1,17 @@
 -- What calls for nodes give.
-use Rattle.std.proofs.Common.{◌≡◌, ℕ, ◌+◌, ◌<◌, ◌≤◌, ◌^◌, List, [], ◌∷◌, ◌++◌, Bool, true, false, nat_le, Option, Some, None, Result, Ok, Err, IfOk, OnOk, is_ok, is_some, is_none, not, ◌||◌, cond, bytes_eq, length, option_map, refl, sym, ◌∙◌, ap, subst, arith}
+use Rattle.std.proofs.Common.{◌≡◌, ℕ, ◌+◌, ◌<◌, ◌≤◌, ◌^◌, List, [], ◌∷◌, ◌++◌, Bool, true, false, nat_le, Option, Some, None, Result, Ok, Err, IfOk, OnOk, is_ok, is_some, is_none, not, ◌||◌, cond, bytes_eq, length, option_map, All, refl, sym, ◌∙◌, ap, subst, arith}
 use Rattle.std.proofs.lemmas.Bool.Decides.{nat_tests}
+use Rattle.std.proofs.lemmas.List.Elements.{All-head, All-tail}
 use Rattle.sky_names.specs.Places.{place_of}
-use Rattle.sky_names.proofs.PlaceLemmas.{bytes_eq_refl}
+use Rattle.sky_names.proofs.PlaceLemmas.{bytes_eq_refl, same_name}
 use Rattle.londiste_state.specs.declared.state.TableState.{TableState}
 use Rattle.londiste_state.specs.Nodes.{Node, of_root, of_leaf, is_among, all_but}
 use Rattle.sky_model.specs.declared.reply.Reply.TheVariants.{Done, Number, Null}
 use Rattle.sky_model.specs.declared.reply.Limit.TheVariants.{Consumers, Triggers}
 use Rattle.sky_model.specs.declared.reply.Refusal.TheVariants.{ConsumerExists, IdsSpent, TableBusy, TooMany}
-use Rattle.sky_model.specs.History.{Mark, tabled, read_only, queued, registered, traced, untraced, noded, NodeMark, set_added, set_removed, joined, parted, leaf_made, leaf_added, leaf_removed, state_set}
-use Rattle.sky_model.specs.Nodes.{after_node}
+use Rattle.sky_model.specs.History.{Mark, tabled, read_only, queued, registered, traced, untraced, noded, NodeMark, set_added, set_removed, joined, parted, leaf_made, leaf_added, leaf_removed, state_set, History}
+use Rattle.sky_model.specs.Rows.{table_names}
+use Rattle.sky_model.specs.Nodes.{after_node, node, leaf_tables}
 use Rattle.sky_model.specs.Triggers.{triggers_of}
 use Rattle.sky_model.specs.Copies.{copy_txid}
 use Rattle.sky_model.specs.State.{after_part, Database, after_mark, after_marks}
@@ -20,11 +22,15 @@ use Rattle.sky_model.specs.StepQueue.{newest_id}
 use Rattle.sky_model.specs.StepConsumer.{registers}
 use Rattle.sky_model.specs.StepNode.{set_queue, set_trigger, joins, lists, unlists, adds, removes, moves_table, NodeCall, joining, making_leaf, adding, removing, moving, listing, unlisting, if_there, table_number, may_serve, call_form, node_does}
 use Rattle.sky_model.specs.Daemon.{quietly}
-use Rattle.sky_model.specs.DatabaseCalls.{served}
-use Rattle.sky_model.specs.DatabaseSteps.{DatabaseSteps}
+use Rattle.sky_model.specs.DatabaseCalls.{served, database_part}
+use Rattle.sky_model.specs.DatabaseSteps.{DatabaseSteps, IsMade}
+use Rattle.sky_model.specs.Promises.{after_all}
+use Rattle.sky_model.proofs.Cases.{by_test}
 use Rattle.sky_model.specs.Stops.{Refuses}
 use Rattle.sky_histories.proofs.DatabaseStanding.{database_steps_from_exact, after_marks-append}
+use Rattle.sky_histories.proofs.Histories.{legal_calls}
 use Rattle.sky_histories.proofs.NodeDeeds.{is-served}
+use Rattle.sky_histories.proofs.NodeTables.{have-tables}
 use Rattle.sky_state.specs.Views.{RowStateView}
 use Rattle.sky_state.specs.Seen.{seen}
 use Rattle.pgq_queues.specs.Views.{QueuesView}
@@ -32,7 +38,6 @@ use Rattle.pgq_queues.specs.Seen.{seen_with, Beside}
 use Rattle.pgq_db.specs.Views.{DbView}
 use Rattle.pgq_db.specs.Seen.{with_node, seen_database}
 use Rattle.pgq_db.specs.Served.{set_consumers, Serves, ServesUnlessBusy}
-use Rattle.pgq_db.proofs.Databases.{table-there}
 
 -- what a call's definition says was done
 pub serves-by : (old new : Database) (call : NodeCall) (o : Outcome) → node_does old call ≡ Ok o → new ≡ after_marks old o.marks → Serves old new call
@@ -70,16 +75,19 @@ table-missing v now table same missing = subst (λ (w : DbView). place_of table 
 pub table-not : (v now : DbView) (table : List ℕ) → v ≡ now → place_of table (seen v.rows).tables ≡ None → is_some (table_number (seen_database now) table) ≡ true → ⊥
 table-not v now table same missing there = let none : is_some (table_number (seen_database now) table) ≡ false = ap is_some (table-missing v now table same missing) in absurd (cc)
 
-module _ (v now : DbView) (name : List ℕ) (same : v ≡ now) (missing : place_of name (seen v.rows).tables ≡ None) where
-  pub removing-nothing : may_serve (removing name) (seen_database now).node ≡ true → Serves (seen_database now) (seen_database now) (removing name)
-  removing-nothing may = served-nothing (seen_database now) (removing name) may (ap (λ o. if_there o (λ t. removes (seen_database now) t name)) (table-missing v now name same missing))
+-- so no table of a leaf is missing, as calls made its database
+among-all : (P : List ℕ → Type 0) (name : List ℕ) (names : List (List ℕ)) → All P names → is_among name names ≡ true → P name
+among-all P name [] all is = absurd (cc)
+among-all P name (x ∷ xs) all is =
+    by_test (λ b. bytes_eq name x ≡ b → (b || is_among name xs) ≡ true → P name) (bytes_eq name x)
+    (λ _ same _. subst P (sym (same_name name x same)) (All-head P x xs all)) (λ _ _ rest. among-all P name xs (All-tail P x xs all) rest) refl is
 
-  pub moving-nothing : (state : TableState) → may_serve (moving name state) (seen_database now).node ≡ true → Serves (seen_database now) (seen_database now) (moving name state)
-  moving-nothing state may =
-      served-nothing (seen_database now) (moving name state) may (ap (λ o. if_there o (λ t. moves_table (seen_database now) t name state)) (table-missing v now name same missing))
-
-  pub unlisting-nothing : may_serve (unlisting name) (seen_database now).node ≡ true → Serves (seen_database now) (seen_database now) (unlisting name)
-  unlisting-nothing may = served-nothing (seen_database now) (unlisting name) may (ap (λ o. if_there o (λ t. unlists t name)) (table-missing v now name same missing))
+pub leaf-there : (d : Database) → IsMade d → (name : List ℕ) → is_among name (leaf_tables d.node) ≡ true → is_some (table_number d name) ≡ true
+leaf-there d made name among =
+    let h : History = after_all database_part made.calls in
+    subst (λ (x : Database). is_some (table_number x name) ≡ true) (sym made.shown)
+    (among-all (λ x. is_some (place_of x (table_names h)) ≡ true) name (leaf_tables (node h)) (have-tables h (legal_calls made.calls)).leaf
+    (ap (λ (x : Database). is_among name (leaf_tables x.node)) (sym made.shown) ∙ among))
 
 pub listing-nowhere : (d : Database) (name : List ℕ) → may_serve (listing name) d.node ≡ true → set_queue d ≡ None → Serves d d (listing name)
 listing-nowhere d name may none = served-nothing d (listing name) may (ap (λ o. if_there o (λ queue. if_there (table_number d name) (λ t. lists d queue t name))) none)
@@ -239,11 +247,11 @@ guarded-as v now rows node table on mark same guarding change marks noding =
     ∙ ap (λ (w : DbView). after_marks (seen_database w) (mark ∷ tabled (read_only table on) ∷ [])) same
 
 -- so a table joins a leaf
-module _ (v now : DbView) (name : List ℕ) (table : ℕ) (same : v ≡ now) (may : may_serve (adding name) (seen_database now).node ≡ true) (there : place_of name (seen v.rows).tables ≡ Some table) where
+module _ (v now : DbView) (name : List ℕ) (table : ℕ) (same : v ≡ now) (may : may_serve (adding name) (seen_database now).node ≡ true) (number : table_number (seen_database now) name ≡ Some table) where
   adding-with : (o : Option ℕ) → o ≡ least_writer (seen v.rows) table
       → node_does (seen_database now) (adding name) ≡ (refused_by (option_map TableBusy o) >> does_marks Done (noded (leaf_added name) ∷ tabled (read_only table true) ∷ []))
   adding-with o busy =
-      adding-there (seen_database now) name table o may (table-there v now name table same there) (ap (λ (w : DbView). least_writer (seen w.rows) table) (sym same) ∙ sym busy)
+      adding-there (seen_database now) name table o may number (ap (λ (w : DbView). least_writer (seen w.rows) table) (sym same) ∙ sym busy)
 
   -- unless a running transaction has written it
   pub adding-busy : (txid : ℕ) → Some txid ≡ least_writer (seen v.rows) table → ServesUnlessBusy (Some txid) (seen_database now) (seen_database now) (adding name)
@@ -255,19 +263,19 @@ module _ (v now : DbView) (name : List ℕ) (table : ℕ) (same : v ≡ now) (ma
       serves-by (seen_database now) _ (adding name) _ (adding-with None free) (guarded-as v now rows node table true (noded (leaf_added name)) same guarding (after_node (leaf_added name)) (λ d. refl) noding)
 
 -- goes into a state, after a copy of it was given up
-module _ (v now : DbView) (name : List ℕ) (table : ℕ) (same : v ≡ now) (there : place_of name (seen v.rows).tables ≡ Some table) where
+module _ (now : DbView) (name : List ℕ) (table : ℕ) (number : table_number (seen_database now) name ≡ Some table) where
   pub moving-does : (state : TableState) → may_serve (moving name state) (seen_database now).node ≡ true
       → (w left : DbView) → w ≡ left → seen_database left ≡ after_marks (seen_database now) (given_up table name (copy_txid table now.node.copies))
       → (node : Option Node) → node ≡ after_node (state_set name state) w.node.own
       → Serves (seen_database now) (seen_database (record w { node = record w.node { own = node } })) (moving name state)
   moving-does state may w left is given node noding =
-      serves-by (seen_database now) _ (moving name state) _ (moving-there (seen_database now) name state table may (table-there v now name table same there))
+      serves-by (seen_database now) _ (moving name state) _ (moving-there (seen_database now) name state table may number)
       (noded-as w left node (state_set name state) (λ d. refl) is noding
       ∙ ap (λ d. after_marks d (noded (state_set name state) ∷ [])) given
       ∙ sym (after_marks-append (seen_database now) (given_up table name (copy_txid table now.node.copies)) (noded (state_set name state) ∷ [])))
 
 -- and leaves it, after a copy of it was given up
-module _ (v now : DbView) (name : List ℕ) (table : ℕ) (same : v ≡ now) (may : may_serve (removing name) (seen_database now).node ≡ true) (there : place_of name (seen v.rows).tables ≡ Some table) where
+module _ (now : DbView) (name : List ℕ) (table : ℕ) (may : may_serve (removing name) (seen_database now).node ≡ true) (number : table_number (seen_database now) name ≡ Some table) where
   abbrev gone : List Mark
   gone = given_up table name (copy_txid table now.node.copies)
 
@@ -275,7 +283,7 @@ module _ (v now : DbView) (name : List ℕ) (table : ℕ) (same : v ≡ now) (ma
       → (rows : RowStateView) (node : Option Node) → seen rows ≡ after_part (seen w.rows) (tabled (read_only table false)) → node ≡ after_node (leaf_removed name) w.node.own
       → Serves (seen_database now) (seen_database (record w { rows = rows; node = record w.node { own = node } })) (removing name)
   removing-does w left is given rows node guarding noding =
-      serves-by (seen_database now) _ (removing name) _ (removing-there (seen_database now) name table may (table-there v now name table same there))
+      serves-by (seen_database now) _ (removing name) _ (removing-there (seen_database now) name table may number)
       (guarded-as w left rows node table false (noded (leaf_removed name)) is guarding (after_node (leaf_removed name)) (λ d. refl) noding
       ∙ ap (λ d. after_marks d (noded (leaf_removed name) ∷ tabled (read_only table false) ∷ [])) given
       ∙ sym (after_marks-append (seen_database now) gone (noded (leaf_removed name) ∷ tabled (read_only table false) ∷ [])))

@@ -6,6 +6,7 @@ use Rattle.sky_val.specs.declared.event.Event.{Event}
 use Rattle.sky_txid.specs.Ids.{contains}
 use Rattle.pgq_retry.specs.declared.retry.Retry.{Retry}
 use Rattle.pgq_retry.specs.Retries.{is_asked, due_now}
+use Rattle.sky_model.specs.declared.stmt.RetriedEvent.{RetriedEvent}
 use Rattle.sky_model.specs.declared.reply.Reply.{Reply}
 use Rattle.sky_model.specs.declared.reply.Reply.TheVariants.{Number}
 use Rattle.sky_model.specs.declared.reply.Refusal.TheVariants.{NoBatch, NodeConsumer, NoEvent}
@@ -23,21 +24,21 @@ use Rattle.pgq_db.proofs.Databases.{Runs}
 
 -- ---- a subscription asks for an event
 
-module _ (d : Database) (now : ℤ) (id event seconds : ℕ) (b : model.Batch) (there : Some b ≡ d.batch id) (foreign : is_nodes_batch d b ≡ false) where
+module _ (d : Database) (now : ℤ) (again : RetriedEvent) (b : model.Batch) (there : Some b ≡ d.batch again.batch) (foreign : is_nodes_batch d b ≡ false) where
   -- once the batch is found
-  within : (o : Option Event) → find (λ e. e.ev_id == event) (selected d b) ≡ o → event_retry d (shown_by d).events now id event seconds ≡ (found_or o NoEvent >>= (λ e. asks_for d (retry_of now seconds b e)))
+  within : (o : Option Event) → find (λ e. e.ev_id == again.event) (selected d b) ≡ o → event_retry d (shown_by d).events now again ≡ (found_or o NoEvent >>= (λ e. asks_for d (retry_of now again.seconds b e)))
   within o is =
-      ap (λ found. found_or (option_map (selected d) found) NoBatch >>= (λ events. found_or found NoBatch >>= (λ batch. refused_if (is_nodes_batch d batch) NodeConsumer >> (found_or (find (λ e. e.ev_id == event) events) NoEvent >>= (λ e. asks_for d (retry_of now seconds batch e)))))) (sym there)
-      ∙ ap (λ x. refused_if x NodeConsumer >> (found_or (find (λ e. e.ev_id == event) (selected d b)) NoEvent >>= (λ e. asks_for d (retry_of now seconds b e)))) foreign
-      ∙ ap (λ x. found_or x NoEvent >>= (λ e. asks_for d (retry_of now seconds b e))) is
+      ap (λ found. found_or (option_map (selected d) found) NoBatch >>= (λ events. found_or found NoBatch >>= (λ batch. refused_if (is_nodes_batch d batch) NodeConsumer >> (found_or (find (λ e. e.ev_id == again.event) events) NoEvent >>= (λ e. asks_for d (retry_of now again.seconds batch e)))))) (sym there)
+      ∙ ap (λ x. refused_if x NodeConsumer >> (found_or (find (λ e. e.ev_id == again.event) (selected d b)) NoEvent >>= (λ e. asks_for d (retry_of now again.seconds b e)))) foreign
+      ∙ ap (λ x. found_or x NoEvent >>= (λ e. asks_for d (retry_of now again.seconds b e))) is
 
-  pub no-event : None ≡ find (λ e. e.ev_id == event) (selected d b) → event_retry d (shown_by d).events now id event seconds ≡ Err NoEvent
+  pub no-event : None ≡ find (λ e. e.ev_id == again.event) (selected d b) → event_retry d (shown_by d).events now again ≡ Err NoEvent
   no-event none = within None (sym none)
 
   -- what is answered, whether the event waits already or not
-  pub gives-retry : (s : Database) (who count : ℕ) (e : Event) (retry : Retry) (fresh : Bool) (before after : List (ℕ × Reply)) → Some e ≡ find (λ e. e.ev_id == event) (selected d b)
-      → retry ≡ retry_of now seconds b e → fresh ≡ not (is_asked retry.sub retry.event.ev_id d.retries) → s ≡ (if fresh then after_mark d (queued (asked retry)) else d)
-      → count ≡ bool_byte fresh → after ≡ before ++ (who, Number count) ∷ [] → Runs d s before after who (event_retry d (shown_by d).events now id event seconds)
+  pub gives-retry : (s : Database) (who count : ℕ) (e : Event) (retry : Retry) (fresh : Bool) (before after : List (ℕ × Reply)) → Some e ≡ find (λ e. e.ev_id == again.event) (selected d b)
+      → retry ≡ retry_of now again.seconds b e → fresh ≡ not (is_asked retry.sub retry.event.ev_id d.retries) → s ≡ (if fresh then after_mark d (queued (asked retry)) else d)
+      → count ≡ bool_byte fresh → after ≡ before ++ (who, Number count) ∷ [] → Runs d s before after who (event_retry d (shown_by d).events now again)
   gives-retry s who count e retry fresh before after found made is changed counted pushed =
       subst (Runs d s before after who) (sym (within (Some e) (sym found) ∙ ap (asks_for d) (sym made))) (by (is_asked retry.sub retry.event.ev_id d.retries) fresh is changed counted)
     where

@@ -22,6 +22,11 @@ use Rattle.sky_model.specs.Telling.{tells}
 use Rattle.sky_model.proofs.Cases.{by_test}
 use Rattle.sky_histories.proofs.DatabaseStanding.{after_marks-append, behind-all}
 use Rattle.sky_histories.proofs.StatementMarks.{SwitchesNone, none-first}
+use Rattle.sky_model.specs.declared.reply.Reply.{Reply}
+use Rattle.pgq_db.specs.Gives.{Adds}
+use Rattle.pgq_db.specs.declared.row_run.RowRun.{RowRun}
+use Rattle.pgq_db.specs.declared.row_run.RowRun.TheVariants as run
+use Rattle.pgq_db.specs.RowRuns.{IsRunFor, run_turn}
 use Rattle.pgq_db.specs.Switches.{first_switches}
 
 -- ---- they change queues alone
@@ -120,3 +125,25 @@ turn-first d now who stmt =
   where
     reads : PartReader Database
     reads = within_part database_by_itself now
+
+module _ (d mid : Database) (now : ℤ) (who : ℕ) (stmt : RowStmt) (first : mid ≡ after_marks d (first_switches d now who stmt)) where
+  -- what it answers, once the switches are made
+  pub answers-first : (database_turn database_by_itself d now who (Row stmt)).answers ≡ (row_turn (within_part database_by_itself now) mid who stmt).answers
+  answers-first = ap Turn.answers (turn-first d now who stmt) ∙ ap (λ x. (row_turn (within_part database_by_itself now) x who stmt).answers) (sym first)
+
+  -- and what it adds
+  pub adds-first : (new : Database) (before after : List (ℕ × Reply)) → Adds mid new before after (row_turn (within_part database_by_itself now) mid who stmt)
+      → Adds d new before after (database_turn database_by_itself d now who (Row stmt))
+  adds-first new before after adds = record {
+    replied = adds.replied ∙ ap (λ answers. before ++ answers) (sym answers-first);
+    changed = adds.changed
+        ∙ ap (λ x. after_marks x (row_turn (within_part database_by_itself now) x who stmt).marks) first
+        ∙ sym (after_marks-append d (first_switches d now who stmt) (row_turn (within_part database_by_itself now) (after_marks d (first_switches d now who stmt)) who stmt).marks)
+        ∙ ap (λ (t : Turn). after_marks d t.marks) (sym (turn-first d now who stmt));
+  }
+
+-- what is run for a statement does what the statement does
+pub run-is : {P : Type 0} (r : PartReader P) (p : P) (what : RowRun) (who : ℕ) (stmt : RowStmt) → IsRunFor what who stmt → run_turn r p what ≡ row_turn r p who stmt
+run-is r p (run.Statement v own) who stmt is = ap (λ w. row_turn r p w own.now) is.0 ∙ ap (row_turn r p who) is.1
+run-is r p (run.Commit v plan) who stmt is = ap (λ w. row_turn r p w Commit) is.0 ∙ ap (row_turn r p who) is.1
+run-is r p run.Ready who stmt is = absurd is

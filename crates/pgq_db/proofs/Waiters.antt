@@ -10,7 +10,7 @@ use Rattle.sky_model.specs.declared.reply.Reply.{Reply}
 use Rattle.sky_model.specs.History.{Mark, ended, sight_taken, tabled, waits, waited, queued, made, noded, NodeMark, hold_begun, hold_ended}
 use Rattle.sky_model.specs.Sessions.{Block, Session}
 use Rattle.sky_model.specs.State.{Database, after_mark, after_marks, RowPart}
-use Rattle.sky_model.specs.Permits.{Leaves, of_any, may_leave, permit_of}
+use Rattle.sky_model.specs.Permits.{MarkKinds, of_any, may_leave, permit_of}
 use Rattle.sky_model.specs.Allowed.{where_of, allowed}
 use Rattle.sky_model.specs.Reader.{PartReader, database_by_itself, within_part, shown_by}
 use Rattle.sky_model.specs.Settling.{Turn, turn_of, behind_marks, ready, resumed, goes_on, settles, settling, with_settling}
@@ -34,13 +34,13 @@ own-plain : (who : ℕ) (s : Session) (v : ℕ) (mark : Mark) → may_leave of_a
 own-plain who s v (tabled (waits w table key attempt)) e = absurd (cc)
 own-plain who s v _ e = refl
 
-own-if : (k : Leaves) (s : Session) (who : ℕ) (mark : Mark) → may_leave k s who mark ≡ true → is_own who mark ≡ true
+own-if : (k : MarkKinds) (s : Session) (who : ℕ) (mark : Mark) → may_leave k s who mark ≡ true → is_own who mark ≡ true
 own-if k s who (tabled (waits w table key attempt)) e = (and_parts k.waits_for (w == who) e).1
 own-if k s who _ e = refl
 
 own-form : (d : Database) (now : ℤ) (who : ℕ) (stmt : DbStmt) → Given AnyReply (is_own who) (form d (shown_by d) now who stmt)
 own-form d now who stmt =
-    gives-map AnyReply AnyReply (may_leave (permit_of stmt).leaves s who) (is_own who) (λ reply any. any) (own-if (permit_of stmt).leaves s who) _ (gives-form who d (shown_by d) now stmt)
+    gives-map AnyReply AnyReply (may_leave (permit_of stmt).kinds s who) (is_own who) (λ reply any. any) (own-if (permit_of stmt).kinds s who) _ (gives-form who d (shown_by d) now stmt)
   where
     s : Session
     s = d.part.session who

@@ -1,6 +1,7 @@
 pub mod Views
 pub mod Seen
 pub mod Switches
+pub mod RowRuns
 pub mod Looks
 pub mod Agreeing
 pub mod Gives

@@ -25,7 +25,7 @@ LooksFor old new id = (n : ℕ) → reads_at new.queues n ≤ reads_at old.queue
 -- this holds of `get_batch_events N` and `event_retry N N N`; of other statements nothing is said
 abbrev pub LooksWithin : QueuesView → QueuesView → DbStmt → Type 0
 LooksWithin old new (Queue (GetBatchEvents id)) = LooksFor old new id
-LooksWithin old new (Queue (EventRetry id event seconds)) = LooksFor old new id
+LooksWithin old new (Queue (EventRetry again)) = LooksFor old new again.batch
 LooksWithin old new _ = Unit {0}
 
 -- whether it is refused or not; out of memory, nothing is said of it
@@ -36,7 +36,7 @@ LooksUnlessCut old new id (Err NoMemory) = Unit {0}
 
 abbrev pub RanWithin : QueuesView → QueuesView → DbStmt → Result (Unit {0}) Stop → Type 0
 RanWithin old new (Queue (GetBatchEvents id)) result = LooksUnlessCut old new id result
-RanWithin old new (Queue (EventRetry id event seconds)) result = LooksUnlessCut old new id result
+RanWithin old new (Queue (EventRetry again)) result = LooksUnlessCut old new again.batch result
 RanWithin old new _ result = Unit {0}
 
 -- nothing is looked at

@@ -9,19 +9,17 @@ use Rattle.sky_model.specs.State.{Database, after_marks}
 use Rattle.sky_model.specs.Outcome.{reply_of, marks_of}
 use Rattle.sky_model.specs.StepNode.{set_queue, NodeCall, joining, fetching, making_root, listing, beginning_copy, node_does}
 use Rattle.sky_model.specs.Stops.{Refuses}
-use Rattle.sky_trans.specs.declared.trans.TransFault.{TransFault}
-use Rattle.sky_trans.specs.declared.trans.TransFault.TheVariants as trans
 use Rattle.pgq_db.specs.declared.provider.NodeBatch.{NodeBatch}
-use Rattle.pgq_db.specs.declared.faults.JoinFault.{JoinFault}
-use Rattle.pgq_db.specs.declared.faults.JoinFault.TheVariants as join
-use Rattle.pgq_db.specs.declared.faults.MakeRootFault.{MakeRootFault}
-use Rattle.pgq_db.specs.declared.faults.MakeRootFault.TheVariants as make
-use Rattle.pgq_db.specs.declared.faults.RootFault.{RootFault}
-use Rattle.pgq_db.specs.declared.faults.RootFault.TheVariants as root
-use Rattle.pgq_db.specs.declared.faults.FetchFault.{FetchFault}
-use Rattle.pgq_db.specs.declared.faults.FetchFault.TheVariants as fetch
-use Rattle.pgq_db.specs.declared.faults.CopyFault.{CopyFault}
-use Rattle.pgq_db.specs.declared.faults.CopyFault.TheVariants as copy
+use Rattle.londiste_calls.specs.declared.faults.JoinFault.{JoinFault}
+use Rattle.londiste_calls.specs.declared.faults.JoinFault.TheVariants as join
+use Rattle.londiste_calls.specs.declared.faults.MakeRootFault.{MakeRootFault}
+use Rattle.londiste_calls.specs.declared.faults.MakeRootFault.TheVariants as make
+use Rattle.londiste_calls.specs.declared.faults.RootFault.{RootFault}
+use Rattle.londiste_calls.specs.declared.faults.RootFault.TheVariants as root
+use Rattle.londiste_calls.specs.declared.faults.FetchFault.{FetchFault}
+use Rattle.londiste_calls.specs.declared.faults.FetchFault.TheVariants as fetch
+use Rattle.londiste_calls.specs.declared.faults.CopyFault.{CopyFault}
+use Rattle.londiste_calls.specs.declared.faults.CopyFault.TheVariants as copy
 
 -- it did what the call's definition says, which isn't refused
 pub record Serves (old new : Database) (call : NodeCall) : Type 0 where
@@ -40,11 +38,6 @@ JoinRefused join.ConsumerExists old new consumer = Refuses old new (refusal.Cons
 JoinRefused join.TooManyConsumers old new consumer = Refuses old new (refusal.TooMany Consumers) (node_does old (joining consumer))
 JoinRefused join.IdsSpent old new consumer = Refuses old new refusal.IdsSpent (node_does old (joining consumer))
 JoinRefused join.NoMemory old new consumer = is_among consumer (set_consumers old.node) ≡ false → new ≡ old
-
--- a root needs the id of a transaction
-abbrev pub make_root_fault_of : TransFault → MakeRootFault
-make_root_fault_of trans.TxidsSpent = make.TxidsSpent
-make_root_fault_of trans.NoMemory = make.NoMemory
 
 -- a root isn't made, as its call's definition says, and nothing has changed; or memory ran out
 abbrev pub MakeRootRefused : MakeRootFault → (old new : Database) → (name queue : List ℕ) → (now : ℤ) → Type 0

@@ -16,7 +16,9 @@ ghost use Rattle.pgq_db.specs.Gives.{Ran};
 use crate::db::Db;
 use pgq_queues::Queues;
 use pgq_sub::Sub;
-use sky_model::{BoxedBatchInfo, ConsumerInfo, Events, Limit, Refusal, Replies, Reply, Stop};
+use sky_model::{
+    BoxedBatchInfo, ConsumerInfo, ConsumerPosition, Events, Limit, Refusal, Replies, Reply, Stop,
+};
 use sky_val::{SessionId, Text};
 use std::alloc::Global;
 
@@ -47,17 +49,16 @@ impl Db {
     pub(crate) fn register_consumer_at(
         &mut self,
         who: SessionId,
-        name: &Text,
-        consumer: &Text,
-        tick: u64,
+        position: &ConsumerPosition,
         replies: &mut Replies,
     ) -> Result<(), Stop>
-        ensures { Ran self.old self.new replies.old replies.new who result (register_consumer_at (seen_database self.old) name.now consumer.now tick) }
+        ensures { Ran self.old self.new replies.old replies.new who result (register_consumer_at (seen_database self.old) position.now) }
     {
-        let queue = self.queue_called(name)?;
-        if self.is_nodes(name, consumer) {
+        let queue = self.queue_called(&position.queue)?;
+        if self.is_nodes(&position.queue, &position.consumer) {
             return Err(Stop::Refused(Refusal::NodeConsumer));
         }
+        let tick = position.tick;
         let newest = self.queues.queue(queue).ticks().newest().id();
         if tick == 0 || tick > newest {
             return Err(Stop::Refused(Refusal::NoTick(tick, newest)));
@@ -66,12 +67,12 @@ impl Db {
         if tick < oldest {
             return Err(Stop::Refused(Refusal::TickTooOld(tick, oldest)));
         }
-        if self.queues.queue(queue).has_consumer(consumer) {
-            self.queues.move_to(queue, consumer, tick);
+        if self.queues.queue(queue).has_consumer(&position.consumer) {
+            self.queues.move_to(queue, &position.consumer, tick);
             replies.push(who, Reply::Number(0))?;
             return Ok(());
         }
-        self.new_consumer(who, queue, consumer, tick, replies)
+        self.new_consumer(who, queue, &position.consumer, tick, replies)
     }
 
     /// A new consumer, at a tick.

@@ -1,10 +1,9 @@
 //! The copies of tables from another database that run in this one: each writes in one transaction, which no session
 //! sees before it ends.
 
-ghost use Rattle.std.specs.Prelude.{◌≡◌, ◌<◌, false, true, None, IfErr, IfOk, IfSome, OnOk, List, ℕ, length, map};
+ghost use Rattle.std.specs.Prelude.{◌≡◌, ◌<◌, false, true, None, Some, IfErr, IfOk, IfSome, OnOk, List, ℕ, length, map};
 ghost use Rattle.sky_txid.specs.Ids.{contains};
 ghost use Rattle.sky_model.specs.Copies.{copy_txid};
-ghost use Rattle.sky_model.specs.CopyMoves.{columns_for, copy_running};
 ghost use Rattle.sky_model.specs.Daemon.{quietly};
 ghost use Rattle.sky_model.specs.DatabaseCalls.{served};
 ghost use Rattle.sky_model.specs.DatabaseSteps.{DatabaseSteps, IsMade};
@@ -12,16 +11,16 @@ ghost use Rattle.sky_model.specs.Nodes.{after_node};
 ghost use Rattle.sky_model.specs.History.{of_copy, ended, copied};
 ghost use Rattle.sky_model.specs.State.{after_part, after_part_marks, after_mark, after_marks};
 ghost use Rattle.sky_model.specs.StepCopy.{all_fit, copy_write, copy_writes, given_up, rows_now};
-ghost use Rattle.sky_model.specs.StepNode.{beginning_copy, copying_rows, ending_copy, giving_up_copy, may_serve, node_does};
+ghost use Rattle.sky_model.specs.StepNode.{beginning_copy, copying_rows, ending_copy, giving_up_copy, table_number, may_serve, node_does};
 ghost use Rattle.sky_state.specs.Seen.{seen};
 ghost use Rattle.pgq_queues.specs.Views.{QueuesView};
 ghost use Rattle.pgq_db.specs.Agreeing.{Agree};
-ghost use Rattle.pgq_db.specs.Copying.{MayWrite, deletion, under_key, insertion};
+ghost use Rattle.pgq_db.specs.Copying.{MayCopy, MayWrite, deletion, under_key, insertion};
 ghost use Rattle.pgq_db.specs.Seen.{seen_database};
 ghost use Rattle.pgq_db.specs.Served.{Serves, CopyRefused};
 
 use crate::db::Db;
-use crate::faults::CopyFault;
+use londiste_calls::CopyFault;
 use londiste_state::Node;
 use sky_model::WriteGate;
 use sky_session::RowDb;
@@ -31,51 +30,57 @@ use std::alloc::Global;
 
 impl Db {
     /// Begins the copy of a table of the leaf: its transaction gets its id and deletes the rows that the table has.
-    pub fn copy_begin(&mut self, table: &Text) -> Result<(), CopyFault>
+    pub fn copy_begin(&mut self, table: u32) -> Result<(), CopyFault>
         requires made { IsMade (seen_database self.old) }
-        requires may { may_serve (beginning_copy table.now) (seen_database self.old).node ≡ true }
-        requires idle { copy_running (seen_database self.old) table.now ≡ None }
-        ensures serves { OnOk result (Serves (seen_database self.old) (seen_database self.new) (beginning_copy table.now)) }
-        ensures fault { IfErr result (λ fault. CopyRefused fault (seen_database self.old) (seen_database self.new) table.now) }
-        ensures steps { OnOk result (DatabaseSteps (seen_database self.old) (seen_database self.new) (served (beginning_copy table.now)) (quietly (node_does (seen_database self.old) (beginning_copy table.now)))) }
+        requires may { MayCopy (seen_database self.old) table }
+        requires idle { copy_txid table (seen_database self.old).copies ≡ None }
+        ensures serves { (name : List ℕ) → table_number (seen_database self.old) name ≡ Some table
+            → OnOk result (Serves (seen_database self.old) (seen_database self.new) (beginning_copy name)) }
+        ensures fault { (name : List ℕ) → table_number (seen_database self.old) name ≡ Some table
+            → IfErr result (λ fault. CopyRefused fault (seen_database self.old) (seen_database self.new) name) }
+        ensures steps { (name : List ℕ) → table_number (seen_database self.old) name ≡ Some table
+            → OnOk result (DatabaseSteps (seen_database self.old) (seen_database self.new) (served (beginning_copy name)) (quietly (node_does (seen_database self.old) (beginning_copy name)))) }
     {
-        let Some((number, _)) = self.rows.table(table) else {
-            return Ok(());
-        };
-        let keys = keys_now(&self.rows, number)?;
+        let keys = keys_now(&self.rows, table)?;
         let txid = self.rows.begin_worker()?;
-        delete_all(&mut self.rows, txid, number, keys)?;
-        self.node.copies.begin(number, txid)?;
+        delete_all(&mut self.rows, txid, table, keys)?;
+        self.node.copies.begin(table, txid)?;
         Ok(())
     }
 
     /// Writes rows of the copy of a table that runs, each under its key. If none runs, nothing happens.
-    pub fn copy_rows(&mut self, table: &Text, rows: Vec<Row>) -> Result<(), NoMemory>
+    pub fn copy_rows(&mut self, table: u32, rows: Vec<Row>) -> Result<(), NoMemory>
         requires made { IsMade (seen_database self.old) }
-        requires may { may_serve (copying_rows table.now rows.items) (seen_database self.old).node ≡ true }
-        requires fit { all_fit (columns_for (seen_database self.old) table.now) rows.items ≡ true }
-        ensures serves { OnOk result (Serves (seen_database self.old) (seen_database self.new) (copying_rows table.now rows.items)) }
-        ensures steps { OnOk result (DatabaseSteps (seen_database self.old) (seen_database self.new) (served (copying_rows table.now rows.items)) (quietly (node_does (seen_database self.old) (copying_rows table.now rows.items)))) }
+        requires may { MayCopy (seen_database self.old) table }
+        requires fit { all_fit ((seen_database self.old).part.columns table) rows.items ≡ true }
+        ensures serves { (name : List ℕ) → table_number (seen_database self.old) name ≡ Some table
+            → OnOk result (Serves (seen_database self.old) (seen_database self.new) (copying_rows name rows.items)) }
+        ensures steps { (name : List ℕ) → table_number (seen_database self.old) name ≡ Some table
+            → OnOk result (DatabaseSteps (seen_database self.old) (seen_database self.new) (served (copying_rows name rows.items)) (quietly (node_does (seen_database self.old) (copying_rows name rows.items)))) }
     {
-        let Some((number, schema)) = self.rows.table(table) else {
+        let Some(txid) = self.copy_of(table) else {
             return Ok(());
         };
-        let Some(txid) = self.node.copies.txid_of(number) else {
-            return Ok(());
-        };
-        let keyed = under_keys(self.alloc, schema, rows)?;
-        write_all(&mut self.rows, txid, number, keyed)
+        let keyed = under_keys(self.alloc, self.rows.schema(table), rows)?;
+        write_all(&mut self.rows, txid, table, keyed)
     }
 
     /// Ends the copy of a table that runs: its transaction commits. The table has the rows under a snapshot, and its
     /// consumer is at a tick, so that it catches up from now on. If none runs, nothing happens.
-    pub fn copy_end(&mut self, table: &Text, snapshot: &Snapshot, tick: u64) -> Result<(), NoMemory>
+    pub fn copy_end(
+        &mut self,
+        table: &Text,
+        number: u32,
+        snapshot: &Snapshot,
+        tick: u64,
+    ) -> Result<(), NoMemory>
         requires made { IsMade (seen_database self.old) }
+        requires number { table_number (seen_database self.old) table.now ≡ Some number }
         requires may { may_serve (ending_copy table.now snapshot.now tick) (seen_database self.old).node ≡ true }
         ensures serves { OnOk result (Serves (seen_database self.old) (seen_database self.new) (ending_copy table.now snapshot.now tick)) }
         ensures steps { OnOk result (DatabaseSteps (seen_database self.old) (seen_database self.new) (served (ending_copy table.now snapshot.now tick)) (quietly (node_does (seen_database self.old) (ending_copy table.now snapshot.now tick)))) }
     {
-        let Some(txid) = self.copy_of(table) else {
+        let Some(txid) = self.copy_of(number) else {
             return Ok(());
         };
         end_leaf_copy(self.alloc, &mut self.node.own, table, snapshot, tick)?;
@@ -85,24 +90,22 @@ impl Db {
 
     /// Gives the copy of a table up, if one runs: its transaction rolls back, and the table has the rows that it had
     /// before.
-    pub fn copy_drop(&mut self, table: &Text)
+    pub fn copy_drop(&mut self, table: u32)
         requires made { IsMade (seen_database self.old) }
-        requires may { may_serve (giving_up_copy table.now) (seen_database self.old).node ≡ true }
-        ensures serves { Serves (seen_database self.old) (seen_database self.new) (giving_up_copy table.now) }
-        ensures steps { DatabaseSteps (seen_database self.old) (seen_database self.new) (served (giving_up_copy table.now)) (quietly (node_does (seen_database self.old) (giving_up_copy table.now))) }
+        requires may { MayCopy (seen_database self.old) table }
+        ensures serves { (name : List ℕ) → table_number (seen_database self.old) name ≡ Some table
+            → Serves (seen_database self.old) (seen_database self.new) (giving_up_copy name) }
+        ensures steps { (name : List ℕ) → table_number (seen_database self.old) name ≡ Some table
+            → DatabaseSteps (seen_database self.old) (seen_database self.new) (served (giving_up_copy name)) (quietly (node_does (seen_database self.old) (giving_up_copy name))) }
     {
-        let Some((number, _)) = self.rows.table(table) else {
-            return;
-        };
-        self.give_up_copy(number);
+        self.give_up_copy(table);
     }
 
     /// The transaction of the copy of a table, if one runs.
-    pub fn copy_of(&self, table: &Text) -> Option<u64>
-        ensures { result ≡ copy_running (seen_database self.now) table.now }
+    pub fn copy_of(&self, table: u32) -> Option<u64>
+        ensures { result ≡ copy_txid table (seen_database self.now).copies }
     {
-        let (number, _) = self.rows.table(table)?;
-        self.node.copies.txid_of(number)
+        self.node.copies.txid_of(table)
     }
 
     /// The copy of the table of a number is given up, if one runs.
@@ -110,7 +113,7 @@ impl Db {
         requires { IfSome (copy_txid number (seen_database self.old).copies) (λ txid. contains txid (seen_database self.old).part.workers ≡ true) }
         ensures { (name : List ℕ) → seen_database self.new ≡ after_marks (seen_database self.old) (given_up number name (copy_txid number (seen_database self.old).copies)) }
     {
-        if let Some(txid) = self.node.copies.txid_of(number) {
+        if let Some(txid) = self.copy_of(number) {
             self.roll_back_copy(txid);
         }
     }

@@ -1,4 +1,4 @@
-ghost use Rattle.std.specs.Prelude.{◌≡◌, ◌↔◌, ◌≢◌, ◌+◌, ◌^◌, [], ◌++◌, true, None, Some, Ok, Err, IfOk, IfErr, IfSome, OnOk, OnErr, IsTrue, option_map, nat_le, false};
+ghost use Rattle.std.specs.Prelude.{◌≡◌, ◌↔◌, ◌≢◌, ◌+◌, ◌^◌, [], ◌++◌, None, Some, Ok, Err, IfOk, IfErr, IfSome, OnOk, OnErr, IsTrue, option_map, nat_le, true, false, is_ok};
 ghost use Rattle.sky_keys.specs.Waits.{is_waiting};
 ghost use Rattle.sky_model.specs.InForm.{IsRowInForm};
 ghost use Rattle.sky_model.specs.History.{queued, ticked};
@@ -23,12 +23,14 @@ ghost use Rattle.pgq_sub.specs.Views.{seen_sub};
 ghost use Rattle.pgq_queues.specs.Seen.{Stands, batch_of};
 ghost use Rattle.pgq_db.specs.Seen.{seen_database};
 ghost use Rattle.pgq_db.specs.Waiters.{StaysWithin};
+ghost use Rattle.pgq_db.specs.RowRuns.{MayRun, run_turn};
 ghost use Rattle.pgq_db.specs.Gives.{Gives, Adds};
 ghost use Rattle.pgq_db.specs.Looks.{ReadsNone};
 ghost use Rattle.pgq_db.specs.Configured.{refusal_for, configured_as, Configures};
 
 use crate::node_part::NodePart;
-use crate::rotation::switch_before;
+use crate::rotation::run_for;
+use crate::row_run::RowRun;
 use pgq_queues::Queues;
 use pgq_sub::Sub;
 use pgq_tick::ConfigFault;
@@ -118,6 +120,8 @@ impl Db {
 
     /// Lets the session make a statement that isn't on rows, or refuses it. One that is allowed only `outside` blocks
     /// reads nothing; any other takes the sight of a repeatable read block, if it isn't taken yet.
+    // Always inlined: a refusal is large, and this is on the path of each statement on queues.
+    #[inline(always)]
     pub fn enter(&mut self, who: SessionId, outside: bool) -> Result<Option<Refusal>, NoMemory>
         ensures enters { IfOk result (λ refusal. Enters (seen_database self.old).part (seen_database self.new).part who (entry_place outside) refusal) }
         ensures but { seen_database self.new ≡ record (seen_database self.old) { part = (seen_database self.new).part } }
@@ -198,25 +202,8 @@ impl Db {
         ensures rests { OnOk result (ready (seen_database self.new).part ≡ None) }
         ensures moments { OnOk result (HaveMoments (database_turn database_by_itself (seen_database self.old) now who (Row stmt.now)).answers) }
     {
-        if self.is_cut {
-            return Err(AllocError);
-        }
-        switch_before(&mut self.queues, &self.rows, now, who, stmt);
-        self.queues.set_time(now);
-        self.step.effects.clear();
-        // The list of answers is in the step while that runs.
-        mem::swap(&mut self.step.replies, replies);
-        let stepped = self
-            .rows
-            .step_into(who, stmt, &mut self.queues, &mut self.step);
-        mem::swap(&mut self.step.replies, replies);
-        match stepped {
-            Ok(()) => Ok(()),
-            Err(no_memory) => {
-                self.is_cut = true;
-                Err(no_memory)
-            }
-        }
+        let run = run_for(&mut self.queues, &self.rows, now, who, stmt);
+        self.run_rows(now, run, replies)
     }
 
     /// Runs the statements that may resume. Events record their writes.
@@ -230,6 +217,19 @@ impl Db {
         if self.rows.is_at_rest() {
             return Ok(());
         }
+        self.run_rows(now, RowRun::Ready, replies)
+    }
+
+    /// Runs in the row part what is to be run there. Events record the writes.
+    #[inline(always)]
+    fn run_rows(&mut self, now: i64, run: RowRun<'_>, replies: &mut Replies) -> Result<(), NoMemory>
+        requires time { IsTime now }
+        requires may { MayRun run (seen_database self.old).part }
+        ensures adds { OnOk result (Adds (seen_database self.old) (seen_database self.new) replies.old replies.new (run_turn (within_part database_by_itself now) (seen_database self.old) run.entry)) }
+        ensures rests { OnOk result (ready (seen_database self.new).part ≡ None) }
+        ensures moments { OnOk result (HaveMoments (run_turn (within_part database_by_itself now) (seen_database self.old) run.entry).answers) }
+        ensures reads { OnOk result (ReadsNone self.old.queues self.new.queues) }
+    {
         if self.is_cut {
             return Err(AllocError);
         }
@@ -237,15 +237,9 @@ impl Db {
         self.step.effects.clear();
         // The list of answers is in the step while that runs.
         mem::swap(&mut self.step.replies, replies);
-        let settled = self.rows.settle_into(&mut self.queues, &mut self.step);
+        let ran = run.run(&mut self.rows, &mut self.queues, &mut self.step);
         mem::swap(&mut self.step.replies, replies);
-        match settled {
-            Ok(()) => Ok(()),
-            Err(no_memory) => {
-                self.is_cut = true;
-                Err(no_memory)
-            }
-        }
+        noted(&mut self.is_cut, ran)
     }
 
     /// Rolls back the block that the session is in, which stays aborted. What this unblocks isn't run yet.
@@ -254,16 +248,10 @@ impl Db {
         ensures reads { OnOk result (ReadsNone self.old.queues self.new.queues) }
     {
         self.step.effects.clear();
-        match self
+        let ended = self
             .rows
-            .roll_back(who, &mut self.queues, &mut self.step.effects)
-        {
-            Ok(()) => Ok(()),
-            Err(no_memory) => {
-                self.is_cut = true;
-                Err(no_memory)
-            }
-        }
+            .roll_back(who, &mut self.queues, &mut self.step.effects);
+        noted(&mut self.is_cut, ended)
     }
 
     /// A parameter of a queue gets the value that a text writes, or the answer says why not.
@@ -300,6 +288,21 @@ impl Db {
     {
         let snapshot = self.rows.snapshot_now()?;
         Ok(self.queues.queue(queue).first_producer(snapshot.xip()))
+    }
+}
+
+/// Notes it if memory ran out.
+fn noted(is_cut: &mut bool, ran: Result<(), NoMemory>) -> Result<(), NoMemory>
+    ensures same { result ≡ ran }
+    ensures sound { is_cut.new ≡ false → is_cut.old ≡ false }
+    ensures ok { is_cut.new ≡ false → is_ok ran ≡ true }
+{
+    match ran {
+        Ok(()) => Ok(()),
+        Err(no_memory) => {
+            *is_cut = true;
+            Err(no_memory)
+        }
     }
 }
 

@@ -1,6 +1,6 @@
 //! The snapshots that a database holds for copies of its own tables.
 
-ghost use Rattle.std.specs.Prelude.{◌≡◌, true, IfOk, OnOk, OnErr, IfSome, Some, is_some, option_copied};
+ghost use Rattle.std.specs.Prelude.{◌≡◌, ◌<◌, List, ℕ, true, IfOk, OnOk, OnErr, IfSome, Some, is_some, length, option_copied};
 ghost use Rattle.sky_model.specs.declared.reply.Reply.TheVariants.{Number};
 ghost use Rattle.sky_model.specs.CopyMoves.{held_snapshot, rows_from, rows_of};
 ghost use Rattle.sky_model.specs.Daemon.{quietly};
@@ -13,7 +13,7 @@ ghost use Rattle.pgq_db.specs.Served.{Serves};
 
 use crate::db::Db;
 use sky_txid::Snapshot;
-use sky_val::{Key, NoMemory, Row, Text};
+use sky_val::{Key, NoMemory, Row};
 
 impl Db {
     /// Holds the present snapshot, so that rows can be read under it from now on, and returns its number: the least one
@@ -58,19 +58,17 @@ impl Db {
     pub fn held_rows(
         &self,
         hold: u64,
-        table: &Text,
+        table: u32,
         after: Option<&Key>,
         most: usize,
     ) -> Result<Vec<Row>, NoMemory>
         requires held { is_some (held_snapshot (seen_database self.now) hold) ≡ true }
-        requires there { is_some (table_number (seen_database self.now) table.now) ≡ true }
-        ensures { IfOk result (λ rows. IfSome (held_snapshot (seen_database self.now) hold) (λ snapshot.
-            rows.items ≡ rows_of (rows_from (seen_database self.now) table.now snapshot (option_copied after.entry) most))) }
+        requires there { table < length (seen_database self.now).part.tables }
+        ensures { (name : List ℕ) → table_number (seen_database self.now) name ≡ Some table
+            → IfOk result (λ rows. IfSome (held_snapshot (seen_database self.now) hold) (λ snapshot.
+            rows.items ≡ rows_of (rows_from (seen_database self.now) name snapshot (option_copied after.entry) most))) }
     {
         let snapshot = self.held_snapshot(hold);
-        match self.rows.table(table) {
-            Some((number, _)) => self.rows.rows_under(snapshot, number, after, most),
-            None => unreachable!(),
-        }
+        self.rows.rows_under(snapshot, table, after, most)
     }
 }

@@ -14,25 +14,22 @@
 #![tactic(auto)]
 
 mod apply;
-mod change;
 mod consumers;
 mod copies;
 mod daemon;
 mod db;
-mod faults;
 mod holds;
 mod node;
 mod node_part;
-mod pick;
 mod provider;
 mod retries;
 mod rotation;
+mod row_run;
 mod statements;
 mod triggers;
 
 pub use db::Db;
-pub use faults::{
-    ApplyFault, CopyFault, FetchFault, JoinFault, MakeRootFault, RootFault, WorkerFault,
+pub use londiste_calls::{
+    ApplyFault, CopyFault, FetchFault, JoinFault, MakeRootFault, Pick, RootFault, WorkerFault,
 };
-pub use pick::Pick;
 pub use provider::NodeBatch;

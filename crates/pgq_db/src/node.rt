@@ -1,12 +1,12 @@
 //! The root or leaf that a database is in a set of replicated tables, and what a database does for nodes: its own and
 //! those of other databases. A caller decides which of these calls a statement makes, and in which databases.
 
-ghost use Rattle.std.specs.Prelude.{◌≡◌, ◌<◌, ◌++◌, [], ◌∷◌, List, ℕ, ℤ, true, None, Some, Ok, IfOk, IfErr, IfSome, OnOk, OnErr, is_some, length, option_copied, option_map};
+ghost use Rattle.std.specs.Prelude.{◌≡◌, ◌<◌, ◌++◌, [], ◌∷◌, List, ℕ, ℤ, true, None, Some, Ok, IfOk, IfErr, IfSome, OnOk, OnErr, is_some, length, option_copied, option_map, MatchOption};
 ghost use Rattle.londiste_state.specs.declared.node.Node.TheVariants as node;
+ghost use Rattle.londiste_state.specs.Nodes.{is_among};
 ghost use Rattle.sky_model.specs.History.{noded, NodeMark, root_made, set_added, set_removed, joined, parted, leaf_made, leaf_added, leaf_removed, state_set};
 ghost use Rattle.sky_model.specs.Moment.{IsTime};
-ghost use Rattle.sky_model.specs.Nodes.{after_node, is_set_queue, is_leafs};
-ghost use Rattle.sky_model.specs.NodesOfWorld.{columns_called};
+ghost use Rattle.sky_model.specs.Nodes.{after_node, is_set_queue, is_leafs, leaf_tables};
 ghost use Rattle.sky_model.specs.Queues.{queue_name, queue_number};
 ghost use Rattle.sky_model.specs.Daemon.{quietly};
 ghost use Rattle.sky_model.specs.DatabaseCalls.{served};
@@ -20,7 +20,7 @@ ghost use Rattle.pgq_db.specs.Seen.{seen_database};
 ghost use Rattle.pgq_db.specs.Served.{Serves, JoinRefused, MakeRootRefused, RootRefused, ServesUnlessBusy};
 
 use crate::db::Db;
-use crate::faults::{JoinFault, MakeRootFault, RootFault};
+use londiste_calls::{JoinFault, MakeRootFault, RootFault};
 use londiste_state::{Leaf, Node, Root, TableState};
 use pgq_queues::{Queues, TableTrigger};
 use sky_model::Limit;
@@ -43,12 +43,32 @@ impl Db {
         self.set_queue().is_some()
     }
 
-    /// The columns of the table of this name, if there is one.
-    pub fn schema(&self, table: &Text) -> Option<&Schema>
-        ensures { option_copied result ≡ columns_called table.now (seen_database self.now) }
+    /// The number of the table of this name, and its columns, if there is one.
+    pub fn table(&self, name: &Text) -> Option<(u32, &Schema)>
+        ensures { MatchOption result (table_number (seen_database self.now) name.now ≡ None) (λ found.
+            (table_number (seen_database self.now) name.now ≡ Some found.0) × (found.1.now ≡ (seen_database self.now).part.columns found.0)) }
     {
-        let (_, schema) = self.rows.table(table)?;
-        Some(schema)
+        self.rows.table(name)
+    }
+
+    /// The number of a table of the leaf.
+    pub fn leaf_table(&self, name: &Text) -> u32
+        requires made { IsMade (seen_database self.now) }
+        requires among { is_among name.now (leaf_tables (seen_database self.now).node) ≡ true }
+        ensures { table_number (seen_database self.now) name.now ≡ Some result }
+    {
+        match self.rows.table(name) {
+            Some((number, _)) => number,
+            None => unreachable!(),
+        }
+    }
+
+    /// The columns of the table of this number.
+    pub fn schema(&self, table: u32) -> &Schema
+        requires { table < length (seen_database self.now).part.tables }
+        ensures { result.now ≡ (seen_database self.now).part.columns table }
+    {
+        self.rows.schema(table)
     }
 
     /// Registers a leaf's consumer at the newest tick of the set's queue, and returns that tick. On an error nothing
@@ -114,16 +134,13 @@ impl Db {
 
     /// Adds a table to the leaf, which doesn't have it yet. From then on sessions may not write it. If a running
     /// transaction has written it, nothing changes, and that transaction's id is returned. On an error nothing changes.
-    pub fn leaf_add(&mut self, table: &Text) -> Result<Option<u64>, NoMemory>
-        requires there { is_some (table_number (seen_database self.old) table.now) ≡ true }
+    pub fn leaf_add(&mut self, table: &Text, number: u32) -> Result<Option<u64>, NoMemory>
+        requires number { table_number (seen_database self.old) table.now ≡ Some number }
         requires may { may_serve (adding table.now) (seen_database self.old).node ≡ true }
         ensures serves { IfOk result (λ busy. ServesUnlessBusy busy (seen_database self.old) (seen_database self.new) (adding table.now)) }
         ensures err { OnErr result (seen_database self.new ≡ seen_database self.old) }
         ensures steps { OnOk result (DatabaseSteps (seen_database self.old) (seen_database self.new) (served (adding table.now)) (quietly (node_does (seen_database self.old) (adding table.now)))) }
     {
-        let Some((number, _)) = self.rows.table(table) else {
-            unreachable!()
-        };
         if let Some(txid) = self.rows.least_writer(number) {
             return Ok(Some(txid));
         }
@@ -135,30 +152,26 @@ impl Db {
 
     /// Removes a table from the leaf, which has it. From then on sessions may write it again. A copy of it that runs is
     /// given up.
-    pub fn leaf_drop(&mut self, table: &Text)
+    pub fn leaf_drop(&mut self, table: &Text, number: u32)
         requires made { IsMade (seen_database self.old) }
+        requires number { table_number (seen_database self.old) table.now ≡ Some number }
         requires may { may_serve (removing table.now) (seen_database self.old).node ≡ true }
         ensures serves { Serves (seen_database self.old) (seen_database self.new) (removing table.now) }
         ensures steps { DatabaseSteps (seen_database self.old) (seen_database self.new) (served (removing table.now)) (quietly (node_does (seen_database self.old) (removing table.now))) }
     {
-        let Some((number, _)) = self.rows.table(table) else {
-            return;
-        };
         self.give_up_copy(number);
         remove_leaf_table(&mut self.node.own, table);
         self.rows.set_read_only(number, false);
     }
 
     /// Sets the state of a table of the leaf, which may go to it. A copy of it that runs is given up.
-    pub fn set_state(&mut self, table: &Text, to: TableState)
+    pub fn set_state(&mut self, table: &Text, number: u32, to: TableState)
         requires made { IsMade (seen_database self.old) }
+        requires number { table_number (seen_database self.old) table.now ≡ Some number }
         requires allowed { may_serve (moving table.now to) (seen_database self.old).node ≡ true }
         ensures serves { Serves (seen_database self.old) (seen_database self.new) (moving table.now to) }
         ensures steps { DatabaseSteps (seen_database self.old) (seen_database self.new) (served (moving table.now to)) (quietly (node_does (seen_database self.old) (moving table.now to))) }
     {
-        let Some((number, _)) = self.rows.table(table) else {
-            return;
-        };
         self.give_up_copy(number);
         set_leaf_state(&mut self.node.own, table, to);
     }
@@ -166,8 +179,8 @@ impl Db {
     /// Adds a table to the set, which doesn't have it yet. From then on the set's queue gets the events of the table's
     /// writes. If a running transaction has written it, nothing changes, and that transaction's id is returned. On an
     /// error nothing changes.
-    pub fn root_add(&mut self, table: &Text) -> Result<Option<u64>, RootFault>
-        requires there { is_some (table_number (seen_database self.old) table.now) ≡ true }
+    pub fn root_add(&mut self, table: &Text, number: u32) -> Result<Option<u64>, RootFault>
+        requires number { table_number (seen_database self.old) table.now ≡ Some number }
         requires may { may_serve (listing table.now) (seen_database self.old).node ≡ true }
         ensures serves { IfOk result (λ busy. ServesUnlessBusy busy (seen_database self.old) (seen_database self.new) (listing table.now)) }
         ensures fault { IfErr result (λ fault. RootRefused fault (seen_database self.old) (seen_database self.new) table.now) }
@@ -175,9 +188,6 @@ impl Db {
     {
         let Some(queue) = self.set_queue() else {
             return Ok(None);
-        };
-        let Some((number, schema)) = self.rows.table(table) else {
-            unreachable!()
         };
         if self.queues.trigger_count(number) >= Limit::Triggers.most() {
             return Err(RootFault::TooManyTriggers);
@@ -188,6 +198,7 @@ impl Db {
         let name = table.copy(self.alloc)?;
         add_root_table(&mut self.node.own, name)?;
         let trigger = set_trigger(self.alloc, number, queue);
+        let schema = self.rows.schema(number);
         if let Err(no_memory) = self.queues.trace(table, schema, trigger) {
             remove_root_table(&mut self.node.own, table);
             return Err(RootFault::from(no_memory));
@@ -196,14 +207,12 @@ impl Db {
     }
 
     /// Removes a table from the set, which has it. Its events no longer go to the set's queue.
-    pub fn root_drop(&mut self, table: &Text)
-        requires { may_serve (unlisting table.now) (seen_database self.old).node ≡ true }
+    pub fn root_drop(&mut self, table: &Text, number: u32)
+        requires number { table_number (seen_database self.old) table.now ≡ Some number }
+        requires may { may_serve (unlisting table.now) (seen_database self.old).node ≡ true }
         ensures serves { Serves (seen_database self.old) (seen_database self.new) (unlisting table.now) }
         ensures steps { DatabaseSteps (seen_database self.old) (seen_database self.new) (served (unlisting table.now)) (quietly (node_does (seen_database self.old) (unlisting table.now))) }
     {
-        let Some((number, _)) = self.rows.table(table) else {
-            return;
-        };
         remove_root_table(&mut self.node.own, table);
         self.queues.untrace(number);
     }

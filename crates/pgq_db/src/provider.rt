@@ -14,8 +14,8 @@ ghost use Rattle.pgq_db.specs.Seen.{seen_database};
 ghost use Rattle.pgq_db.specs.Served.{Serves, Fetched, FetchRefused};
 
 use crate::db::Db;
-use crate::faults::FetchFault;
 use crate::node::remove_consumer;
+use londiste_calls::FetchFault;
 use sky_model::Limit;
 use sky_txid::Snapshot;
 use sky_val::{Event, NoMemory, Text};

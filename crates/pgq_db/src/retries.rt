@@ -18,7 +18,7 @@ ghost use Rattle.pgq_db.specs.Looks.{LooksUnlessCut};
 
 use crate::db::Db;
 use pgq_retry::Retry;
-use sky_model::{Refusal, Replies, Reply, Stop};
+use sky_model::{Refusal, Replies, Reply, RetriedEvent, Stop};
 use sky_session::RowDb;
 use sky_trans::TransFault;
 use sky_val::{Event, SessionId};
@@ -32,33 +32,31 @@ impl Db {
         &mut self,
         now: i64,
         who: SessionId,
-        id: u64,
-        event: u64,
-        seconds: u64,
+        again: &RetriedEvent,
         replies: &mut Replies,
     ) -> Result<(), Stop>
         requires time { IsTime now }
-        requires seconds { seconds ≤ 1_000_000_000 }
-        ensures ran { Ran self.old self.new replies.old replies.new who result (event_retry (seen_database self.old) (shown_by (seen_database self.old)).events now id event seconds) }
-        ensures looks { LooksUnlessCut self.old.queues self.new.queues id result }
+        requires seconds { again.now.seconds ≤ 1_000_000_000 }
+        ensures ran { Ran self.old self.new replies.old replies.new who result (event_retry (seen_database self.old) (shown_by (seen_database self.old)).events now again.now) }
+        ensures looks { LooksUnlessCut self.old.queues self.new.queues again.now.batch result }
     {
         if self.is_cut {
             return Err(Stop::NoMemory);
         }
-        let Some(batch) = self.queues.batch(id) else {
+        let Some(batch) = self.queues.batch(again.batch) else {
             return Err(Stop::Refused(Refusal::NoBatch));
         };
         if self.is_nodes_of(batch.queue, batch.consumer) {
             return Err(Stop::Refused(Refusal::NodeConsumer));
         }
         let span = batch.span();
-        let Some(found) = self.queues.event_in(span, event)? else {
+        let Some(found) = self.queues.event_in(span, again.event)? else {
             return Err(Stop::Refused(Refusal::NoEvent));
         };
         let retry = Retry {
             queue: span.queue,
             sub: span.sub,
-            due: now + (SECOND * seconds) as i64,
+            due: now + (SECOND * again.seconds) as i64,
             event: retried(span.sub, found),
         };
         let count = u64::from(self.queues.retry(retry)?);

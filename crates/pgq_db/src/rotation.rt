@@ -16,10 +16,13 @@ ghost use Rattle.pgq_queues.specs.Seen.{Beside, seen_with, queue_at, Stands};
 ghost use Rattle.pgq_queues.specs.Traced.{KeepsRest};
 ghost use Rattle.pgq_db.specs.Gives.{Ran};
 ghost use Rattle.pgq_db.specs.Seen.{with_node, seen_database};
+ghost use Rattle.pgq_db.specs.RowRuns.{IsRunFor, MayRun};
 ghost use Rattle.pgq_db.specs.Switches.{first_switches};
+ghost use Rattle.sky_model.specs.InForm.{IsRowInForm};
 
 use crate::db::Db;
 use crate::retries::work_alone;
+use crate::row_run::RowRun;
 use pgq_queues::Queues;
 use sky_model::{Replies, Reply, RowStmt, Stop};
 use sky_session::RowDb;
@@ -114,23 +117,29 @@ fn switch(queues: &mut Queues, queue: usize, txid: u64, is_alone: bool, now: i64
     }
 }
 
-/// Before a `commit`, the switches are made that the session's transaction has pending.
-pub(crate) fn switch_before(
+/// What the row part runs for a statement. Before a `commit`, the switches are made that the session's transaction has
+/// pending.
+pub(crate) fn run_for<'a>(
     queues: &mut Queues,
     rows: &RowDb,
     now: i64,
     who: SessionId,
-    stmt: &RowStmt,
-)
-    requires { IsTime now }
+    stmt: &'a RowStmt,
+) -> RowRun<'a>
+    requires time { IsTime now }
+    requires form { IsRowInForm stmt.now }
+    ensures run { IsRunFor result who stmt.now }
+    ensures may { MayRun result (seen rows.now) }
     ensures marks { (node : NodePart) → seen_with (with_node node (seen rows.now)) queues.new
         ≡ after_marks (seen_with (with_node node (seen rows.now)) queues.old) (first_switches (seen_with (with_node node (seen rows.now)) queues.old) now who stmt.now) }
     ensures rest { KeepsRest queues.old queues.new }
 {
-    if !matches!(stmt, RowStmt::Commit) {
-        return;
-    }
-    if let Some(txid) = rows.commits(who) {
+    let RowStmt::Commit = stmt else {
+        return RowRun::Statement(who, stmt);
+    };
+    let plan = rows.plan_commit(who);
+    if let Some(txid) = plan.txid() {
         queues.switch_tables(txid, now);
     }
+    RowRun::Commit(who, plan)
 }

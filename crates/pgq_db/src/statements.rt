@@ -29,11 +29,14 @@ ghost use Rattle.pgq_db.specs.Looks.{LooksWithin, RanWithin, ListsLooked, ReadsN
 ghost use Rattle.pgq_db.specs.Gives.{Gives, Adds, Answers, Ran};
 ghost use Rattle.sky_model.specs.Stops.{StopsAs};
 
-use crate::change::tells_of_rows;
 use crate::db::Db;
+use londiste_calls::tells_of_rows;
 use pgq_queues::{EVENT_ID_END, Queues, TableTrigger};
 use pgq_tables::PlainEvent;
-use sky_model::{BoxedExtra, DbStmt, Extra, Limit, QueueStmt, Refusal, Replies, Reply, Stop};
+use sky_model::{
+    BoxedExtra, DbStmt, Extra, InsertedEvent, Limit, QueueSetting, QueueStmt, Refusal, Replies,
+    Reply, Stop,
+};
 use sky_val::{Event, NoMemory, SessionId, Text, copy_option};
 use std::alloc::{AllocError, Global};
 
@@ -210,35 +213,18 @@ impl Db {
         match stmt {
             QueueStmt::CreateQueue { queue } => self.create_queue(now, who, queue, replies),
             QueueStmt::DropQueue { queue } => self.drop_queue(who, queue, replies),
-            QueueStmt::SetQueueConfig {
-                queue,
-                param,
-                value,
-            } => self.set_queue_config(who, queue, param, value, replies),
+            QueueStmt::SetQueueConfig(setting) => self.set_queue_config(who, setting, replies),
             QueueStmt::QueueInfo { queue } => self.queue_info(who, queue, replies),
-            QueueStmt::InsertEvent {
-                queue,
-                ev_type,
-                ev_data,
-                extra,
-            } => self.insert_event(now, who, queue, ev_type, ev_data, extra, replies),
-            QueueStmt::AddTrigger {
-                name,
-                table,
-                queue,
-                backup,
-                ignored,
-            } => self.add_trigger(who, name, table, queue, *backup, ignored, replies),
+            QueueStmt::InsertEvent(event) => self.insert_event(now, who, event, replies),
+            QueueStmt::AddTrigger(trigger) => self.add_trigger(who, trigger, replies),
             QueueStmt::Ticker { queue } => self.ticker(now, who, queue, replies),
             QueueStmt::ForceTick { queue } => self.force_tick(who, queue, replies),
             QueueStmt::RegisterConsumer { queue, consumer } => {
                 self.register_consumer(who, queue, consumer, replies)
             }
-            QueueStmt::RegisterConsumerAt {
-                queue,
-                consumer,
-                tick,
-            } => self.register_consumer_at(who, queue, consumer, *tick, replies),
+            QueueStmt::RegisterConsumerAt(position) => {
+                self.register_consumer_at(who, position, replies)
+            }
             QueueStmt::UnregisterConsumer { queue, consumer } => {
                 self.unregister_consumer(who, queue, consumer, replies)
             }
@@ -247,11 +233,7 @@ impl Db {
             }
             QueueStmt::GetBatchEvents { batch } => self.get_batch_events(who, *batch, replies),
             QueueStmt::GetBatchInfo { batch } => self.get_batch_info(who, *batch, replies),
-            QueueStmt::EventRetry {
-                batch,
-                event,
-                seconds,
-            } => self.event_retry(now, who, *batch, *event, *seconds, replies),
+            QueueStmt::EventRetry(again) => self.event_retry(now, who, again, replies),
             QueueStmt::FinishBatch { batch } => self.finish_batch(who, *batch, replies),
             QueueStmt::MaintRetryEvents => self.maint_retry_events(now, who, replies),
             QueueStmt::MaintRotateStep1 { queue } => {
@@ -379,22 +361,44 @@ impl Db {
         }
     }
 
+    /// `set_queue_config NAME RAW RAW`
+    fn set_queue_config(
+        &mut self,
+        who: SessionId,
+        setting: &QueueSetting,
+        replies: &mut Replies,
+    ) -> Result<(), Stop>
+        ensures ran { Ran self.old self.new replies.old replies.new who result (set_queue_config (seen_database self.old) setting.now) }
+    {
+        let queue = self.queue_called(&setting.queue)?;
+        self.configure(queue, &setting.param, &setting.value)?;
+        replies.push(who, Reply::Number(1))?;
+        Ok(())
+    }
+
+    /// `queue_info NAME`
+    fn queue_info(&self, who: SessionId, name: &Text, replies: &mut Replies) -> Result<(), Stop>
+        ensures ran { Ran self.now self.now replies.old replies.new who result (queue_info (seen_database self.now) name.now) }
+    {
+        let queue = self.queue_called(name)?;
+        let info = self.queues.queue(queue).info(self.alloc)?;
+        replies.push(who, Reply::QueueInfo(info))?;
+        Ok(())
+    }
+
     /// `insert_event NAME TVAL TVAL`: an event with the next id of the queue's sequence.
     fn insert_event(
         &mut self,
         now: i64,
         who: SessionId,
-        name: &Text,
-        ev_type: &Option<Text>,
-        ev_data: &Option<Text>,
-        extra: &Option<BoxedExtra>,
+        inserted: &InsertedEvent,
         replies: &mut Replies,
     ) -> Result<(), Stop>
         requires time { IsTime now }
-        ensures { Ran self.old self.new replies.old replies.new who result (insert_event (seen_database self.old) now who name.now ev_type.now ev_data.now extra.now) }
+        ensures { Ran self.old self.new replies.old replies.new who result (insert_event (seen_database self.old) now who inserted.now) }
     {
-        let queue = self.queue_called(name)?;
-        if self.is_reserved(name, ev_type) {
+        let queue = self.queue_called(&inserted.queue)?;
+        if self.is_reserved(&inserted.queue, &inserted.ev_type) {
             return Err(Stop::Refused(Refusal::ReservedType));
         }
         let txid = self.next_txid(who)?;
@@ -404,9 +408,9 @@ impl Db {
         }
         let id = seq + 1;
         self.take_txid(who, txid)?;
-        let event = plain_event(self.alloc, id, now, txid, ev_type, ev_data)?;
+        let event = plain_event(self.alloc, id, now, txid, inserted)?;
         self.queues.raise(queue, id);
-        self.put(queue, event, extra)?;
+        self.put(queue, event, &inserted.extra)?;
         replies.push(who, Reply::Number(id))?;
         Ok(())
     }
@@ -443,33 +447,6 @@ impl Db {
         ensures { result ≡ (is_set_queue queue.now (seen_database self.now).node && tells_of_rows ev_type.now) }
     {
         self.is_set_queue(queue) && tells_of_rows(ev_type.as_ref())
-    }
-
-    /// `set_queue_config NAME RAW RAW`
-    fn set_queue_config(
-        &mut self,
-        who: SessionId,
-        name: &Text,
-        param: &Text,
-        value: &Text,
-        replies: &mut Replies,
-    ) -> Result<(), Stop>
-        ensures ran { Ran self.old self.new replies.old replies.new who result (set_queue_config (seen_database self.old) name.now param.now value.now) }
-    {
-        let queue = self.queue_called(name)?;
-        self.configure(queue, param, value)?;
-        replies.push(who, Reply::Number(1))?;
-        Ok(())
-    }
-
-    /// `queue_info NAME`
-    fn queue_info(&self, who: SessionId, name: &Text, replies: &mut Replies) -> Result<(), Stop>
-        ensures ran { Ran self.now self.now replies.old replies.new who result (queue_info (seen_database self.now) name.now) }
-    {
-        let queue = self.queue_called(name)?;
-        let info = self.queues.queue(queue).info(self.alloc)?;
-        replies.push(who, Reply::QueueInfo(info))?;
-        Ok(())
     }
 
     /// `ticker NAME`: a tick, if one is due.
@@ -557,24 +534,23 @@ fn shown_name(alloc: Global, trigger: &TableTrigger) -> Result<Text, NoMemory>
     }
 }
 
-/// An event with these texts and no others.
+/// An event of this type and data, without further texts.
 #[inline(always)]
 fn plain_event(
     alloc: Global,
     id: u64,
     now: i64,
     txid: u64,
-    ev_type: &Option<Text>,
-    ev_data: &Option<Text>,
+    inserted: &InsertedEvent,
 ) -> Result<PlainEvent, NoMemory>
-    ensures { IfOk result (λ event. event ≡ record { ev_id = id; ev_time = now; ev_txid = txid; ev_type = ev_type.now; ev_data = ev_data.now }) }
+    ensures { IfOk result (λ event. event ≡ record { ev_id = id; ev_time = now; ev_txid = txid; ev_type = inserted.now.ev_type; ev_data = inserted.now.ev_data }) }
 {
     Ok(PlainEvent {
         ev_id: id,
         ev_time: now,
         ev_txid: txid,
-        ev_type: copy_option(alloc, ev_type)?,
-        ev_data: copy_option(alloc, ev_data)?,
+        ev_type: copy_option(alloc, &inserted.ev_type)?,
+        ev_data: copy_option(alloc, &inserted.ev_data)?,
     })
 }
 
@@ -618,6 +594,6 @@ fn is_outside(stmt: &QueueStmt) -> bool
 {
     !matches!(
         stmt,
-        QueueStmt::InsertEvent { .. } | QueueStmt::MaintRotateStep1 { .. }
+        QueueStmt::InsertEvent(_) | QueueStmt::MaintRotateStep1 { .. }
     )
 }

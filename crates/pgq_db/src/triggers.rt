@@ -22,7 +22,7 @@ use crate::node_part::NodePart;
 use crate::statements::queue_called;
 use londiste_state::Node;
 use pgq_queues::{Queues, TableTrigger};
-use sky_model::{ColumnNames, Limit, Refusal, Replies, Reply, Stop};
+use sky_model::{AddedTrigger, Limit, Refusal, Replies, Reply, Stop};
 use sky_session::RowDb;
 use sky_urlenc::Trigger;
 use sky_val::{NoMemory, Schema, SessionId, Text};
@@ -33,42 +33,22 @@ impl Db {
     pub(crate) fn add_trigger(
         &mut self,
         who: SessionId,
-        name: &Text,
-        table: &Text,
-        queue: &Text,
-        backup: bool,
-        ignored: &ColumnNames,
+        asked: &AddedTrigger,
         replies: &mut Replies,
     ) -> Result<(), Stop>
-        ensures { Ran self.old self.new replies.old replies.new who result (add_trigger (seen_database self.old) name.now table.now queue.now backup ignored.now) }
+        ensures { Ran self.old self.new replies.old replies.new who result (add_trigger (seen_database self.old) asked.now) }
     {
         let (trigger, schema) = new_trigger(
             self.alloc,
             &self.rows,
             &self.queues,
             &self.node,
-            &Asked {
-                name,
-                table,
-                queue,
-                backup,
-                ignored: ignored.as_slice(),
-            },
+            asked,
         )?;
-        self.queues.trace(table, schema, trigger)?;
+        self.queues.trace(&asked.table, schema, trigger)?;
         replies.push(who, Reply::Done)?;
         Ok(())
     }
-}
-
-/// What a statement asks for: a trigger of a table, whose events go into a queue.
-#[derive(Clone, Copy)]
-struct Asked<'a> {
-    name: &'a Text,
-    table: &'a Text,
-    queue: &'a Text,
-    backup: bool,
-    ignored: &'a [Text],
 }
 
 /// The trigger that `add_trigger` makes, and the columns of its table, or why it is refused.
@@ -77,18 +57,18 @@ fn new_trigger<'a>(
     rows: &'a RowDb,
     queues: &Queues,
     node: &NodePart,
-    asked: &Asked,
+    asked: &AddedTrigger,
 ) -> Result<(TableTrigger, &'a Schema), Stop>
     ensures adds { let d = seen_database (record { rows = rows.now; queues = queues.now; node = node.now }) in
-        IfOk result (λ made. add_trigger d asked.now.name.now asked.now.table.now asked.now.queue.now asked.now.backup asked.now.ignored.now
+        IfOk result (λ made. add_trigger d asked.now
         ≡ does_marks Done (queued (traced made.0.table made.0.name made.0.trigger) ∷ [])) }
-    ensures table { IfOk result (λ made. IsTable (seen rows.now) made.0.table asked.now.table.now made.1.now) }
+    ensures table { IfOk result (λ made. IsTable (seen rows.now) made.0.table asked.now.table made.1.now) }
     ensures stands { IfOk result (λ made. Stands queues.now.queues made.0.trigger.queue) }
     ensures err { let d = seen_database (record { rows = rows.now; queues = queues.now; node = node.now }) in
-        IfErr result (λ stop. StopsAs stop (add_trigger d asked.now.name.now asked.now.table.now asked.now.queue.now asked.now.backup asked.now.ignored.now)) }
+        IfErr result (λ stop. StopsAs stop (add_trigger d asked.now)) }
 {
-    let (number, schema) = table_called(alloc, rows, asked.table)?;
-    let into = queue_of_no_set(alloc, queues, &node.own, asked.queue)?;
+    let (number, schema) = table_called(alloc, rows, &asked.table)?;
+    let into = queue_of_no_set(alloc, queues, &node.own, &asked.queue)?;
     check_trigger(alloc, rows, queues, number, schema, asked)?;
     let trigger = trigger_into(alloc, number, into, asked)?;
     Ok((trigger, schema))
@@ -131,19 +111,19 @@ fn check_trigger(
     queues: &Queues,
     table: u32,
     schema: &Schema,
-    asked: &Asked,
+    asked: &AddedTrigger,
 ) -> Result<(), Stop>
     requires { schema.now ≡ (seen rows.now).columns table }
-    ensures ok { OnOk result (trigger_fits (seen rows.now) queues.now.triggers table asked.now.name.now asked.now.ignored.now ≡ Ok tt) }
-    ensures err { IfErr result (λ stop. StopsAs stop (trigger_fits (seen rows.now) queues.now.triggers table asked.now.name.now asked.now.ignored.now)) }
+    ensures ok { OnOk result (trigger_fits (seen rows.now) queues.now.triggers table asked.now.name asked.now.ignored ≡ Ok tt) }
+    ensures err { IfErr result (λ stop. StopsAs stop (trigger_fits (seen rows.now) queues.now.triggers table asked.now.name asked.now.ignored)) }
 {
-    if queues.has_trigger(table, asked.name) {
+    if queues.has_trigger(table, &asked.name) {
         return Err(Stop::Refused(Refusal::TriggerExists(asked.name.copy(alloc)?)));
     }
     if queues.trigger_count(table) >= Limit::Triggers.most() {
         return Err(Stop::Refused(Refusal::TooMany(Limit::Triggers)));
     }
-    check_ignored(alloc, schema, asked.ignored)?;
+    check_ignored(alloc, schema, asked.ignored.as_slice())?;
     match rows.least_writer(table) {
         Some(txid) => Err(Stop::Refused(Refusal::TableBusy(txid))),
         None => Ok(()),
@@ -183,12 +163,13 @@ fn trigger_into(
     alloc: Global,
     table: u32,
     queue: usize,
-    asked: &Asked,
+    asked: &AddedTrigger,
 ) -> Result<TableTrigger, NoMemory>
-    ensures { IfOk result (λ trigger. trigger ≡ record { table = table; name = Some asked.now.name.now; trigger = record { queue = queue; backup = asked.now.backup; ignored = asked.now.ignored.now } }) }
+    ensures { IfOk result (λ trigger. trigger ≡ record { table = table; name = Some asked.now.name; trigger = record { queue = queue; backup = asked.now.backup; ignored = asked.now.ignored } }) }
 {
-    let mut names = Vec::with_capacity(alloc, asked.ignored.len())?;
-    for column in asked.ignored {
+    let ignored = asked.ignored.as_slice();
+    let mut names = Vec::with_capacity(alloc, ignored.len())?;
+    for column in ignored {
         names.push(column.copy(alloc)?)?;
     }
     Ok(TableTrigger {

@@ -18,7 +18,7 @@ use Rattle.sky_model.specs.Made.{takes_sight}
 use Rattle.sky_model.specs.Reader.{Shown, shown_in, database_by_history, within_part}
 use Rattle.sky_model.specs.Settling.{Turn, turn_of, behind_marks, marked, settling, with_settling}
 use Rattle.sky_model.specs.Calls.{form, making, statement}
-use Rattle.sky_model.specs.Permits.{Leaves, of_any, of_resumed, may_leave, permit_of}
+use Rattle.sky_model.specs.Permits.{MarkKinds, of_any, of_resumed, may_leave, permit_of}
 use Rattle.sky_model.specs.SessionMarks.{look_of, entry_place, enters, failing}
 use Rattle.sky_model.specs.StepCopy.{copy_write, copy_writes, deletions, insertions, rows_now, begins_copy, all_fit, copies_rows, given_up}
 use Rattle.sky_model.specs.StepNode.{NodeCall, joining, parting, fetching, finishing, making_root, making_leaf, adding, removing, moving, listing, unlisting, beginning_copy, copying_rows, ending_copy, giving_up_copy, applying, holding, letting_go, if_there, set_queue, table_number, may_serve, call_form, node_does}
@@ -38,13 +38,13 @@ use Rattle.std.specs.List.{list_any}
 
 -- ---- calls by which no copy begins
 
-unbegun-if : (k : Leaves) (s : Session) (who : ℕ) (mark : Mark) → may_leave k s who mark ≡ true → is_no_begin mark ≡ true
+unbegun-if : (k : MarkKinds) (s : Session) (who : ℕ) (mark : Mark) → may_leave k s who mark ≡ true → is_no_begin mark ≡ true
 unbegun-if k s who (began (of_copy table) t) e = absurd (cc)
 unbegun-if k s who _ e = refl
 
 unbegun-form : (d : Database) (shown : Shown) (now : ℤ) (who : ℕ) (stmt : DbStmt) → Gives AnyReply is_no_begin (form d shown now who stmt)
 unbegun-form d shown now who stmt =
-    let k : Leaves = (permit_of stmt).leaves in
+    let k : MarkKinds = (permit_of stmt).kinds in
     gives-map AnyReply AnyReply (may_leave k (d.part.session who) who) is_no_begin (λ reply any. any) (unbegun-if k (d.part.session who) who) _ (gives-form who d shown now stmt)
 
 unbegun-statement : (h : History) (now : ℤ) (who : ℕ) (stmt : DbStmt) → EachMark is_no_begin (statement database_by_history h now who stmt).marks

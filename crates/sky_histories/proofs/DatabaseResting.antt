@@ -6,12 +6,12 @@ use Rattle.sky_model.specs.Reader.{database_by_history, database_by_itself, with
 use Rattle.sky_histories.proofs.Marks.{part_of-mark}
 use Rattle.sky_histories.proofs.RowStanding.{part-behind}
 use Rattle.sky_histories.proofs.StatementMarks.{gives-tells}
-use Rattle.sky_histories.proofs.Resting.{is_quiet, KeepsPart}
+use Rattle.sky_histories.proofs.Resting.{keeps_waiters, KeepsPart}
 
 -- a database keeps its row part by itself
 pub database-keeps : (now : ℤ) → KeepsPart (within_part database_by_itself now)
-database-keeps now = record { part = part-behind; quiet = λ d c quiet. gives-tells is_quiet (λ mark _. refl) ReplyHasMoments d now c quiet }
+database-keeps now = record { part = part-behind; quiet = λ d c quiet. gives-tells keeps_waiters (λ mark _. refl) ReplyHasMoments d now c quiet }
 
 -- and a history does
 pub history-keeps : (now : ℤ) → KeepsPart (within_part database_by_history now)
-history-keeps now = record { part = part_of-mark; quiet = λ h c quiet. gives-tells is_quiet (λ mark _. refl) ReplyHasMoments (database_of h) now c quiet }
+history-keeps now = record { part = part_of-mark; quiet = λ h c quiet. gives-tells keeps_waiters (λ mark _. refl) ReplyHasMoments (database_of h) now c quiet }

@@ -17,7 +17,7 @@ use Rattle.sky_model.specs.Settling.{Turn, behind_marks, with_settling}
 use Rattle.sky_model.specs.Calls.{row_turn}
 use Rattle.sky_model.specs.Printed.{ReplyHasMoments}
 use Rattle.sky_model.specs.Sessions.{Session}
-use Rattle.sky_model.specs.Permits.{Leaves, of_any, of_rows, may_leave, permit_of_row}
+use Rattle.sky_model.specs.Permits.{MarkKinds, of_any, of_rows, may_leave, permit_of_row}
 use Rattle.sky_histories.proofs.StatementMarks.{EachMark, each-map, AnyReply, each-given, gives-row_form, each-abort}
 use Rattle.sky_histories.proofs.Turns.{ReadAlike, same-with_settling, alike-turn, Any, each-any}
 
@@ -74,7 +74,7 @@ gated-none gate g (Ok o) plain = ap (λ b. refused_if (not b) EventIdsSpent >> O
 
 -- ---- what writes nothing
 
-pub plain-if : (k : Leaves) → k.writes ≡ false → (s : Session) (who : ℕ) (mark : Mark) → may_leave k s who mark ≡ true → is_no_write mark ≡ true
+pub plain-if : (k : MarkKinds) → k.writes ≡ false → (s : Session) (who : ℕ) (mark : Mark) → may_leave k s who mark ≡ true → is_no_write mark ≡ true
 plain-if k none s who (tabled (wrote (of_session v) t table key old new)) e = absurd (cc)
 plain-if k none s who (tabled (wrote whose t table key old new)) e = absurd (cc)
 plain-if k none s who _ e = refl
@@ -86,7 +86,7 @@ plain-abort who b txid refusal = each-abort AnyReply is_no_write (λ _. tt) (pla
 -- `get`
 pub plain-get : (d : RowPart) (shown : RowsShown) (who : ℕ) (name : List ℕ) (key : List Val) → PlainOutcome (get d shown who name key)
 plain-get d shown who name key =
-    let k : Leaves = of_rows (permit_of_row (Get name key)).leaves in
+    let k : MarkKinds = of_rows (permit_of_row (Get name key)).kinds in
     each-map (may_leave k (d.session who) who) is_no_write (plain-if k refl (d.session who) who) (marks_of (get d shown who name key))
     (each-given ReplyHasMoments (may_leave k (d.session who) who) (get d shown who name key) (gives-row_form who d shown (Get name key)))
 

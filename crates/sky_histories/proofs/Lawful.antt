@@ -3,7 +3,7 @@ use Rattle.std.proofs.Common.{Bool, ◌≡◌, All, ℕ, suc, zero, ℤ, ◌+◌
 use Rattle.std.proofs.lemmas.Bool.{cond_both}
 use Rattle.std.proofs.lemmas.Bool.Decides.{nat_tests}
 use Rattle.sky_model.specs.declared.stmt.DbStmt.{DbStmt}
-use Rattle.sky_model.specs.declared.stmt.Extra.{Extra}
+use Rattle.sky_model.specs.declared.stmt.InsertedEvent.{InsertedEvent}
 use Rattle.sky_model.specs.declared.stmt.RowStmt.{RowStmt}
 use Rattle.sky_model.specs.declared.stmt.DbStmt.TheVariants.{Row, Queue}
 use Rattle.sky_model.specs.declared.stmt.QueueStmt.{QueueStmt}
@@ -103,22 +103,22 @@ good_create_queue h l now who name =
     by_place (Some n) is = done
     by_place None is = good_test h who (nat_le 64 (length (queues h))) (TooMany Queues) _ (λ _. good_makes h now who name (Number 1) [] (λ g t still. done) is)
 
-good_insert_event : (h : History) → Legal h → (now : ℤ) (who : ℕ) (name : List ℕ) (ev_type ev_data : Option (List ℕ)) (extra : Option Extra)
-    → Good h who (insert_event (database_of h) now who name ev_type ev_data extra)
-good_insert_event h l now who name ev_type ev_data extra =
-    good_found h who (queue_number name (queues h)) (NoQueue name) _ (λ q is.
-    good_test h who (is_set_queue name (node h) && tells_of_rows ev_type) ReservedType _ (λ _. by_own q (among-number name (queues h) q is) (own_txid who h) refl))
+good_insert_event : (h : History) → Legal h → (now : ℤ) (who : ℕ) (event : InsertedEvent)
+    → Good h who (insert_event (database_of h) now who event)
+good_insert_event h l now who event =
+    good_found h who (queue_number event.queue (queues h)) (NoQueue event.queue) _ (λ q is.
+    good_test h who (is_set_queue event.queue (node h) && tells_of_rows event.ev_type) ReservedType _ (λ _. by_own q (among-number event.queue (queues h) q is) (own_txid who h) refl))
   where
     body : (g : History) → Legal g → (q n t : ℕ) (b : Block) → own_txid who g ≡ Some t → IsQueue g q → sequence q g ≡ n
-        → Chain g (queued (raised q (n + 1)) ∷ queued (put q (made_event (n + 1) now t ev_type ev_data extra)) ∷ commit_of who t b)
+        → Chain g (queued (raised q (n + 1)) ∷ queued (put q (made_event (n + 1) now t event.ev_type event.ev_data event.extra)) ∷ commit_of who t b)
     body g l q n t b mine below is =
         more (raises q (n + 1) below (omega arith))
         (more (puts who q _ below (ap (λ b. if b then n + 1 else sequence q g) (sym (same-session q))) mine (subst (λ m. All (λ e. e.ev_id < m + 1) (events q g)) is (events_below-next g l q below)))
-        (good_commits (queued (put q (made_event (n + 1) now t ev_type ev_data extra)) ∷ queued (raised q (n + 1)) ∷ g) who t b mine))
+        (good_commits (queued (put q (made_event (n + 1) now t event.ev_type event.ev_data event.extra)) ∷ queued (raised q (n + 1)) ∷ g) who t b mine))
 
     by_own : (q : ℕ) → IsQueue h q → (o : Option ℕ) → own_txid who h ≡ o → Good h who (own_or_next (part_of h) o >>= (λ t.
         next_event_id ((database_of h).queue q) >>= (λ id.
-        does_marks (Number id) (begin_of who t o ++ (queued (raised q id) ∷ queued (put q (made_event id now t ev_type ev_data extra)) ∷ []) ++ commit_of who t (block who h)))))
+        does_marks (Number id) (begin_of who t o ++ (queued (raised q id) ∷ queued (put q (made_event id now t event.ev_type event.ev_data event.extra)) ∷ []) ++ commit_of who t (block who h)))))
     by_own q below None none =
         good_test_then h who (nat_le (2 ^ 62) (next_txid h)) TxidsSpent (next_txid h) _
         (good_test_then h who (nat_le (2 ^ 62) (sequence q h + 1)) EventIdsSpent (sequence q h + 1) _
@@ -221,22 +221,22 @@ good_queue_form h l now who (DropQueue name) =
     good_refused_by h who (option_map (λ t. HasTriggers (shown_name t)) (first_trigger_into q (triggers h))) _ (λ untold.
     good_refused_by h who (option_map QueueBusy (least_producer (database_of h) q)) _ (λ idle.
     more (drops q (no-member h q none) (none-into q (triggers h) untold) (none-put (has_part_in (event_tables q h)) (running h) idle) (not-sets h name q is other)) done)))))
-good_queue_form h l now who (SetQueueConfig name param value) =
-    good_found h who (queue_number name (queues h)) (NoQueue name) _ (λ q is.
-    good_found h who (param_of param) (NoParam param) _ (λ p known.
-    good_found h who (configured_by (config q h) p value) (BadValue param) _ (λ c set.
-    more (configures q c (among-number name (queues h) q is)) done)))
+good_queue_form h l now who (SetQueueConfig setting) =
+    good_found h who (queue_number setting.queue (queues h)) (NoQueue setting.queue) _ (λ q is.
+    good_found h who (param_of setting.param) (NoParam setting.param) _ (λ p known.
+    good_found h who (configured_by (config q h) p setting.value) (BadValue setting.param) _ (λ c set.
+    more (configures q c (among-number setting.queue (queues h) q is)) done)))
 good_queue_form h l now who (QueueInfo name) = good_found h who (queue_number name (queues h)) (NoQueue name) _ (λ q is. done)
-good_queue_form h l now who (InsertEvent queue ev_type ev_data extra) = good_insert_event h l now who queue ev_type ev_data extra
-good_queue_form h l now who (AddTrigger name table_name queue_name backup ignored) =
-    good_found h who (place_of table_name (table_names h)) (NoTable table_name) _ (λ table there.
-    good_found h who (queue_number queue_name (queues h)) (NoQueue queue_name) _ (λ queue is.
-    good_test h who (is_set_queue queue_name (node h)) SetQueue _ (λ other.
-    good_test h who (has_trigger name (triggers_of table (triggers h))) (TriggerExists name) _ (λ new.
+good_queue_form h l now who (InsertEvent event) = good_insert_event h l now who event
+good_queue_form h l now who (AddTrigger trigger) =
+    good_found h who (place_of trigger.table (table_names h)) (NoTable trigger.table) _ (λ table there.
+    good_found h who (queue_number trigger.queue (queues h)) (NoQueue trigger.queue) _ (λ queue is.
+    good_test h who (is_set_queue trigger.queue (node h)) SetQueue _ (λ other.
+    good_test h who (has_trigger trigger.name (triggers_of table (triggers h))) (TriggerExists trigger.name) _ (λ new.
     good_test h who (nat_le 8 (length (triggers_of table (triggers h)))) (TooMany Triggers) _ (λ _.
-    good_refused_by h who (option_map BadColumn (find (λ column. not (may_ignore (columns_of table h) column)) ignored)) _ (λ _.
+    good_refused_by h who (option_map BadColumn (find (λ column. not (may_ignore (columns_of table h) column)) trigger.ignored)) _ (λ _.
     good_refused_by h who (option_map TableBusy (least_writer (part_of h) table)) _ (λ _.
-    more (traces table (Some name) _ (place_of_within table_name (table_names h) table there) (among-number queue_name (queues h) queue is) (new, not-sets h queue_name queue is other)) done)))))))
+    more (traces table (Some trigger.name) _ (place_of_within trigger.table (table_names h) table there) (among-number trigger.queue (queues h) queue is) (new, not-sets h trigger.queue queue is other)) done)))))))
 good_queue_form h l now who (Ticker name) =
     good_found h who (queue_number name (queues h)) (NoQueue name) _ (λ q is. good_next_tick h l now who q (among-number name (queues h) q is))
 good_queue_form h l now who (ForceTick name) =
@@ -249,27 +249,27 @@ good_queue_form h l now who (RegisterConsumer name consumer) =
     good_if h who (is_some (((database_of h).queue q).sub consumer)) _ _ done (λ new.
     let all : newest_id ((database_of h).queue q) ≡ id_of (newest_tick (ticks q h)) = ap id_of (newest-kept h l q (among-number name (queues h) q is)) in
     good_registers h who q consumer _ (among-number name (queues h) q is) (no-one _ (subscription_id q consumer h) (nothing _ new)) (omega arith) (omega (arith, all, floor-newest h l q (among-number name (queues h) q is))))))
-good_queue_form h l now who (RegisterConsumerAt name consumer at) =
-    good_found h who (queue_number name (queues h)) (NoQueue name) _ (λ q is.
-    good_test h who (is_nodes (database_of h) name consumer) _ _ (λ _.
-    good_test h who (at == 0 || nat_lt (newest_id ((database_of h).queue q)) at) _ _ (λ within.
-    good_test h who (nat_lt at (floor (queue_of h q))) _ _ (λ low. good_at q is within low (subscription_id q consumer h) refl))))
+good_queue_form h l now who (RegisterConsumerAt to) =
+    good_found h who (queue_number to.queue (queues h)) (NoQueue to.queue) _ (λ q is.
+    good_test h who (is_nodes (database_of h) to.queue to.consumer) _ _ (λ _.
+    good_test h who (to.tick == 0 || nat_lt (newest_id ((database_of h).queue q)) to.tick) _ _ (λ within.
+    good_test h who (nat_lt to.tick (floor (queue_of h q))) _ _ (λ low. good_at q is within low (subscription_id q to.consumer h) refl))))
   where
     stands_as : ℕ → Option ℕ → Option Subscription
-    stands_as q o = option_map (λ id. record { id = id; position = position q consumer h; active = active q consumer h }) o
+    stands_as q o = option_map (λ id. record { id = id; position = position q to.consumer h; active = active q to.consumer h }) o
 
-    good_at : (q : ℕ) → queue_number name (queues h) ≡ Some q → (at == 0 || nat_lt (newest_id ((database_of h).queue q)) at) ≡ false → nat_lt at (floor (queue_of h q)) ≡ false
-        → (o : Option ℕ) → subscription_id q consumer h ≡ o
-        → Good h who (if is_some (((database_of h).queue q).sub consumer) then does_marks (Number 0) (queued (moved q consumer at) ∷ []) else registers_at (database_of h) q consumer at)
+    good_at : (q : ℕ) → queue_number to.queue (queues h) ≡ Some q → (to.tick == 0 || nat_lt (newest_id ((database_of h).queue q)) to.tick) ≡ false → nat_lt to.tick (floor (queue_of h q)) ≡ false
+        → (o : Option ℕ) → subscription_id q to.consumer h ≡ o
+        → Good h who (if is_some (((database_of h).queue q).sub to.consumer) then does_marks (Number 0) (queued (moved q to.consumer to.tick) ∷ []) else registers_at (database_of h) q to.consumer to.tick)
     good_at q is within low (Some sub) stands =
-        let all : newest_id ((database_of h).queue q) ≡ id_of (newest_tick (ticks q h)) = ap id_of (newest-kept h l q (among-number name (queues h) q is)) in
-        good_if h who (is_some (((database_of h).queue q).sub consumer)) _ _
-        (more (moves q consumer sub at (among-number name (queues h) q is) stands (grind (arith, nat_tests, within)) (grind (arith, nat_tests, within, all)) (grind (arith, nat_tests, low))) done)
-        (λ new. good_registers h who q consumer at (among-number name (queues h) q is) (no-one _ (subscription_id q consumer h) (nothing _ new)) (grind (arith, nat_tests, within, all)) (grind (arith, nat_tests, low)))
+        let all : newest_id ((database_of h).queue q) ≡ id_of (newest_tick (ticks q h)) = ap id_of (newest-kept h l q (among-number to.queue (queues h) q is)) in
+        good_if h who (is_some (((database_of h).queue q).sub to.consumer)) _ _
+        (more (moves q to.consumer sub to.tick (among-number to.queue (queues h) q is) stands (grind (arith, nat_tests, within)) (grind (arith, nat_tests, within, all)) (grind (arith, nat_tests, low))) done)
+        (λ new. good_registers h who q to.consumer to.tick (among-number to.queue (queues h) q is) (no-one _ (subscription_id q to.consumer h) (nothing _ new)) (grind (arith, nat_tests, within, all)) (grind (arith, nat_tests, low)))
     good_at q is within low None stands =
-        let all : newest_id ((database_of h).queue q) ≡ id_of (newest_tick (ticks q h)) = ap id_of (newest-kept h l q (among-number name (queues h) q is)) in
-        subst (λ o. Good h who (if is_some (stands_as q o) then does_marks (Number 0) (queued (moved q consumer at) ∷ []) else registers_at (database_of h) q consumer at))
-        (sym stands) (good_registers h who q consumer at (among-number name (queues h) q is) stands (grind (arith, nat_tests, within, all)) (grind (arith, nat_tests, low)))
+        let all : newest_id ((database_of h).queue q) ≡ id_of (newest_tick (ticks q h)) = ap id_of (newest-kept h l q (among-number to.queue (queues h) q is)) in
+        subst (λ o. Good h who (if is_some (stands_as q o) then does_marks (Number 0) (queued (moved q to.consumer to.tick) ∷ []) else registers_at (database_of h) q to.consumer to.tick))
+        (sym stands) (good_registers h who q to.consumer to.tick (among-number to.queue (queues h) q is) stands (grind (arith, nat_tests, within, all)) (grind (arith, nat_tests, low)))
 good_queue_form h l now who (UnregisterConsumer name consumer) =
     good_found h who (queue_number name (queues h)) (NoQueue name) _ (λ q is.
     good_test h who (is_nodes (database_of h) name consumer) _ _ (λ _. good_leaves_queue h who q consumer (subscription_id q consumer h) (among-number name (queues h) q is) refl))
@@ -280,25 +280,25 @@ good_queue_form h l now who (NextBatch name consumer) =
     good_takes_batch h l who q consumer sub sub.active (among-number name (queues h) q is) stands)))
 good_queue_form h l now who (GetBatchEvents batch) = good_found h who ((shown_in h).events batch) _ _ (λ b _. done)
 good_queue_form h l now who (GetBatchInfo batch) = good_found h who (active_batch batch h) _ _ (λ b _. done)
-good_queue_form h l now who (EventRetry id event seconds) =
-    good_found h who ((shown_in h).events id) NoBatch _ (λ es listed.
-    good_found h who (active_batch id h) NoBatch _ (λ b active.
+good_queue_form h l now who (EventRetry again) =
+    good_found h who ((shown_in h).events again.batch) NoBatch _ (λ es listed.
+    good_found h who (active_batch again.batch h) NoBatch _ (λ b active.
     good_test h who (is_nodes_batch (database_of h) b) NodeConsumer _ (λ _.
-    good_found h who (find (λ e. e.ev_id == event) es) NoEvent _ (λ e found.
+    good_found h who (find (λ e. e.ev_id == again.event) es) NoEvent _ (λ e found.
     good_if h who (is_asked b.sub e.ev_id (retries h)) _ _ done (λ fresh.
-    let a : IsActive h id b = active_batches h l id b active in
-    let is : find (λ e. e.ev_id == event) (batch_events h b) ≡ Some e =
-    subst (λ xs. find (λ e. e.ev_id == event) xs ≡ Some e) (sym (ap (λ o. unwrap_or o []) (ap (option_map (batch_events h)) (sym active) ∙ listed))) found in
-    more (asks b.consumer e (retry_of now seconds b e) (record {
+    let a : IsActive h again.batch b = active_batches h l again.batch b active in
+    let is : find (λ e. e.ev_id == again.event) (batch_events h b) ≡ Some e =
+    subst (λ xs. find (λ e. e.ev_id == again.event) xs ≡ Some e) (sym (ap (λ o. unwrap_or o []) (ap (option_map (batch_events h)) (sym active) ∙ listed))) found in
+    more (asks b.consumer e (retry_of now again.seconds b e) (record {
       registered = a.owned;
-      stored = listed_is_stored h b e event is;
+      stored = listed_is_stored h b e again.event is;
       copied = refl;
       listed = record {
         batch = b;
         active = subst (λ i. active_batch i h ≡ Some b) (sym a.named) active;
         of_queue = refl;
         of_subscription = refl;
-        listed = found_is_listed (batch_events h b) (λ e. e.ev_id == event) e is;
+        listed = found_is_listed (batch_events h b) (λ e. e.ev_id == again.event) e is;
       };
       fresh = fresh;
     })) done)))))

@@ -219,11 +219,11 @@ pub node-ready : (h : History) (call : NodeCall) → ready (part_of (marked h (m
 node-ready h call = ready-alike h (marks_of (node_does (database_of h) call)) (each-given AnyReply is_for_nodes (node_does (database_of h) call) (gives-node (database_of h) call))
 
 -- no retry comes back by them
-none-back : (marks : List Mark) → EachMark is_for_nodes marks → All (IsBackAt None) marks
-none-back [] all = All-nil (IsBackAt None)
-none-back (queued mark ∷ marks) all = All-cons (IsBackAt None) (queued mark) marks (of mark all) (none-back marks (each-rest is_for_nodes (queued mark) marks all))
+none-back : (at : Option ℤ) (marks : List Mark) → EachMark is_for_nodes marks → All (IsBackAt at) marks
+none-back at [] all = All-nil (IsBackAt at)
+none-back at (queued mark ∷ marks) all = All-cons (IsBackAt at) (queued mark) marks (of mark all) (none-back at marks (each-rest is_for_nodes (queued mark) marks all))
   where
-    of : (m : _) → EachMark is_for_nodes (queued m ∷ marks) → IsBackAt None (queued m)
+    of : (m : _) → EachMark is_for_nodes (queued m ∷ marks) → IsBackAt at (queued m)
     of (registered q name sub tick) each = tt
     of (unregistered q name sub) each = tt
     of (opened batch) each = tt
@@ -232,18 +232,18 @@ none-back (queued mark ∷ marks) all = All-cons (IsBackAt None) (queued mark) m
     of (untraced table) each = tt
     of (made name t time) each = tt
     of _ each = absurd each
-none-back (tabled (read_only table on) ∷ marks) all = All-cons (IsBackAt None) (tabled (read_only table on)) marks tt (none-back marks all)
-none-back (noded mark ∷ marks) all = All-cons (IsBackAt None) (noded mark) marks tt (none-back marks all)
-none-back (began (of_copy table) t ∷ marks) all = All-cons (IsBackAt None) (began (of_copy table) t) marks tt (none-back marks all)
-none-back (ended (of_copy table) t committed ∷ marks) all = All-cons (IsBackAt None) (ended (of_copy table) t committed) marks tt (none-back marks all)
-none-back (tabled (wrote (of_copy n) t table key old new) ∷ marks) all = All-cons (IsBackAt None) (tabled (wrote (of_copy n) t table key old new)) marks tt (none-back marks all)
-none-back (began of_worker t ∷ marks) all = All-cons (IsBackAt None) (began of_worker t) marks tt (none-back marks all)
-none-back (ended of_worker t committed ∷ marks) all = All-cons (IsBackAt None) (ended of_worker t committed) marks tt (none-back marks all)
-none-back (tabled (wrote of_worker t table key old new) ∷ marks) all = All-cons (IsBackAt None) (tabled (wrote of_worker t table key old new)) marks tt (none-back marks all)
-none-back (_ ∷ marks) all = absurd all
+none-back at (tabled (read_only table on) ∷ marks) all = All-cons (IsBackAt at) (tabled (read_only table on)) marks tt (none-back at marks all)
+none-back at (noded mark ∷ marks) all = All-cons (IsBackAt at) (noded mark) marks tt (none-back at marks all)
+none-back at (began (of_copy table) t ∷ marks) all = All-cons (IsBackAt at) (began (of_copy table) t) marks tt (none-back at marks all)
+none-back at (ended (of_copy table) t committed ∷ marks) all = All-cons (IsBackAt at) (ended (of_copy table) t committed) marks tt (none-back at marks all)
+none-back at (tabled (wrote (of_copy n) t table key old new) ∷ marks) all = All-cons (IsBackAt at) (tabled (wrote (of_copy n) t table key old new)) marks tt (none-back at marks all)
+none-back at (began of_worker t ∷ marks) all = All-cons (IsBackAt at) (began of_worker t) marks tt (none-back at marks all)
+none-back at (ended of_worker t committed ∷ marks) all = All-cons (IsBackAt at) (ended of_worker t committed) marks tt (none-back at marks all)
+none-back at (tabled (wrote of_worker t table key old new) ∷ marks) all = All-cons (IsBackAt at) (tabled (wrote of_worker t table key old new)) marks tt (none-back at marks all)
+none-back at (_ ∷ marks) all = absurd all
 
-pub node-back : (d : Database) (call : NodeCall) → All (IsBackAt None) (marks_of (node_does d call))
-node-back d call = none-back (marks_of (node_does d call)) (each-given AnyReply is_for_nodes (node_does d call) (gives-node d call))
+pub node-back : (at : Option ℤ) (d : Database) (call : NodeCall) → All (IsBackAt at) (marks_of (node_does d call))
+node-back at d call = none-back at (marks_of (node_does d call)) (each-given AnyReply is_for_nodes (node_does d call) (gives-node d call))
 
 -- ---- they may come
 

@@ -27,7 +27,7 @@ use Rattle.sky_model.specs.StepNode.{set_queue, set_trigger, lists, adds, moves_
 use Rattle.sky_model.specs.Reader.{Shown, shown_in, database_by_history, within_part}
 use Rattle.sky_model.specs.Settling.{Turn, turn_of, behind_marks, marked, settling, with_settling}
 use Rattle.sky_model.specs.Calls.{form, making, statement}
-use Rattle.sky_model.specs.Permits.{Leaves, of_any, of_resumed, may_leave, permit_of}
+use Rattle.sky_model.specs.Permits.{MarkKinds, of_any, of_resumed, may_leave, permit_of}
 use Rattle.sky_model.specs.SessionMarks.{look_of, entry_place, enters, failing}
 use Rattle.sky_model.specs.DatabaseCalls.{DatabaseCall, stepped, entered, failed, worked, served, database_does}
 use Rattle.sky_model.specs.LawsOfNodes.{is_at, is_one_of, triggers_into}
@@ -381,7 +381,7 @@ stands-node h l s call chain =
 
 -- ---- other calls
 
-single-if : (k : Leaves) (s : Session) (who : ℕ) (mark : Mark) → may_leave k s who mark ≡ true → is_single mark ≡ true
+single-if : (k : MarkKinds) (s : Session) (who : ℕ) (mark : Mark) → may_leave k s who mark ≡ true → is_single mark ≡ true
 single-if k s who (queued (traced table name trigger)) e = (and_parts (is_some name) k.traces e).0
 single-if k s who (queued (untraced table)) e = e
 single-if k s who (tabled (read_only table on)) e = e
@@ -403,7 +403,7 @@ single-told _ e = refl
 
 single-form : (d : Database) (shown : Shown) (now : ℤ) (who : ℕ) (stmt : DbStmt) → Gives AnyReply is_single (form d shown now who stmt)
 single-form d shown now who stmt =
-    let k : Leaves = (permit_of stmt).leaves in
+    let k : MarkKinds = (permit_of stmt).kinds in
     gives-map AnyReply AnyReply (may_leave k (d.part.session who) who) is_single (λ reply any. any) (single-if k (d.part.session who) who) _ (gives-form who d shown now stmt)
 
 single-statement : (h : History) (now : ℤ) (who : ℕ) (stmt : DbStmt) → EachMark is_single (statement database_by_history h now who stmt).marks

@@ -16,24 +16,24 @@ use Rattle.sky_model.specs.Gates.{Gate, by_gate}
 use Rattle.sky_model.specs.Settling.{Turn, rests, behind_marks, with_rest, and_then, ready, attempted, resumed, goes_on, settles, settling}
 use Rattle.sky_model.specs.Printed.{ReplyHasMoments}
 use Rattle.sky_model.specs.Sessions.{Session}
-use Rattle.sky_model.specs.Permits.{Leaves, of_any, of_rows, attempt_leaves, may_leave}
+use Rattle.sky_model.specs.Permits.{MarkKinds, of_any, of_rows, attempt_leaves, may_leave}
 use Rattle.sky_histories.proofs.StatementMarks.{EachMark, Gives, gives-map, gives-attempts, gives-gated, given-settled}
 use Rattle.sky_model.proofs.Cases.{by_test}
 
-abbrev pub is_quiet : Mark → Bool
-is_quiet (tabled (waits_mark who table key attempt)) = false
-is_quiet (tabled (waited who)) = false
-is_quiet _ = true
+abbrev pub keeps_waiters : Mark → Bool
+keeps_waiters (tabled (waits_mark who table key attempt)) = false
+keeps_waiters (tabled (waited who)) = false
+keeps_waiters _ = true
 
 -- none of the marks begins or ends a wait
 abbrev pub NoWaits : List Mark → Type 0
-NoWaits marks = EachMark is_quiet marks
+NoWaits marks = EachMark keeps_waiters marks
 
 -- nor does what a statement on rows does, if it isn't refused
 abbrev pub Quiet : Checked Outcome → Type 0
-Quiet c = Gives ReplyHasMoments is_quiet c
+Quiet c = Gives ReplyHasMoments keeps_waiters c
 
-quiet-if : (k : Leaves) → k.waits_for ≡ false → k.wakes ≡ false → (s : Session) (who : ℕ) (mark : Mark) → may_leave k s who mark ≡ true → is_quiet mark ≡ true
+quiet-if : (k : MarkKinds) → k.waits_for ≡ false → k.wakes ≡ false → (s : Session) (who : ℕ) (mark : Mark) → may_leave k s who mark ≡ true → keeps_waiters mark ≡ true
 quiet-if k none still s who (tabled (waits_mark v table key attempt)) e = absurd (cc (sym (ap (λ b. b && v == who) none) ∙ e))
 quiet-if k none still s who (tabled (waited v)) e = absurd (cc)
 quiet-if k none still s who _ e = refl
@@ -42,8 +42,8 @@ quiet-if k none still s who _ e = refl
 attempts-quiet : (d : RowPart) (shown : KeyShown) (who table : ℕ) (key : List Val) (attempt : Attempt) → other_holder d.holder who table key ≡ None
     → Quiet (attempts d shown who table key attempt)
 attempts-quiet d shown who table key attempt free =
-    let k : Leaves = of_rows (attempt_leaves (is_some (other_holder d.holder who table key))) in
-    gives-map ReplyHasMoments ReplyHasMoments (may_leave k (d.session who) who) is_quiet (λ reply has. has) (quiet-if k (ap is_some free) refl (d.session who) who) _ (gives-attempts who d shown table key attempt)
+    let k : MarkKinds = of_rows (attempt_leaves (is_some (other_holder d.holder who table key))) in
+    gives-map ReplyHasMoments ReplyHasMoments (may_leave k (d.session who) who) keeps_waiters (λ reply has. has) (quiet-if k (ap is_some free) refl (d.session who) who) _ (gives-attempts who d shown table key attempt)
 
 waiting-quiet : (d : RowPart) (marks : List Mark) → NoWaits marks → (behind_marks part_by_itself d marks).waiting ≡ d.waiting
 waiting-quiet d [] quiet = refl
@@ -82,7 +82,7 @@ itself-keeps = record { part = λ d mark. refl; quiet = λ d c quiet. quiet }
 
 -- and still does with a gate
 pub by_gate-keeps : {G P : Type 0} (gate : Gate G) (r : PartReader P) → KeepsPart r → KeepsPart (by_gate gate r)
-by_gate-keeps gate r keeps = record { part = λ p mark. keeps.part p.0 mark; quiet = λ p c quiet. gives-gated ReplyHasMoments is_quiet gate p.1 (r.tells p.0 c) (keeps.quiet p.0 c quiet) }
+by_gate-keeps gate r keeps = record { part = λ p mark. keeps.part p.0 mark; quiet = λ p c quiet. gives-gated ReplyHasMoments keeps_waiters gate p.1 (r.tells p.0 c) (keeps.quiet p.0 c quiet) }
 
 pub gated-keeps : {G : Type 0} (gate : Gate G) → KeepsPart (by_gate gate part_by_itself)
 gated-keeps gate = by_gate-keeps gate part_by_itself itself-keeps
@@ -98,7 +98,7 @@ pub waiting-resumed : {P : Type 0} (r : PartReader P) → KeepsPart r → (p : P
 waiting-resumed {P = P} r keeps p w e =
     ap RowPart.waiting (part-behind_marks r keeps behind (attempted r w ((r.part p).attempt w.who) behind).marks)
     ∙ waiting-quiet (r.part behind) (attempted r w ((r.part p).attempt w.who) behind).marks
-    (given-settled ReplyHasMoments is_quiet (λ _. tt) (quiet-if of_any refl refl) w.who ((r.part behind).session w.who) (r.tells behind tried)
+    (given-settled ReplyHasMoments keeps_waiters (λ _. tt) (quiet-if of_any refl refl) w.who ((r.part behind).session w.who) (r.tells behind tried)
     (keeps.quiet behind tried (attempts-quiet (r.part behind) ((r.rows behind).key w.who w.table w.key) w.who w.table w.key ((r.part p).attempt w.who) free))).1
     ∙ ap RowPart.waiting gone
   where

@@ -18,7 +18,7 @@ use Rattle.sky_model.specs.Gates.{Gate, by_gate}
 use Rattle.sky_model.specs.Settling.{Turn, turn_of, settling}
 use Rattle.sky_model.specs.SessionMarks.{failure}
 use Rattle.sky_model.specs.Calls.{row_form, row_making, row_statement, row_turn}
-use Rattle.sky_model.specs.Permits.{Leaves, of_any, of_rows, attempt_leaves, of_resumed, may_leave, permit_of_row}
+use Rattle.sky_model.specs.Permits.{MarkKinds, of_any, of_rows, attempt_leaves, of_resumed, may_leave, permit_of_row}
 use Rattle.sky_histories.proofs.StatementMarks.{EachMark, Gives, gives-map, no-queued, gives-attempt, gives-row_form, gives-gated, each-abort, each-failure, given-runs, KeepsMarks, TurnGives, turn_of-gives, then-gives, settling-gives}
 
 abbrev pub is_of_rows : Mark → Bool
@@ -42,7 +42,7 @@ OfRows c = Gives ReplyHasMoments is_of_rows c
 abbrev pub TurnOfRows : Turn → Type 0
 TurnOfRows turn = TurnGives is_of_rows turn
 
-rows-if : (k : Leaves) (s : Session) (who : ℕ) (mark : Mark) → may_leave (of_rows k) s who mark ≡ true → is_of_rows mark ≡ true
+rows-if : (k : MarkKinds) (s : Session) (who : ℕ) (mark : Mark) → may_leave (of_rows k) s who mark ≡ true → is_of_rows mark ≡ true
 rows-if k s who (queued mark) e = absurd (no-queued k s who mark e)
 rows-if k s who (noded mark) e = absurd (cc)
 rows-if k s who (tabled (read_only table on)) e = absurd (cc)
@@ -67,7 +67,7 @@ failure-rows who o b = each-failure ReplyHasMoments is_of_rows (λ _. tt) (rows-
 -- a statement on rows
 pub form-rows : (d : RowPart) (shown : RowsShown) (who : ℕ) (stmt : RowStmt) → OfRows (row_form d shown who stmt)
 form-rows d shown who stmt =
-    let k : Leaves = (permit_of_row stmt).leaves in
+    let k : MarkKinds = (permit_of_row stmt).kinds in
     gives-map ReplyHasMoments ReplyHasMoments (may_leave (of_rows k) (d.session who) who) is_of_rows (λ reply has. has) (rows-if k (d.session who) who) _ (gives-row_form who d shown stmt)
 
 -- a place whose statements on rows do so still when their writes are refused if there is no room for them: a row part

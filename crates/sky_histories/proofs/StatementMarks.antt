@@ -13,7 +13,7 @@ use Rattle.sky_model.specs.declared.stmt.DbStmt.{DbStmt}
 use Rattle.sky_model.specs.declared.stmt.DbStmt.TheVariants.{Row, Queue}
 use Rattle.sky_model.specs.declared.stmt.QueueStmt.{QueueStmt}
 use Rattle.sky_model.specs.declared.stmt.QueueStmt.TheVariants.{CreateQueue, DropQueue, SetQueueConfig, QueueInfo, InsertEvent, AddTrigger, Ticker, ForceTick, RegisterConsumer, RegisterConsumerAt, UnregisterConsumer, NextBatch, GetBatchEvents, GetBatchInfo, EventRetry, FinishBatch, MaintRetryEvents, MaintRotateStep1, MaintRotateStep2, ConsumerInfo}
-use Rattle.sky_model.specs.Permits.{Leaves, of_any, of_rows, attempt_leaves, of_resumed, is_outside, may_put, may_leave, permit_of_row, permit_of_queue, permit_of}
+use Rattle.sky_model.specs.Permits.{MarkKinds, of_any, of_rows, attempt_leaves, of_resumed, may_put, may_leave, permit_of_row, permit_of_queue, permit_of}
 use Rattle.sky_model.specs.declared.stmt.Where.{Where}
 use Rattle.sky_model.specs.declared.reply.Reply.{Reply}
 use Rattle.sky_model.specs.declared.reply.Reply.TheVariants.{Refused}
@@ -24,7 +24,7 @@ use Rattle.sky_model.specs.declared.reply.HeldBack.{HeldBack}
 use Rattle.sky_model.specs.Queues.{NamedQueue, Tick, tick, is_pending}
 use Rattle.sky_model.specs.StepRotation.{held_back, switch_of, rotates, second_steps, lack_second_step, ends_switches, switches_by, switches_of, committed_by}
 use Rattle.sky_model.specs.Consumers.{Subscription}
-use Rattle.sky_model.specs.Sessions.{Block, outside, inside, failed, Session, session}
+use Rattle.sky_model.specs.Sessions.{Block, outside, inside, failed, Session, session, is_outside}
 use Rattle.sky_model.specs.State.{RowPart, Database, after_mark, after_marks}
 use Rattle.sky_model.specs.ShownRows.{KeyShown, RowsShown}
 use Rattle.sky_model.specs.Outcome.{Outcome, Checked, marks_of, ◌>>=◌, ◌>>◌, refused_if, does_marks, after_marks_of, end_of, aborts, abort, or_refused}
@@ -165,7 +165,7 @@ is_second (second_step q t) = true
 is_second _ = false
 
 -- with more kinds there may be more marks
-pub told-left : (k : Leaves) → k.raises ≡ true → k.puts ≡ true → (s : Session) (who : ℕ) (mark : QueueMark) → is_told mark ≡ true → may_leave k s who (queued mark) ≡ true
+pub told-left : (k : MarkKinds) → k.raises ≡ true → k.puts ≡ true → (s : Session) (who : ℕ) (mark : QueueMark) → is_told mark ≡ true → may_leave k s who (queued mark) ≡ true
 told-left k raises puts s who (raised q value) e = raises
 told-left k raises puts s who (put q event) e = of event.ev_owner e
   where
@@ -174,12 +174,12 @@ told-left k raises puts s who (put q event) e = of event.ev_owner e
     of (Some sub) e = absurd (cc)
 told-left k raises puts s who _ e = absurd (cc)
 
-switch-left : (k : Leaves) → k.switches ≡ true → (s : Session) (who : ℕ) (mark : QueueMark) → is_switch mark ≡ true → may_leave k s who (queued mark) ≡ true
-switch-left k switches s who (switched q time) e = switches
-switch-left k switches s who _ e = absurd (cc)
+switch-left : (k : MarkKinds) → k.switches ≡ true → k.commits ≡ true → (s : Session) (who : ℕ) (mark : QueueMark) → is_switch mark ≡ true → may_leave k s who (queued mark) ≡ true
+switch-left k switches commits s who (switched q time) e = ap (λ b. b && (k.commits || is_outside s.block)) switches ∙ ap (λ b. b || is_outside s.block) commits
+switch-left k switches commits s who _ e = absurd (cc)
 
 -- kinds that aren't of queues have no mark of one
-pub no-queued : (k : Leaves) (s : Session) (who : ℕ) (mark : QueueMark) → may_leave (of_rows k) s who (queued mark) ≡ true → ⊥
+pub no-queued : (k : MarkKinds) (s : Session) (who : ℕ) (mark : QueueMark) → may_leave (of_rows k) s who (queued mark) ≡ true → ⊥
 no-queued k s who (put q event) e = of event.ev_owner e
   where
     of : (o : Option ℕ) → may_put (of_rows k) o ≡ true → ⊥
@@ -193,11 +193,11 @@ no-queued k s who _ e = cc
 own-when : (b : Bool) (who : ℕ) → b ≡ true → When (b && who == who) (Unit {0})
 own-when b who e = subst (λ x. When (x && who == who) (Unit {0})) (sym e) (subst (λ x. When x (Unit {0})) (sym (same-session who)) tt)
 
-left-commit : (k : Leaves) → k.takes_id ≡ true → (who t : ℕ) (s : Session) → EachMark (may_leave k s who) (commit_of who t s.block)
+left-commit : (k : MarkKinds) → k.takes_id ≡ true → (who t : ℕ) (s : Session) → EachMark (may_leave k s who) (commit_of who t s.block)
 left-commit k takes who t s =
     by_block (λ b. EachMark (may_leave k (record s { block = b }) who) (commit_of who t b)) (own-when (k.takes_id && true || k.commits) who (ap (λ b. b && true || k.commits) takes)) tt tt s.block
 
-left-written : (k : Leaves) → k.takes_id ≡ true → (who t : ℕ) (s : Session) (marks : List Mark) → EachMark (may_leave k s who) marks → EachMark (may_leave k s who) (in_own who t s marks)
+left-written : (k : MarkKinds) → k.takes_id ≡ true → (who t : ℕ) (s : Session) (marks : List Mark) → EachMark (may_leave k s who) marks → EachMark (may_leave k s who) (in_own who t s marks)
 left-written k takes who t s marks all = of s.txid (each-append (may_leave k s who) marks (commit_of who t s.block) all (left-commit k takes who t s))
   where
     of : (o : Option ℕ) → EachMark (may_leave k s who) (marks ++ commit_of who t s.block) → EachMark (may_leave k s who) (begin_of who t o ++ marks ++ commit_of who t s.block)
@@ -205,7 +205,7 @@ left-written k takes who t s marks all = of s.txid (each-append (may_leave k s w
     of (Some own) all = all
 
 -- a block that ends
-left-committed : (k : Leaves) → k.commits ≡ true → k.ends ≡ true → (s : Session) (who : ℕ) (txid : Option ℕ) → EachMark (may_leave k s who) (leaves true who txid)
+left-committed : (k : MarkKinds) → k.commits ≡ true → k.ends ≡ true → (s : Session) (who : ℕ) (txid : Option ℕ) → EachMark (may_leave k s who) (leaves true who txid)
 left-committed k commits ends s who None = subst (λ b. When b (Unit {0})) (sym ends) tt
 left-committed k commits ends s who (Some t) =
     each-front (may_leave k s who) (ended (of_session who) t true) (block_ended who ∷ [])
@@ -216,29 +216,29 @@ left-committed k commits ends s who (Some t) =
     or-true true = refl
     or-true false = refl
 
-left-rolled_back : (k : Leaves) → k.rolls_back ≡ true → k.ends ≡ true → (s : Session) (who : ℕ) (txid : Option ℕ) → EachMark (may_leave k s who) (leaves false who txid)
+left-rolled_back : (k : MarkKinds) → k.rolls_back ≡ true → k.ends ≡ true → (s : Session) (who : ℕ) (txid : Option ℕ) → EachMark (may_leave k s who) (leaves false who txid)
 left-rolled_back k rolls ends s who None = subst (λ b. When b (Unit {0})) (sym ends) tt
 left-rolled_back k rolls ends s who (Some t) =
     each-front (may_leave k s who) (ended (of_session who) t false) (block_ended who ∷ []) rolls (subst (λ b. When b (Unit {0})) (sym ends) tt)
 
-left-abort : (k : Leaves) → k.rolls_back ≡ true → k.cancels ≡ true → (s : Session) (who : ℕ) (b : Block) (txid : Option ℕ) (refusal : Refusal) → EachMark (may_leave k s who) (abort who b txid refusal)
-left-abort k rolls cancels s who outside txid refusal = tt
-left-abort k rolls cancels s who inside txid refusal = by (aborts refusal) txid
+left-abort : (k : MarkKinds) → k.rolls_back ≡ true → k.aborts ≡ true → (s : Session) (who : ℕ) (b : Block) (txid : Option ℕ) (refusal : Refusal) → EachMark (may_leave k s who) (abort who b txid refusal)
+left-abort k rolls fails s who outside txid refusal = tt
+left-abort k rolls fails s who inside txid refusal = by (aborts refusal) txid
   where
     last : EachMark (may_leave k s who) (block_failed who ∷ [])
-    last = subst (λ b. When b (Unit {0})) (sym cancels) tt
+    last = subst (λ b. When b (Unit {0})) (sym fails) tt
 
     by : (kind : Bool) (o : Option ℕ) → EachMark (may_leave k s who) (if kind then end_of false who o ++ block_failed who ∷ [] else [])
     by true None = last
     by true (Some t) = each-front (may_leave k s who) (ended (of_session who) t false) (block_failed who ∷ []) rolls last
     by false o = tt
-left-abort k rolls cancels s who failed txid refusal = tt
+left-abort k rolls fails s who failed txid refusal = tt
 
 -- ---- statements on rows
 
 module _ (who : ℕ) where
   -- a statement of a session in a state may leave such marks, and no event is its answer
-  abbrev RowGives : Leaves → Session → Checked Outcome → Type 0
+  abbrev RowGives : MarkKinds → Session → Checked Outcome → Type 0
   RowGives k s c = Gives ReplyHasMoments (may_leave k s who) c
 
   gives-writes : (held : Bool) (d : RowPart) (table : ℕ) (key : List Val) (old new : Option (List Val))
@@ -279,32 +279,32 @@ module _ (who : ℕ) where
       also false (tabled (waits v n at attempt)) e = absurd (cc)
       also false mark e = e
 
-  gives-row_or_none : (k : Leaves) (s : Session) (row : Option (List Val)) → RowGives k s (row_or_none row)
+  gives-row_or_none : (k : MarkKinds) (s : Session) (row : Option (List Val)) → RowGives k s (row_or_none row)
   gives-row_or_none k s None = (tt, tt)
   gives-row_or_none k s (Some row) = (tt, tt)
 
-  gives-close : (s : Session) (txid : Option ℕ) (b : Block) → RowGives (of_rows (permit_of_row Close).leaves) s (close who txid b)
+  gives-close : (s : Session) (txid : Option ℕ) (b : Block) → RowGives (of_rows (permit_of_row Close).kinds) s (close who txid b)
   gives-close s txid outside = (tt, tt)
   gives-close s None _ = (tt, tt)
   gives-close s (Some t) _ = (tt, tt)
 
   -- a statement on rows
-  pub gives-row_form : (d : RowPart) (shown : RowsShown) (stmt : RowStmt) → RowGives (of_rows (permit_of_row stmt).leaves) (d.session who) (row_form d shown who stmt)
+  pub gives-row_form : (d : RowPart) (shown : RowsShown) (stmt : RowStmt) → RowGives (of_rows (permit_of_row stmt).kinds) (d.session who) (row_form d shown who stmt)
   gives-row_form d shown (OpenDb name) =
-      by_test (λ b. RowGives (of_rows (permit_of_row (OpenDb name)).leaves) (record (d.session who) { is_open = b }) (open_db who b)) (d.session who).is_open (λ _. tt) (λ _. (tt, tt))
+      by_test (λ b. RowGives (of_rows (permit_of_row (OpenDb name)).kinds) (record (d.session who) { is_open = b }) (open_db who b)) (d.session who).is_open (λ _. tt) (λ _. (tt, tt))
   gives-row_form d shown Close = gives-close (d.session who) (d.session who).txid (d.session who).block
   gives-row_form d shown Cancel =
-      by_test (λ b. RowGives (of_rows (permit_of_row Cancel).leaves) (d.session who) (cancel who (d.session who).txid (d.session who).block b)) (is_waiting who d.waiting)
-      (λ _. (tt, left-abort (of_rows (permit_of_row Cancel).leaves) refl refl (d.session who) who (d.session who).block (d.session who).txid Canceled)) (λ _. (tt, tt))
-  gives-row_form d shown Begin = by_block (λ b. RowGives (of_rows (permit_of_row Begin).leaves) (d.session who) (begin who b)) (tt, tt) (tt, tt) (tt, tt) (d.session who).block
+      by_test (λ b. RowGives (of_rows (permit_of_row Cancel).kinds) (d.session who) (cancel who (d.session who).txid (d.session who).block b)) (is_waiting who d.waiting)
+      (λ _. (tt, left-abort (of_rows (permit_of_row Cancel).kinds) refl refl (d.session who) who (d.session who).block (d.session who).txid Canceled)) (λ _. (tt, tt))
+  gives-row_form d shown Begin = by_block (λ b. RowGives (of_rows (permit_of_row Begin).kinds) (record (d.session who) { block = b }) (begin who b)) (tt, tt) (tt, tt) (tt, tt) (d.session who).block
   gives-row_form d shown BeginRepeatableRead =
-      by_block (λ b. RowGives (of_rows (permit_of_row BeginRepeatableRead).leaves) (d.session who) (begin_repeatable_read who b)) (tt, tt) (tt, tt) (tt, tt) (d.session who).block
+      by_block (λ b. RowGives (of_rows (permit_of_row BeginRepeatableRead).kinds) (record (d.session who) { block = b }) (begin_repeatable_read who b)) (tt, tt) (tt, tt) (tt, tt) (d.session who).block
   gives-row_form d shown Commit =
-      let k : Leaves = of_rows (permit_of_row Commit).leaves in
+      let k : MarkKinds = of_rows (permit_of_row Commit).kinds in
       by_block (λ b. RowGives k (d.session who) (commit who (d.session who).txid b)) (tt, tt) (tt, left-committed k refl refl (d.session who) who (d.session who).txid)
       (tt, left-rolled_back k refl refl (d.session who) who (d.session who).txid) (d.session who).block
   gives-row_form d shown Rollback =
-      let k : Leaves = of_rows (permit_of_row Rollback).leaves in
+      let k : MarkKinds = of_rows (permit_of_row Rollback).kinds in
       let left : EachMark (may_leave k (d.session who) who) (leaves false who (d.session who).txid) = left-rolled_back k refl refl (d.session who) who (d.session who).txid in
       by_block (λ b. RowGives k (d.session who) (rollback who (d.session who).txid b)) (tt, tt) (tt, left) (tt, left) (d.session who).block
   gives-row_form d shown TxidCurrent = search (checked, left-written)
@@ -432,14 +432,14 @@ module _ (p : Mark → Bool) (of_queues : (mark : QueueMark) → is_switch mark 
 
 -- a statement on rows, once its writes are recorded, gives what its permit says
 module _ (who : ℕ) (stmt : RowStmt) where
-  abbrev row_leaves : Leaves
-  row_leaves = (permit_of_row stmt).leaves
+  abbrev row_leaves : MarkKinds
+  row_leaves = (permit_of_row stmt).kinds
 
   recorded : (s : Session) (mark : Mark) → is_write mark ≡ true → may_leave row_leaves s who mark ≡ true → (event : QueueMark) → is_told event ≡ true → may_leave row_leaves s who (queued event) ≡ true
   recorded s (tabled (wrote (of_session v) t table key old new)) written may =
       let both = records stmt may in told-left row_leaves both.0 both.1 s who
     where
-      records : (r : RowStmt) → (permit_of_row r).leaves.writes ≡ true → ((permit_of_row r).leaves.raises ≡ true) × ((permit_of_row r).leaves.puts ≡ true)
+      records : (r : RowStmt) → (permit_of_row r).kinds.writes ≡ true → ((permit_of_row r).kinds.raises ≡ true) × ((permit_of_row r).kinds.puts ≡ true)
       records (Insert table row) e = (refl, refl)
       records (Update table key sets) e = (refl, refl)
       records (Delete table key) e = (refl, refl)
@@ -458,12 +458,12 @@ module _ (who : ℕ) (stmt : RowStmt) where
       gives-switches _ (gives-told (may_leave row_leaves s who) (recorded s) AnyReply d now _
       (gives-map ReplyHasMoments AnyReply (may_leave (of_rows row_leaves) s who) (may_leave row_leaves s who) (λ reply has. tt) (rows-too s) _ (gives-row_form who d.part shown.rows stmt)))
     where
-      first : (r : RowStmt) → EachMark (may_leave (permit_of_row r).leaves (d.part.session who) who) (switches_first d now who r)
+      first : (r : RowStmt) → EachMark (may_leave (permit_of_row r).kinds (d.part.session who) who) (switches_first d now who r)
       first r =
-          by_commit (λ r. EachMark (may_leave (permit_of_row r).leaves (d.part.session who) who) (switches_first d now who r))
-          (each-switches_of (may_leave (permit_of_row Commit).leaves (d.part.session who) who) (switch-left (permit_of_row Commit).leaves refl (d.part.session who) who) d now
+          by_commit (λ r. EachMark (may_leave (permit_of_row r).kinds (d.part.session who) who) (switches_first d now who r))
+          (each-switches_of (may_leave (permit_of_row Commit).kinds (d.part.session who) who) (switch-left (permit_of_row Commit).kinds refl refl (d.part.session who) who) d now
           (committed_by (d.part.session who).block (d.part.session who).txid))
-          (λ r none. subst (EachMark (may_leave (permit_of_row r).leaves (d.part.session who) who)) (sym (none d now who)) tt) r
+          (λ r none. subst (EachMark (may_leave (permit_of_row r).kinds (d.part.session who) who)) (sym (none d now who)) tt) r
 
       gives-switches : (c : Checked Outcome) → Gives AnyReply (may_leave row_leaves (d.part.session who) who) c
           → Gives AnyReply (may_leave row_leaves (d.part.session who) who) (after_marks_of (switches_first d now who stmt) c)
@@ -491,18 +491,17 @@ each-second_steps p of_queues t (q ∷ queues) = each-front p (queued (second_st
 module _ (who : ℕ) where
   -- a statement on queues of a session in a state gives what its permit says
   abbrev QueueGives : QueueStmt → Session → Checked Outcome → Type 0
-  QueueGives stmt s c = Gives AnyReply (may_leave (permit_of_queue stmt).leaves s who) c
+  QueueGives stmt s c = Gives AnyReply (may_leave (permit_of_queue stmt).kinds s who) c
 
-  rotation-left : (name : List ℕ) (s : Session) (mark : QueueMark) → is_rotation mark ≡ true → may_leave (permit_of_queue (MaintRotateStep1 name)).leaves s who (queued mark) ≡ true
-  rotation-left name s (switching q t) e = refl
-  rotation-left name s (switched q time) e = refl
-  rotation-left name s _ e = absurd (cc)
+  rotation-left : (name : List ℕ) (s : Session) (q t : ℕ) (now : ℤ) → EachMark (may_leave (permit_of_queue (MaintRotateStep1 name)).kinds s who) (switch_of q t now s.block)
+  rotation-left name s q t now =
+      by_block (λ b. EachMark (may_leave (permit_of_queue (MaintRotateStep1 name)).kinds (record s { block = b }) who) (switch_of q t now b)) tt tt tt s.block
 
-  second-left : (s : Session) (mark : QueueMark) → is_second mark ≡ true → may_leave (permit_of_queue MaintRotateStep2).leaves s who (queued mark) ≡ true
+  second-left : (s : Session) (mark : QueueMark) → is_second mark ≡ true → may_leave (permit_of_queue MaintRotateStep2).kinds s who (queued mark) ≡ true
   second-left s (second_step q t) e = refl
   second-left s _ e = absurd (cc)
 
-  tick-left : (name : List ℕ) (s : Session) (mark : QueueMark) → is_tick mark ≡ true → may_leave (permit_of_queue (Ticker name)).leaves s who (queued mark) ≡ true
+  tick-left : (name : List ℕ) (s : Session) (mark : QueueMark) → is_tick mark ≡ true → may_leave (permit_of_queue (Ticker name)).kinds s who (queued mark) ≡ true
   tick-left name s (ticked q id time seq) e = refl
   tick-left name s _ e = absurd (cc)
 
@@ -518,29 +517,29 @@ module _ (who : ℕ) where
   gives-leaves name consumer s q None = (tt, tt)
   gives-leaves name consumer s q (Some sub) = (tt, tt)
 
-  put-back : (t : ℕ) (s : Session) (q : ℕ) (e : Event) → may_leave (permit_of_queue MaintRetryEvents).leaves s who (queued (put q (brought_by t e))) ≡ true
+  put-back : (t : ℕ) (s : Session) (q : ℕ) (e : Event) → may_leave (permit_of_queue MaintRetryEvents).kinds s who (queued (put q (brought_by t e))) ≡ true
   put-back t s q e = of e.ev_owner
     where
-      of : (o : Option ℕ) → may_put (permit_of_queue MaintRetryEvents).leaves o ≡ true
+      of : (o : Option ℕ) → may_put (permit_of_queue MaintRetryEvents).kinds o ≡ true
       of None = refl
       of (Some sub) = refl
 
-  each-back : (s : Session) (now : ℤ) (t : ℕ) (rs : List Retry) → EachMark (may_leave (permit_of_queue MaintRetryEvents).leaves s who) (back now t rs)
+  each-back : (s : Session) (now : ℤ) (t : ℕ) (rs : List Retry) → EachMark (may_leave (permit_of_queue MaintRetryEvents).kinds s who) (back now t rs)
   each-back s now t [] = tt
-  each-back s now t (r ∷ rs) = each-front (may_leave (permit_of_queue MaintRetryEvents).leaves s who) (queued (put r.queue (brought_by t r.event))) (queued (returned r now) ∷ back now t rs) (put-back t s r.queue r.event) (each-back s now t rs)
+  each-back s now t (r ∷ rs) = each-front (may_leave (permit_of_queue MaintRetryEvents).kinds s who) (queued (put r.queue (brought_by t r.event))) (queued (returned r now) ∷ back now t rs) (put-back t s r.queue r.event) (each-back s now t rs)
 
   gives-brings : (s : Session) (d : Database) (now : ℤ) (rs : List Retry) → QueueGives MaintRetryEvents s (brings d now rs)
   gives-brings s d now [] = (tt, tt)
   gives-brings s d now (r ∷ rs) =
-      checked AnyReply _ (next_id d.part) _ (λ t. (tt, each-append (may_leave (permit_of_queue MaintRetryEvents).leaves s who) (back now t (r ∷ rs)) (ended of_worker t true ∷ []) (each-back s now t (r ∷ rs)) tt))
+      checked AnyReply _ (next_id d.part) _ (λ t. (tt, each-append (may_leave (permit_of_queue MaintRetryEvents).kinds s who) (back now t (r ∷ rs)) (ended of_worker t true ∷ []) (each-back s now t (r ∷ rs)) tt))
 
   gives-rotates : (name : List ℕ) (d : Database) (now : ℤ) (q : ℕ) (why : Option HeldBack) → QueueGives (MaintRotateStep1 name) (d.part.session who) (rotates d now who q why)
   gives-rotates name d now q (Some why) = (tt, tt)
   gives-rotates name d now q None =
       checked AnyReply _ (txid_for d.part who) _ (λ t. (
         tt,
-        left-written (permit_of_queue (MaintRotateStep1 name)).leaves refl who t (d.part.session who) (switch_of q t now (d.part.session who).block)
-            (each-switch_of (may_leave (permit_of_queue (MaintRotateStep1 name)).leaves (d.part.session who) who) (rotation-left name (d.part.session who)) q t now (d.part.session who).block),
+        left-written (permit_of_queue (MaintRotateStep1 name)).kinds refl who t (d.part.session who) (switch_of q t now (d.part.session who).block)
+            (rotation-left name (d.part.session who) q t now),
       ))
 
   gives-ends_switches : (s : Session) (d : Database) (queues : List NamedQueue) → QueueGives MaintRotateStep2 s (ends_switches d queues)
@@ -548,8 +547,8 @@ module _ (who : ℕ) where
   gives-ends_switches s d (q ∷ queues) =
       checked AnyReply _ (next_id d.part) _ (λ t. (
         tt,
-        each-append (may_leave (permit_of_queue MaintRotateStep2).leaves s who) (second_steps t (q ∷ queues)) (ended of_worker t true ∷ [])
-            (each-second_steps (may_leave (permit_of_queue MaintRotateStep2).leaves s who) (second-left s) t (q ∷ queues)) tt,
+        each-append (may_leave (permit_of_queue MaintRotateStep2).kinds s who) (second_steps t (q ∷ queues)) (ended of_worker t true ∷ [])
+            (each-second_steps (may_leave (permit_of_queue MaintRotateStep2).kinds s who) (second-left s) t (q ∷ queues)) tt,
       ))
 
   gives-finishes : (id : ℕ) (s : Session) (d : Database) (o : Option Batch) → QueueGives (FinishBatch id) s (finishes d o)
@@ -560,20 +559,20 @@ module _ (who : ℕ) where
   gives-queue_form : (d : Database) (shown : Shown) (now : ℤ) (stmt : QueueStmt) → QueueGives stmt (d.part.session who) (queue_form d shown now who stmt)
   gives-queue_form d shown now (CreateQueue name) = search (either, after, checked, each-append, left-written) depth 8
   gives-queue_form d shown now (DropQueue name) = search (checked, after) depth 8
-  gives-queue_form d shown now (SetQueueConfig name param value) = search (checked) depth 8
+  gives-queue_form d shown now (SetQueueConfig setting) = search (checked) depth 8
   gives-queue_form d shown now (QueueInfo name) = search (checked)
-  gives-queue_form d shown now (InsertEvent name ev_type ev_data extra) = search (checked, after, left-written) depth 10
-  gives-queue_form d shown now (AddTrigger name table queue backup ignored) = search (checked, after) depth 10
+  gives-queue_form d shown now (InsertEvent event) = search (checked, after, left-written) depth 10
+  gives-queue_form d shown now (AddTrigger trigger) = search (checked, after) depth 10
   gives-queue_form d shown now (Ticker name) =
-      checked AnyReply _ (queue_called name d) _ (gives-tick (may_leave (permit_of_queue (Ticker name)).leaves (d.part.session who) who) (tick-left name (d.part.session who)) d now)
+      checked AnyReply _ (queue_called name d) _ (gives-tick (may_leave (permit_of_queue (Ticker name)).kinds (d.part.session who) who) (tick-left name (d.part.session who)) d now)
   gives-queue_form d shown now (ForceTick name) = search (checked, after)
   gives-queue_form d shown now (RegisterConsumer name consumer) = search (checked, after, either) depth 8
-  gives-queue_form d shown now (RegisterConsumerAt name consumer tick) = search (checked, after, either) depth 10
+  gives-queue_form d shown now (RegisterConsumerAt position) = search (checked, after, either) depth 10
   gives-queue_form d shown now (UnregisterConsumer name consumer) = search (checked, after, gives-leaves) depth 8
   gives-queue_form d shown now (NextBatch name consumer) = search (checked, after, gives-takes) depth 8
   gives-queue_form d shown now (GetBatchEvents batch) = search (checked)
   gives-queue_form d shown now (GetBatchInfo batch) = search (checked)
-  gives-queue_form d shown now (EventRetry batch event seconds) = search (checked, after, either) depth 12
+  gives-queue_form d shown now (EventRetry again) = search (checked, after, either) depth 12
   gives-queue_form d shown now (FinishBatch batch) = gives-finishes batch (d.part.session who) d (d.batch batch)
   gives-queue_form d shown now MaintRetryEvents = gives-brings (d.part.session who) d now (due_now now most_back d.retries)
   gives-queue_form d shown now (MaintRotateStep1 name) = checked AnyReply _ (queue_called name d) _ (λ q. gives-rotates name d now q (held_back now (d.queue q)))
@@ -581,7 +580,7 @@ module _ (who : ℕ) where
   gives-queue_form d shown now (ConsumerInfo name consumer) = search (checked) depth 8
 
   -- any statement
-  pub gives-form : (d : Database) (shown : Shown) (now : ℤ) (stmt : DbStmt) → Gives AnyReply (may_leave (permit_of stmt).leaves (d.part.session who) who) (form d shown now who stmt)
+  pub gives-form : (d : Database) (shown : Shown) (now : ℤ) (stmt : DbStmt) → Gives AnyReply (may_leave (permit_of stmt).kinds (d.part.session who) who) (form d shown now who stmt)
   gives-form d shown now (Row stmt) = gives-recorded who stmt d shown now
   gives-form d shown now (Queue stmt) = gives-queue_form d shown now stmt
 

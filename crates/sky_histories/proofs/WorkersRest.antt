@@ -17,7 +17,7 @@ use Rattle.sky_model.specs.declared.stmt.RowStmt.{RowStmt}
 use Rattle.sky_model.specs.declared.stmt.RowStmt.TheVariants.{OpenDb}
 use Rattle.sky_model.specs.declared.stmt.DbStmt.TheVariants.{Row, Queue}
 use Rattle.sky_model.specs.declared.stmt.QueueStmt.TheVariants.{MaintRetryEvents, MaintRotateStep2}
-use Rattle.sky_model.specs.Permits.{Leaves, of_any, of_resumed, may_leave, permit_of_row, permit_of}
+use Rattle.sky_model.specs.Permits.{MarkKinds, of_any, of_resumed, may_leave, permit_of_row, permit_of}
 use Rattle.sky_model.specs.declared.daemon.DaemonPart.{DaemonPart}
 use Rattle.sky_model.specs.declared.daemon.DaemonPart.TheVariants as part
 use Rattle.sky_model.specs.declared.reply.Reply.TheVariants.{Number, Null, Done}
@@ -79,7 +79,7 @@ no_work-tick : (mark : QueueMark) → is_tick mark ≡ true → is_no_work (queu
 no_work-tick (returned retry moment) e = absurd (cc)
 no_work-tick _ e = refl
 
-no_work-if : (k : Leaves) → k.works ≡ false → k.brings_back ≡ false → (s : Session) (who : ℕ) (mark : Mark) → may_leave k s who mark ≡ true → is_no_work mark ≡ true
+no_work-if : (k : MarkKinds) → k.works ≡ false → k.brings_back ≡ false → (s : Session) (who : ℕ) (mark : Mark) → may_leave k s who mark ≡ true → is_no_work mark ≡ true
 no_work-if k none never s who (began of_worker t) e = absurd (cc)
 no_work-if k none never s who (ended of_worker t committed) e = absurd (cc)
 no_work-if k none never s who (queued (returned retry moment)) e = absurd (cc)
@@ -88,7 +88,7 @@ no_work-if k none never s who _ e = refl
 no_work-abort : (who : ℕ) (s : Session) (refusal : _) → EachMark is_no_work (abort who s.block s.txid refusal)
 no_work-abort who s refusal = each-abort AnyReply is_no_work (λ _. tt) (no_work-if of_any refl refl) who s.block s.txid refusal
 
-pub rows-no_work : (stmt : RowStmt) → ((permit_of_row stmt).leaves.works ≡ false) × ((permit_of_row stmt).leaves.brings_back ≡ false)
+pub rows-no_work : (stmt : RowStmt) → ((permit_of_row stmt).kinds.works ≡ false) × ((permit_of_row stmt).kinds.brings_back ≡ false)
 rows-no_work (OpenDb name) = (refl, refl)
 rows-no_work _ = (refl, refl)
 
@@ -311,10 +311,10 @@ rests-settled h who s (Err refusal) r also = rests-marks h (abort who s.block s.
 rests-plain : (h : History) (who : ℕ) (s : Session) (c : Checked Outcome) → Gives AnyReply is_no_work c → Rests h → Rests (marked h (or_refused who s c).marks)
 rests-plain h who s c gives r = rests-settled h who s c r (rests-marks h (marks_of c) (each-given AnyReply is_no_work c gives) r)
 
-plain-form : (d : Database) (shown : Shown) (now : ℤ) (who : ℕ) (stmt : DbStmt) → (permit_of stmt).leaves.works ≡ false → (permit_of stmt).leaves.brings_back ≡ false
+plain-form : (d : Database) (shown : Shown) (now : ℤ) (who : ℕ) (stmt : DbStmt) → (permit_of stmt).kinds.works ≡ false → (permit_of stmt).kinds.brings_back ≡ false
     → Gives AnyReply is_no_work (form d shown now who stmt)
 plain-form d shown now who stmt none never =
-    let k : Leaves = (permit_of stmt).leaves in
+    let k : MarkKinds = (permit_of stmt).kinds in
     gives-map AnyReply AnyReply (may_leave k (d.part.session who) who) is_no_work (λ reply any. any) (no_work-if k none never (d.part.session who) who) _ (gives-form who d shown now stmt)
 
 rests-form : (h : History) → Legal h → Rests h → (now : ℤ) (who : ℕ) (stmt : DbStmt) → Rests (marked h (or_refused who (session h who) (form (database_of h) (shown_in h) now who stmt)).marks)

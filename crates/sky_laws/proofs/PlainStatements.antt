@@ -4,12 +4,12 @@ use Rattle.std.proofs.Common.{◌≡◌, ℕ, ℤ, List, [], ◌∷◌, Bool, tr
 use Rattle.sky_val.specs.declared.val.Val.{Val}
 use Rattle.sky_model.specs.declared.stmt.Attempt.{Attempt}
 use Rattle.sky_model.specs.declared.stmt.DbStmt.{DbStmt}
-use Rattle.sky_model.specs.Permits.{Leaves, is_outside, of_any, of_rows, attempt_leaves, may_put, may_leave, permit_of}
+use Rattle.sky_model.specs.Permits.{MarkKinds, of_any, of_rows, attempt_leaves, may_put, may_leave, permit_of}
 use Rattle.sky_model.specs.declared.reply.Refusal.{Refusal}
 use Rattle.sky_model.specs.History.{Mark, of_session, of_worker, ended, block_begun, block_failed, block_ended, queued, put, switching, switched, History, QueueMark, raised, second_step, ticked}
 use Rattle.sky_model.specs.Queues.{NamedQueue}
 use Rattle.sky_model.specs.StepRotation.{second_steps, ends_switches}
-use Rattle.sky_model.specs.Sessions.{Block, outside, inside, failed, block, Session}
+use Rattle.sky_model.specs.Sessions.{Block, outside, inside, failed, block, Session, is_outside}
 use Rattle.sky_model.specs.State.{Database}
 use Rattle.sky_model.specs.ShownRows.{KeyShown}
 use Rattle.sky_model.specs.Outcome.{Outcome, Checked, abort}
@@ -80,14 +80,14 @@ out-here who h = by_block (λ b. is_outside b ≡ true → b ≡ inside → ⊥)
 -- ---- statements
 
 -- kinds of such marks alone: no block begins or commits, no switch is pending or made, and no retry comes back
-pub record IsPlain (k : Leaves) : Type 0 where
+pub record IsPlain (k : MarkKinds) : Type 0 where
   pub begins : k.begins ≡ false
   pub commits : k.commits ≡ false
   pub rotates : k.rotates ≡ false
   pub switches : k.switches ≡ false
   pub brings_back : k.brings_back ≡ false
 
-does-if : (k : Leaves) → IsPlain k → (s : Session) (who : ℕ) (mark : Mark) → may_leave k s who mark ≡ true → may_do s.block who mark ≡ true
+does-if : (k : MarkKinds) → IsPlain k → (s : Session) (who : ℕ) (mark : Mark) → may_leave k s who mark ≡ true → may_do s.block who mark ≡ true
 does-if k plain s who (ended (of_session v) t true) e =
     let both = and_parts (k.takes_id && is_outside s.block || k.commits) (v == who) e in
     let out : is_outside s.block ≡ true = by k.takes_id (is_outside s.block) k.commits plain.commits both.0 in
@@ -97,9 +97,9 @@ does-if k plain s who (ended (of_session v) t true) e =
     by true true c none e = refl
     by true false c none e = absurd (cc (sym e ∙ none))
     by false b c none e = absurd (cc (sym e ∙ none))
-does-if k plain s who (block_begun v) e = absurd (cc (sym e ∙ plain.begins))
+does-if k plain s who (block_begun v) e = let both = and_parts k.begins (is_outside s.block) e in absurd (cc (sym both.0 ∙ plain.begins))
 does-if k plain s who (queued (switching q t)) e = absurd (cc (sym e ∙ plain.rotates))
-does-if k plain s who (queued (switched q time)) e = absurd (cc (sym e ∙ plain.switches))
+does-if k plain s who (queued (switched q time)) e = let both = and_parts k.switches (k.commits || is_outside s.block) e in absurd (cc (sym both.0 ∙ plain.switches))
 does-if k plain s who (queued (put q event)) e = by event.ev_owner e
   where
     by : (o : Option ℕ) → may_put k o ≡ true → is_none o ≡ true
@@ -135,9 +135,9 @@ module _ (who : ℕ) where
       told _ e = absurd (cc)
 
   -- any statement, if its permit says so
-  pub does-form : (d : Database) (shown : Shown) (now : ℤ) (stmt : DbStmt) → IsPlain (permit_of stmt).leaves → Does (d.part.session who).block (form d shown now who stmt)
+  pub does-form : (d : Database) (shown : Shown) (now : ℤ) (stmt : DbStmt) → IsPlain (permit_of stmt).kinds → Does (d.part.session who).block (form d shown now who stmt)
   does-form d shown now stmt plain =
-      let k : Leaves = (permit_of stmt).leaves in
+      let k : MarkKinds = (permit_of stmt).kinds in
       let s : Session = d.part.session who in
       gives-map AnyReply AnyReply (may_leave k s who) (may_do s.block who) (λ reply any. any) (does-if k plain s who) _ (gives-form who d shown now stmt)
 

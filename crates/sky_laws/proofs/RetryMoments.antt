@@ -9,7 +9,7 @@ use Rattle.pgq_retry.specs.Retries.{due_now}
 use Rattle.sky_model.specs.declared.stmt.DbStmt.{DbStmt}
 use Rattle.sky_model.specs.declared.stmt.DbStmt.TheVariants.{Row, Queue}
 use Rattle.sky_model.specs.declared.stmt.QueueStmt.TheVariants.{MaintRetryEvents}
-use Rattle.sky_model.specs.Permits.{Leaves, of_any, of_resumed, may_leave, permit_of}
+use Rattle.sky_model.specs.Permits.{MarkKinds, of_any, of_resumed, may_leave, permit_of}
 use Rattle.sky_model.specs.History.{Mark, QueueMark, sight_taken, queued, returned, History}
 use Rattle.sky_model.specs.Sessions.{session, has_open, block, own_txid, Session}
 use Rattle.sky_model.specs.Locks.{waiting}
@@ -24,7 +24,7 @@ use Rattle.sky_model.specs.Settling.{Turn, turn_of, behind_marks, settling, with
 use Rattle.sky_model.specs.Calls.{form, making, statement}
 use Rattle.sky_model.specs.SessionMarks.{look_of, entry_place, enters, failing}
 use Rattle.sky_model.specs.DatabaseCalls.{stepped, entered, failed, worked, served, database_does}
-use Rattle.sky_model.specs.LawsOfRetries.{IsBackAt, RetriesComeBackAtCalls}
+use Rattle.sky_model.specs.LawsOfRetries.{moment_of, IsBackAt, RetriesComeBackAtCalls}
 use Rattle.sky_histories.proofs.StatementMarks.{EachMark, each-append, each-rest, when-true, AnyReply, Gives, gives-map, given-runs, gives-tells, is_common, is_told, gives-form, each-failure, settling-gives}
 use Rattle.sky_histories.proofs.DaemonTurns.{each-brings, each-daemon_does}
 use Rattle.sky_histories.proofs.WorkersRest.{rows-no_work}
@@ -55,7 +55,7 @@ told-back : (now : ℤ) (mark : QueueMark) → is_told mark ≡ true → is_back
 told-back now (returned retry moment) e = absurd (cc)
 told-back now _ e = refl
 
-back-if : (now : ℤ) (k : Leaves) → k.brings_back ≡ false → (s : Session) (who : ℕ) (mark : Mark) → may_leave k s who mark ≡ true → is_back_at now mark ≡ true
+back-if : (now : ℤ) (k : MarkKinds) → k.brings_back ≡ false → (s : Session) (who : ℕ) (mark : Mark) → may_leave k s who mark ≡ true → is_back_at now mark ≡ true
 back-if now k none s who (queued (returned retry moment)) e = absurd (cc (sym e ∙ none))
 back-if now k none s who _ e = refl
 
@@ -65,9 +65,9 @@ back-given now (Err refusal) all = tt
 
 -- ---- statements
 
-plain-form : (d : Database) (shown : Shown) (now : ℤ) (who : ℕ) (stmt : DbStmt) → (permit_of stmt).leaves.brings_back ≡ false → Gives AnyReply (is_back_at now) (form d shown now who stmt)
+plain-form : (d : Database) (shown : Shown) (now : ℤ) (who : ℕ) (stmt : DbStmt) → (permit_of stmt).kinds.brings_back ≡ false → Gives AnyReply (is_back_at now) (form d shown now who stmt)
 plain-form d shown now who stmt none =
-    let k : Leaves = (permit_of stmt).leaves in
+    let k : MarkKinds = (permit_of stmt).kinds in
     gives-map AnyReply AnyReply (may_leave k (d.part.session who) who) (is_back_at now) (λ reply any. any) (back-if now k none (d.part.session who) who) (form d shown now who stmt) (gives-form who d shown now stmt)
 
 back-form : (d : Database) (shown : Shown) (now : ℤ) (who : ℕ) (stmt : DbStmt) → Gives AnyReply (is_back_at now) (form d shown now who stmt)
@@ -109,4 +109,4 @@ retries_come_back_at_calls h (failed who now) =
 retries_come_back_at_calls h (worked part now) =
     back-marks now (database_does database_by_history h (worked part now)).marks
     (each-daemon_does (is_back_at now) now (others-back now) (same-back now) (λ t. refl) (λ t. refl) database_by_history h part)
-retries_come_back_at_calls h (served call) = node-back (database_of h) call
+retries_come_back_at_calls h (served call) = node-back (moment_of (served call)) (database_of h) call

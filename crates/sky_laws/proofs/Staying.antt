@@ -1,5 +1,5 @@
 -- A statement other than `open` and `close` leaves each session as it was: with the database open, or without it.
-use Rattle.sky_model.specs.Permits.{Leaves, of_any, of_resumed, may_leave, permit_of}
+use Rattle.sky_model.specs.Permits.{MarkKinds, of_any, of_resumed, may_leave, permit_of}
 use Rattle.sky_model.specs.Sessions.{Session}
 use Rattle.std.proofs.Common.{◌≡◌, ℕ, ℤ, List, [], ◌∷◌, Bool, true, false, refl, ◌&&◌, sym, not, ◌∙◌}
 use Rattle.sky_model.specs.declared.stmt.DbStmt.{DbStmt}
@@ -29,22 +29,22 @@ open-stays v h (disconnected who ∷ marks) stay = absurd stay
 open-stays v h (mark ∷ marks) stay = open-stays v (mark ∷ h) marks stay
 
 -- kinds that have none of these for a session that has the database open, or hasn't
-pub record IsStill (k : Leaves) (is_open : Bool) : Type 0 where
+pub record IsStill (k : MarkKinds) (is_open : Bool) : Type 0 where
   pub opens : (k.opens && not is_open) ≡ false
   pub closes : k.closes ≡ false
 
-pub stays-if : (k : Leaves) (s : Session) → IsStill k s.is_open → (who : ℕ) (mark : Mark) → may_leave k s who mark ≡ true → is_staying mark ≡ true
+pub stays-if : (k : MarkKinds) (s : Session) → IsStill k s.is_open → (who : ℕ) (mark : Mark) → may_leave k s who mark ≡ true → is_staying mark ≡ true
 stays-if k s still who (connected v) e = absurd (cc (sym e ∙ still.opens))
 stays-if k s still who (disconnected v) e = absurd (cc (sym e ∙ still.closes))
 stays-if k s still who _ e = refl
 
 -- a statement that opens no database, and closes none, of a session that has it open or hasn't
 abbrev pub IsStaying : Bool → DbStmt → Type 0
-IsStaying is_open stmt = IsStill (permit_of stmt).leaves is_open
+IsStaying is_open stmt = IsStill (permit_of stmt).kinds is_open
 
 pub stays-form : (d : Database) (shown : Shown) (now : ℤ) (who : ℕ) (stmt : DbStmt) → IsStaying (d.part.session who).is_open stmt → Gives AnyReply is_staying (form d shown now who stmt)
 stays-form d shown now who stmt is =
-    let k : Leaves = (permit_of stmt).leaves in
+    let k : MarkKinds = (permit_of stmt).kinds in
     gives-map AnyReply AnyReply (may_leave k (d.part.session who) who) is_staying (λ reply any. any) (stays-if k (d.part.session who) is who) _ (gives-form who d shown now stmt)
 
 pub stays-any : (s : Session) (who : ℕ) (mark : Mark) → may_leave of_any s who mark ≡ true → is_staying mark ≡ true

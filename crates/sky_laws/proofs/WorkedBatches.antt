@@ -2,8 +2,8 @@
 use Rattle.std.proofs.Common.{◌≡◌, ℕ, List, [], ◌∷◌, true, false, Some, None, refl, codes, map}
 use Rattle.sky_model.specs.declared.stmt.Stmt.{Stmt}
 use Rattle.sky_model.specs.declared.stmt.RowStmt.TheVariants.{OpenDb}
-use Rattle.sky_model.specs.declared.stmt.QueueStmt.TheVariants.{CreateQueue, InsertEvent, Ticker, ForceTick, RegisterConsumer, NextBatch, FinishBatch}
-use Rattle.sky_model.specs.Grammar.{on_rows, on_queues}
+use Rattle.sky_model.specs.declared.stmt.QueueStmt.TheVariants.{CreateQueue, Ticker, ForceTick, RegisterConsumer, NextBatch, FinishBatch}
+use Rattle.sky_model.specs.Grammar.{inserted_event, on_rows, on_queues}
 use Rattle.sky_model.specs.History.{Batch, History}
 use Rattle.sky_model.specs.Queues.{events}
 use Rattle.sky_model.specs.Consumers.{subscription_id, position}
@@ -15,8 +15,8 @@ use Rattle.sky_model.specs.LawsOfBatches.{first_tick, finished, stands_between, 
 abbrev run : List Stmt
 run = on_queues (FinishBatch 2) ∷ on_queues (NextBatch (codes "q") (codes "w")) ∷ on_queues (FinishBatch 1) ∷ on_queues (NextBatch (codes "q") (codes "w"))
     ∷ on_queues (Ticker (codes "q")) ∷ on_queues (ForceTick (codes "q")) ∷ on_queues (Ticker (codes "q")) ∷ on_queues (ForceTick (codes "q"))
-    ∷ on_queues (InsertEvent (codes "q") (Some (codes "later")) None None) ∷ on_queues (RegisterConsumer (codes "q") (codes "w"))
-    ∷ on_queues (Ticker (codes "q")) ∷ on_queues (ForceTick (codes "q")) ∷ on_queues (InsertEvent (codes "q") (Some (codes "before")) None None) ∷ on_queues (CreateQueue (codes "q")) ∷ on_rows (OpenDb (codes "d")) ∷ []
+    ∷ inserted_event (codes "q") (Some (codes "later")) None None ∷ on_queues (RegisterConsumer (codes "q") (codes "w"))
+    ∷ on_queues (Ticker (codes "q")) ∷ on_queues (ForceTick (codes "q")) ∷ inserted_event (codes "q") (Some (codes "before")) None None ∷ on_queues (CreateQueue (codes "q")) ∷ on_rows (OpenDb (codes "d")) ∷ []
 
 abbrev then : History
 then = history_in (past_of (map (λ stmt. record { who = codes "a"; stmt = stmt }) run)) 0

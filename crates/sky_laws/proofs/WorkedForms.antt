@@ -30,11 +30,11 @@ insert = (
 )
 
 -- add_trigger w t q backup ignore=v
-add_trigger : IsQueueInForm (AddTrigger (codes "w") (codes "t") (codes "q") true (codes "v" ∷ []))
+add_trigger : IsQueueInForm (AddTrigger (record { name = codes "w"; table = codes "t"; queue = codes "q"; backup = true; ignored = codes "v" ∷ [] }))
 add_trigger = (refl, refl, refl, All-cons (IsOf Name) (codes "v") [] refl (All-nil (IsOf Name)))
 
 -- set_queue_config q 'it''s' 'it''s', of which the database says that there is no such parameter
-set_queue_config : IsQueueInForm (SetQueueConfig (codes "q") (codes "it's") (codes "it's"))
+set_queue_config : IsQueueInForm (SetQueueConfig (record { queue = codes "q"; param = codes "it's"; value = codes "it's" }))
 set_queue_config = (refl, quotable, quotable)
 
 -- clock +1day

@@ -8,7 +8,7 @@ use Rattle.sky_model.specs.declared.stmt.WorldStmt.{WorldStmt}
 use Rattle.sky_model.specs.declared.stmt.Stmt.{Stmt}
 use Rattle.sky_model.specs.declared.line.Line.{Line}
 use Rattle.sky_model.specs.declared.line.Line.TheVariants.{Blank, Run}
-use Rattle.sky_model.specs.Grammar.{on_rows, on_queues, line_of}
+use Rattle.sky_model.specs.Grammar.{on_rows, on_queues, inserted_event, added_trigger, line_of}
 use Rattle.sky_val.specs.declared.val.Val.TheVariants.{Null, Int, Text}
 use Rattle.sky_val.specs.declared.column.ColKind.{ColKind}
 use Rattle.sky_val.specs.declared.column.ColKind.TheVariants as kind
@@ -54,27 +54,27 @@ lines =
     ∷ (codes "a: txid_visible_in_snapshot 9 null", runs_row (RowStmt.TxidVisibleInSnapshot 9 (codes "null")))
     ∷ (codes "a: create_queue q", runs_queue (QueueStmt.CreateQueue (codes "q")))
     ∷ (codes "a: drop_queue q", runs_queue (QueueStmt.DropQueue (codes "q")))
-    ∷ (codes "a: set_queue_config q ticker_max_lag '3 s'", runs_queue (QueueStmt.SetQueueConfig (codes "q") (codes "ticker_max_lag") (codes "3 s")))
-    ∷ (codes "a: set_queue_config q 'it''s' ''", runs_queue (QueueStmt.SetQueueConfig (codes "q") (codes "it's") []))
+    ∷ (codes "a: set_queue_config q ticker_max_lag '3 s'", runs_queue (QueueStmt.SetQueueConfig (record { queue = codes "q"; param = codes "ticker_max_lag"; value = codes "3 s" })))
+    ∷ (codes "a: set_queue_config q 'it''s' ''", runs_queue (QueueStmt.SetQueueConfig (record { queue = codes "q"; param = codes "it's"; value = [] })))
     ∷ (codes "a: queue_info q", runs_queue (QueueStmt.QueueInfo (codes "q")))
-    ∷ (codes "a: insert_event q null 'd'", runs_queue (QueueStmt.InsertEvent (codes "q") None (Some (codes "d")) None))
-    ∷ (codes "a: insert_event q 'it''s a b' '' null 'x' null ''''", runs_queue (QueueStmt.InsertEvent (codes "q") (Some (codes "it's a b")) (Some []) (Some (record { ev_extra1 = None; ev_extra2 = Some (codes "x"); ev_extra3 = None; ev_extra4 = Some (codes "'") }))))
-    ∷ (codes "a: add_trigger tr app.t q", runs_queue (QueueStmt.AddTrigger (codes "tr") (codes "app.t") (codes "q") false []))
-    ∷ (codes "a: add_trigger tr t q backup", runs_queue (QueueStmt.AddTrigger (codes "tr") (codes "t") (codes "q") true []))
-    ∷ (codes "a: add_trigger tr t q ignore=s,n,s", runs_queue (QueueStmt.AddTrigger (codes "tr") (codes "t") (codes "q") false (codes "s" ∷ codes "n" ∷ codes "s" ∷ [])))
-    ∷ (codes "a: add_trigger tr t q backup ignore=n", runs_queue (QueueStmt.AddTrigger (codes "tr") (codes "t") (codes "q") true (codes "n" ∷ [])))
+    ∷ (codes "a: insert_event q null 'd'", runs (inserted_event (codes "q") None (Some (codes "d")) None))
+    ∷ (codes "a: insert_event q 'it''s a b' '' null 'x' null ''''", runs (inserted_event (codes "q") (Some (codes "it's a b")) (Some []) (Some (record { ev_extra1 = None; ev_extra2 = Some (codes "x"); ev_extra3 = None; ev_extra4 = Some (codes "'") }))))
+    ∷ (codes "a: add_trigger tr app.t q", runs (added_trigger (codes "tr") (codes "app.t") (codes "q") false []))
+    ∷ (codes "a: add_trigger tr t q backup", runs (added_trigger (codes "tr") (codes "t") (codes "q") true []))
+    ∷ (codes "a: add_trigger tr t q ignore=s,n,s", runs (added_trigger (codes "tr") (codes "t") (codes "q") false (codes "s" ∷ codes "n" ∷ codes "s" ∷ [])))
+    ∷ (codes "a: add_trigger tr t q backup ignore=n", runs (added_trigger (codes "tr") (codes "t") (codes "q") true (codes "n" ∷ [])))
     ∷ (codes "a: ticker q", runs_queue (QueueStmt.Ticker (codes "q")))
     ∷ (codes "a: force_tick _q9", runs_queue (QueueStmt.ForceTick (codes "_q9")))
     ∷ (codes "a: register_consumer q c", runs_queue (QueueStmt.RegisterConsumer (codes "q") (codes "c")))
-    ∷ (codes "a: register_consumer_at q w.m 18446744073709551615", runs_queue (QueueStmt.RegisterConsumerAt (codes "q") (codes "w.m") (2 ^ 64 - 1)))
+    ∷ (codes "a: register_consumer_at q w.m 18446744073709551615", runs_queue (QueueStmt.RegisterConsumerAt (record { queue = codes "q"; consumer = codes "w.m"; tick = 2 ^ 64 - 1 })))
     ∷ (codes "a: unregister_consumer q c", runs_queue (QueueStmt.UnregisterConsumer (codes "q") (codes "c")))
     ∷ (codes "a: next_batch q w.m", runs_queue (QueueStmt.NextBatch (codes "q") (codes "w.m")))
     ∷ (codes "a: get_batch_events 0", runs_queue (QueueStmt.GetBatchEvents 0))
-    ∷ (codes "a: event_retry 1 2 1000000000", runs_queue (QueueStmt.EventRetry 1 2 1_000_000_000))
-    ∷ (codes "a: maint_retry_events", runs_queue QueueStmt.MaintRetryEvents)
     ∷ (codes "a: get_batch_info 7", runs_queue (QueueStmt.GetBatchInfo 7))
-    ∷ (codes "a: consumer_info q w.m", runs_queue (QueueStmt.ConsumerInfo (codes "q") (codes "w.m")))
+    ∷ (codes "a: event_retry 1 2 1000000000", runs_queue (QueueStmt.EventRetry (record { batch = 1; event = 2; seconds = 1_000_000_000 })))
     ∷ (codes "a: finish_batch 18446744073709551615", runs_queue (QueueStmt.FinishBatch (2 ^ 64 - 1)))
+    ∷ (codes "a: maint_retry_events", runs_queue QueueStmt.MaintRetryEvents)
+    ∷ (codes "a: consumer_info q w.m", runs_queue (QueueStmt.ConsumerInfo (codes "q") (codes "w.m")))
     ∷ (codes "a: clock +3s", runs (Stmt.World (WorldStmt.Clock (pos 3_000_000))))
     ∷ (codes "a: clock '+1 min'", runs (Stmt.World (WorldStmt.Clock (pos 60_000_000))))
     ∷ (codes "a: clock '+1us'", runs (Stmt.World (WorldStmt.Clock (pos 1))))

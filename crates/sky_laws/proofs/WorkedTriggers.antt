@@ -9,8 +9,8 @@ use Rattle.sky_urlenc.specs.RowText.{row_text}
 use Rattle.sky_model.specs.declared.stmt.Change.TheVariants.{To}
 use Rattle.sky_model.specs.declared.stmt.Stmt.{Stmt}
 use Rattle.sky_model.specs.declared.stmt.RowStmt.TheVariants.{OpenDb, Begin, Commit, Rollback, CreateTable, Insert, Update}
-use Rattle.sky_model.specs.declared.stmt.QueueStmt.TheVariants.{CreateQueue, AddTrigger}
-use Rattle.sky_model.specs.Grammar.{on_rows, on_queues}
+use Rattle.sky_model.specs.declared.stmt.QueueStmt.TheVariants.{CreateQueue}
+use Rattle.sky_model.specs.Grammar.{added_trigger, on_rows, on_queues}
 use Rattle.sky_model.specs.declared.reply.Reply.{Reply}
 use Rattle.sky_model.specs.declared.reply.Reply.TheVariants.{Done, Refused}
 use Rattle.sky_model.specs.declared.reply.Refusal.TheVariants.{BadColumn, TableBusy, TriggerExists}
@@ -46,7 +46,7 @@ insert k = on_rows (Insert (codes "t") (row k 0))
 
 -- a queue, and a table with two triggers, of which the second ignores what changes `n` alone; the last statement first
 abbrev run : List Call
-run = b (on_rows (OpenDb (codes "d"))) ∷ a (on_queues (AddTrigger (codes "keys") (codes "t") (codes "q") false (codes "n" ∷ []))) ∷ a (on_queues (AddTrigger (codes "all") (codes "t") (codes "q") true []))
+run = b (on_rows (OpenDb (codes "d"))) ∷ a (added_trigger (codes "keys") (codes "t") (codes "q") false (codes "n" ∷ [])) ∷ a (added_trigger (codes "all") (codes "t") (codes "q") true [])
     ∷ a (on_rows (CreateTable (codes "t") columns))
     ∷ a (on_queues (CreateQueue (codes "q"))) ∷ a (on_rows (OpenDb (codes "d"))) ∷ []
 
@@ -99,7 +99,7 @@ abbrev answers : List Call → Stmt → List (ℕ × Reply)
 answers calls stmt = answers_of (past_of (calls ++ run)) (a stmt)
 
 abbrev trigger : (name : List ℕ) → List (List ℕ) → Stmt
-trigger name ignored = on_queues (AddTrigger name (codes "t") (codes "q") false ignored)
+trigger name ignored = added_trigger name (codes "t") (codes "q") false ignored
 
 -- a table that a running transaction has written gets no trigger, nor does any a second one of a name, nor one that ignores part of the key
 triggered : answers (b (insert 1) ∷ b (on_rows Begin) ∷ []) (trigger (codes "more") []) ++ answers (b (on_rows Rollback) ∷ b (insert 1) ∷ b (on_rows Begin) ∷ []) (trigger (codes "more") [])

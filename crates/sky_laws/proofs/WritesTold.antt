@@ -6,7 +6,7 @@ use Rattle.sky_model.specs.declared.stmt.DbStmt.{DbStmt}
 use Rattle.sky_model.specs.declared.stmt.DbStmt.TheVariants.{Row, Queue}
 use Rattle.sky_model.specs.declared.stmt.QueueStmt.{QueueStmt}
 use Rattle.sky_model.specs.declared.stmt.QueueStmt.TheVariants.{InsertEvent}
-use Rattle.sky_model.specs.Permits.{Leaves, of_any, may_leave, permit_of_queue, permit_of}
+use Rattle.sky_model.specs.Permits.{MarkKinds, of_any, may_leave, permit_of_queue, permit_of}
 use Rattle.sky_model.specs.declared.stmt.RowStmt.TheVariants.{Commit}
 use Rattle.sky_model.specs.History.{Mark, Whose, of_session, of_worker, sight_taken, tabled, wrote, waited, History, of_copy}
 use Rattle.sky_model.specs.Sessions.{Session, session, has_open, block, own_txid}
@@ -134,18 +134,18 @@ tells-told h told now who s (Ok o) = of (with_told (database_of h) now o.marks) 
     of (Ok marks) all = all
     of (Err refusal) all = plain-told h (abort who s.block s.txid refusal) (plain-abort who s.block s.txid refusal) told
 
-form-plain : (h : History) → AllTold h → (now : ℤ) (who : ℕ) (stmt : DbStmt) → (permit_of stmt).leaves.writes ≡ false
+form-plain : (h : History) → AllTold h → (now : ℤ) (who : ℕ) (stmt : DbStmt) → (permit_of stmt).kinds.writes ≡ false
     → AllTold (marked h (or_refused who (session h who) (form (database_of h) (shown_in h) now who stmt)).marks)
 form-plain h told now who stmt quiet =
-    let k : Leaves = (permit_of stmt).leaves in
+    let k : MarkKinds = (permit_of stmt).kinds in
     let done : Checked Outcome = form (database_of h) (shown_in h) now who stmt in
     plain-told h (or_refused who (session h who) done).marks
     (given-settled AnyReply is_no_write (λ _. tt) (plain-if of_any refl) who (session h who) done
     (gives-map AnyReply AnyReply (may_leave k (session h who) who) is_no_write (λ reply any. any) (plain-if k quiet (session h who) who) done (gives-form who (database_of h) (shown_in h) now stmt))).1 told
 
 -- a statement on queues writes no key
-writes-none : (stmt : QueueStmt) → (permit_of_queue stmt).leaves.writes ≡ false
-writes-none (InsertEvent queue ev_type ev_data extra) = refl
+writes-none : (stmt : QueueStmt) → (permit_of_queue stmt).kinds.writes ≡ false
+writes-none (InsertEvent event) = refl
 writes-none _ = refl
 
 form-told : (h : History) → AllTold h → (now : ℤ) (who : ℕ) (stmt : DbStmt) → AllTold (marked h (or_refused who (session h who) (form (database_of h) (shown_in h) now who stmt)).marks)

@@ -77,7 +77,7 @@ slot-untouched old new places slots q = λ i. option_and_then (λ n. get_or (slo
 pub held-untouched : (old new : SlotsView) → new.places ≡ old.places → new.slots.slots ≡ old.slots.slots → SameHeld old new
 held-untouched old new places slots =
     let same : SameHolders old new = λ q. ap slot_holder (slot-untouched old new places slots q) in
-    record { held = held-same old new (ap keys_of places) same; holders = same }
+    record { held = held-same old new (ap keys_of places) same; holders = same; places = places }
 
 held-found : (ks : List LockKey) (holder : LockKey → Option ℕ) (key : LockKey) → holder_of (held_among ks holder) key ≡ cond (is_among ks key) (holder key) None
 held-found [] holder key = refl

@@ -8,11 +8,17 @@ use Rattle.sky_locks.specs.declared.lock_key.LockKey.{LockKey}
 use Rattle.sky_locks.specs.declared.taken.Taken.{Taken}
 use Rattle.sky_locks.specs.declared.taken.Taken.TheVariants.{Got, Waits, Cycle}
 use Rattle.sky_locks.specs.Order.{lock_cmp}
+use Rattle.sky_locks.specs.Slots.{Places, place_at}
 
--- the keys that are held, in order, each with its holder, and the wait queue in order of arrival
+-- the keys that are held, in order, each with its holder, the wait queue in order of arrival, and the place of each key's slot
 pub record LocksView : Type 0 where
   pub held : List (LockKey × ℕ)
   pub waiting : List Waiting
+  pub places : Places
+
+-- where a key's slot is, if it has one: each key does that is held or waited for
+abbrev pub slot_place : LocksView → ℕ → List Val → Option ℕ
+slot_place locks table key = place_at locks.places (record { table = table; key = key })
 
 -- the holder of a key
 abbrev pub holder : LocksView → ℕ → List Val → Option ℕ

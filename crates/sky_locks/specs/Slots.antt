@@ -59,10 +59,11 @@ held_in s = held_among (keys_of s.places) (holder_at s)
 abbrev pub SameHolders : SlotsView → SlotsView → Type 0
 SameHolders old new = (q : LockKey) → holder_at new q ≡ holder_at old q
 
--- they are, and are so listed
+-- they are, and are so listed, and each slot has the place that it had
 pub record SameHeld (old new : SlotsView) : Type 0 where
   pub held : held_in new ≡ held_in old
   pub holders : SameHolders old new
+  pub places : new.places ≡ old.places
 
 -- the key has this holder, and the others are held as before
 abbrev pub HoldsAs : SlotsView → Option ℕ → LockKey → SlotsView → Type 0

@@ -5,14 +5,15 @@ use Rattle.sky_locks.specs.declared.lock_key.LockKey.{LockKey}
 use Rattle.sky_locks.specs.declared.entries.Waiter.{Waiter}
 use Rattle.sky_locks.specs.Holders.{Held, is_holder}
 use Rattle.sky_locks.specs.Sessions.{KeysBySession, has_key}
-use Rattle.sky_locks.specs.Slots.{SlotsView, holder_at, queue_at}
+use Rattle.sky_locks.specs.Slots.{SlotsView, Places, holder_at, queue_at}
 use Rattle.sky_locks.specs.Waiters.{IsKept}
 
--- the keys that are held, the wait queue, and the keys as they are listed for each session
+-- the keys that are held, the wait queue, the keys as they are listed for each session, and where each key's slot is
 pub record TableView : Type 0 where
   pub held : Held
   pub waiting : List Waiting
   pub listed : KeysBySession
+  pub places : Places
 
 -- the indexes record who holds each key, and who waits
 pub record IsIndexed (slots : SlotsView) (entries : List (Option Waiter)) (listed : KeysBySession) (arrivals : List (Option ℕ)) : Type 0 where

@@ -1,7 +1,7 @@
 ghost use Rattle.std.specs.Prelude.{◌≡◌, ◌↔◌, ◌<◌, [], ◌∷◌, ◌++◌, if◌then◌else◌, true, false, None, Some, length, is_some, option_map, vec_len, vec_capacity, IsTrue, IfNone, IfOk, IfSome, OnOk, OnErr};
 ghost use Rattle.sky_keys.specs.Waits.{is_waiting, entry_of, without, first_waiter, ready, other_holder, taken, given_back, released, way_back};
 ghost use Rattle.sky_locks.specs.Waiters.{entry};
-ghost use Rattle.sky_locks.specs.Locks.{LocksView, Takes, TakesKey, WaitsForKey, ClosesRing, holder, waits_for_in};
+ghost use Rattle.sky_locks.specs.Locks.{LocksView, Takes, TakesKey, WaitsForKey, ClosesRing, holder, slot_place, waits_for_in};
 
 use crate::lock_key::LockKey;
 use crate::ring::Ring;
@@ -29,7 +29,7 @@ impl Model for Locks {
 
     ghost Value = { LocksView };
 
-    ghost view = { λ l. record { held = l.table.held; waiting = l.table.waiting } };
+    ghost view = { λ l. record { held = l.table.held; waiting = l.table.waiting; places = l.table.places } };
 
     ghost invariant = { λ l. IsListed l.table.held l.table.waiting l.freed.items (vec_capacity l.freed) };
 }
@@ -37,7 +37,7 @@ impl Model for Locks {
 impl Locks {
     /// No key is held, and nobody waits. No memory is taken.
     pub fn new(alloc: Global) -> Locks
-        ensures { result ≡ record { held = []; waiting = [] } }
+        ensures { result ≡ record { held = []; waiting = []; places = [] } }
     {
         Locks {
             alloc,
@@ -46,11 +46,26 @@ impl Locks {
         }
     }
 
+    /// Where the key's slot is. It is found there until the locks change.
+    pub fn find(&self, key: &LockKey) -> Option<usize>
+        ensures { result ≡ slot_place self.now key.now.table key.now.key }
+    {
+        self.table.place(key)
+    }
+
+    /// The session that holds the key, whose slot is at the place.
+    pub fn holder_at(&self, key: &LockKey, place: Option<usize>) -> Option<SessionId>
+        requires { place ≡ slot_place self.now key.now.table key.now.key }
+        ensures { result ≡ holder self.now key.now.table key.now.key }
+    {
+        self.table.holder_at(key, place)
+    }
+
     /// The session that holds the key.
     pub fn holder(&self, key: &LockKey) -> Option<SessionId>
         ensures { result ≡ holder self.now key.now.table key.now.key }
     {
-        self.table.holder(key)
+        self.holder_at(key, self.find(key))
     }
 
     /// The key that the session waits for.
@@ -88,25 +103,33 @@ impl Locks {
         ensures ok { IfOk result (λ taken. Takes self.old who key.now.table key.now.key taken self.new) }
         ensures err { OnErr result (self.new ≡ self.old) }
     {
-        match self.holder(key) {
+        let place = self.find(key);
+        match self.holder_at(key, place) {
             Some(holder) if holder != who => match self.wait(who, holder, key)? {
                 None => Ok(Taken::Waits(holder)),
                 Some(ring) => Ok(Taken::Cycle(ring)),
             },
             _ => {
-                self.take(who, key)?;
+                self.take_at(who, key, place)?;
                 Ok(Taken::Got)
             }
         }
     }
 
-    /// Takes the key, which no other session holds, for the session. After an error nothing has changed.
-    pub fn take(&mut self, who: SessionId, key: &LockKey) -> Result<(), NoMemory>
-        requires { other_holder (holder self.old) who key.now.table key.now.key ≡ None }
+    /// Takes the key, which no other session holds, and whose slot is at the place, for the session. After an error
+    /// nothing has changed.
+    pub fn take_at(
+        &mut self,
+        who: SessionId,
+        key: &LockKey,
+        place: Option<usize>,
+    ) -> Result<(), NoMemory>
+        requires found { place ≡ slot_place self.old key.now.table key.now.key }
+        requires free { other_holder (holder self.old) who key.now.table key.now.key ≡ None }
         ensures ok { OnOk result (TakesKey self.old who key.now.table key.now.key self.new) }
         ensures err { OnErr result (self.new ≡ self.old) }
     {
-        if self.table.hold(who, key)?.is_none() {
+        if self.table.hold_at(who, key, place)?.is_none() {
             self.freed.retain(|freed| freed != key);
         }
         Ok(())

@@ -62,6 +62,7 @@ impl Slots {
         ensures held { held_in result ≡ [] }
         ensures holders { (q : LockKey) → holder_at result q ≡ None }
         ensures queues { (q : LockKey) → queue_at result q ≡ [] }
+        ensures places { result.places ≡ [] }
     {
         Slots {
             slots: Slab::new(alloc),
@@ -74,9 +75,13 @@ impl Slots {
     /// The place of the key's slot.
     // Always inlined, and apart from the search, since a hint nearly always holds.
     #[inline(always)]
-    fn place(&self, key: &LockKey) -> Option<usize>
+    pub(crate) fn place(&self, key: &LockKey) -> Option<usize>
         ensures { result ≡ place_at self.now.places key.now }
     {
+        // Sessions that write outside blocks hold no key, and then there is often none.
+        if self.places.is_empty() {
+            return None;
+        }
         let hint = self.hints[hint_place(key)];
         if self.is_at(hint, key) {
             return Some(hint);
@@ -110,11 +115,12 @@ impl Slots {
         self.slots.get(self.place(key)?)
     }
 
-    /// The holder of the key.
-    pub(crate) fn holder(&self, key: &LockKey) -> Option<SessionId>
+    /// The holder of the key, whose slot has this place.
+    pub(crate) fn holder_at(&self, key: &LockKey, place: Option<usize>) -> Option<SessionId>
+        requires { place ≡ place_at self.now.places key.now }
         ensures { result ≡ holder_at self.now key.now }
     {
-        self.slot(key)?.holder
+        self.slots.get(place?)?.holder
     }
 
     /// The first that waits for the key.
@@ -124,20 +130,22 @@ impl Slots {
         self.slot(key)?.queue.first().copied()
     }
 
-    /// The session holds the key, if nobody does. The answer is who held it.
-    pub(crate) fn hold(
+    /// The session holds the key, whose slot has this place, if nobody does. The answer is who held it.
+    pub(crate) fn hold_at(
         &mut self,
         alloc: Global,
         who: SessionId,
         key: &LockKey,
+        place: Option<usize>,
     ) -> Result<Option<SessionId>, NoMemory>
+        requires { place ≡ place_at self.old.places key.now }
         ensures before { IfOk result (λ before. before ≡ holder_at self.old key.now) }
         ensures free { IfOk result (λ before. IfNone before (Holds self.old who key.now self.new)) }
         ensures same { IfOk result (λ before. OnSome before (SameHeld self.old self.new)) }
         ensures err { OnErr result (SameHeld self.old self.new) }
         ensures queues { SameQueues self.old self.new }
     {
-        let Some(place) = self.place(key) else {
+        let Some(place) = place else {
             self.insert(alloc, key, Some(who), Vec::new(alloc))?;
             return Ok(None);
         };
@@ -222,6 +230,7 @@ impl Slots {
         ensures ok { OnOk result (Joins (queue_at self.old) who key.now (queue_at self.new)) }
         ensures err { OnErr result (SameQueues self.old self.new) }
         ensures held { OnErr result (held_in self.new ≡ held_in self.old) }
+        ensures places { OnErr result (self.new.places ≡ self.old.places) }
         ensures holders { SameHolders self.old self.new }
     {
         let Some(place) = self.place(key) else {

@@ -4,7 +4,7 @@ ghost use Rattle.std.specs.Ordering.{eq_by_cmp};
 ghost use Rattle.sky_keys.specs.Waits.{is_waiting, entry_of, without};
 ghost use Rattle.sky_locks.specs.Order.{lock_cmp};
 ghost use Rattle.sky_locks.specs.Holders.{holder_of, Frees};
-ghost use Rattle.sky_locks.specs.Slots.{queue_at};
+ghost use Rattle.sky_locks.specs.Slots.{place_at, queue_at};
 ghost use Rattle.sky_locks.specs.Freed.{is_waited};
 ghost use Rattle.sky_locks.specs.Sessions.{arrival_of, keys_of};
 ghost use Rattle.sky_locks.specs.Table.{TableView};
@@ -39,7 +39,7 @@ impl Model for Table {
 
     ghost Value = { TableView };
 
-    ghost view = { λ t. record { held = held_in t.slots; waiting = waiting_in t.entries; listed = t.listed } };
+    ghost view = { λ t. record { held = held_in t.slots; waiting = waiting_in t.entries; listed = t.listed; places = t.slots.places } };
 
     ghost invariant = { λ t. IsIndexed t.slots t.entries t.listed t.arrivals.numbers.items };
 }
@@ -49,6 +49,7 @@ impl Table {
     pub(crate) fn new(alloc: Global) -> Table
         ensures held { result.held ≡ [] }
         ensures waiting { result.waiting ≡ [] }
+        ensures places { result.places ≡ [] }
     {
         Table {
             alloc,
@@ -59,11 +60,20 @@ impl Table {
         }
     }
 
-    /// The holder of the key.
-    pub(crate) fn holder(&self, key: &LockKey) -> Option<SessionId>
+    /// The place of the key's slot.
+    #[inline(always)]
+    pub(crate) fn place(&self, key: &LockKey) -> Option<usize>
+        ensures { result ≡ place_at self.now.places key.now }
+    {
+        self.slots.place(key)
+    }
+
+    /// The holder of the key, whose slot has this place.
+    pub(crate) fn holder_at(&self, key: &LockKey, place: Option<usize>) -> Option<SessionId>
+        requires { place ≡ place_at self.now.places key.now }
         ensures { result ≡ holder_of self.now.held key.now }
     {
-        self.slots.holder(key)
+        self.slots.holder_at(key, place)
     }
 
     /// How many wait.
@@ -103,21 +113,24 @@ impl Table {
         Some((waiter.who, &waiter.key))
     }
 
-    /// The session holds the key, if nobody does. The answer is who held it.
-    pub(crate) fn hold(
+    /// The session holds the key, whose slot has this place, if nobody does. The answer is who held it.
+    pub(crate) fn hold_at(
         &mut self,
         who: SessionId,
         key: &LockKey,
+        place: Option<usize>,
     ) -> Result<Option<SessionId>, NoMemory>
+        requires { place ≡ place_at self.old.places key.now }
         ensures before { IfOk result (λ before. before ≡ holder_of self.old.held key.now) }
         ensures free { IfOk result (λ before. IfNone before ((q : LockKey)
             → holder_of self.new.held q ≡ (if eq_by_cmp lock_cmp key.now q then Some who else holder_of self.old.held q))) }
         ensures same { IfOk result (λ before. OnSome before (self.new.held ≡ self.old.held)) }
         ensures err { OnErr result (self.new.held ≡ self.old.held) }
+        ensures places { OnErr result (self.new.places ≡ self.old.places) }
         ensures waiting { self.new.waiting ≡ self.old.waiting }
     {
         let listed = self.listed.reserve(self.alloc, who, key)?;
-        match self.slots.hold(self.alloc, who, key)? {
+        match self.slots.hold_at(self.alloc, who, key, place)? {
             Some(holder) => Ok(Some(holder)),
             None => {
                 self.listed.add(who, listed);
@@ -161,6 +174,7 @@ impl Table {
         ensures holders { (q : LockKey) → holder_of self.new.held q ≡ holder_of self.old.held q }
         ensures held { OnErr result (self.new.held ≡ self.old.held) }
         ensures err { OnErr result (self.new.waiting ≡ self.old.waiting) }
+        ensures places { OnErr result (self.new.places ≡ self.old.places) }
     {
         self.pack();
         let waiter = Waiter {

@@ -72,19 +72,19 @@ switches_first d now who stmt = []
 abbrev pub queue_form : Database → Shown → ℤ → ℕ → QueueStmt → Checked Outcome
 queue_form d shown now who (CreateQueue queue) = create_queue d now who queue
 queue_form d shown now who (DropQueue queue) = drop_queue d queue
-queue_form d shown now who (SetQueueConfig queue param value) = set_queue_config d queue param value
+queue_form d shown now who (SetQueueConfig setting) = set_queue_config d setting
 queue_form d shown now who (QueueInfo queue) = queue_info d queue
-queue_form d shown now who (InsertEvent queue ev_type ev_data extra) = insert_event d now who queue ev_type ev_data extra
-queue_form d shown now who (AddTrigger name table queue backup ignored) = add_trigger d name table queue backup ignored
+queue_form d shown now who (InsertEvent event) = insert_event d now who event
+queue_form d shown now who (AddTrigger trigger) = add_trigger d trigger
 queue_form d shown now who (Ticker queue) = ticker d now queue
 queue_form d shown now who (ForceTick queue) = force_tick d queue
 queue_form d shown now who (RegisterConsumer queue consumer) = register_consumer d queue consumer
-queue_form d shown now who (RegisterConsumerAt queue consumer tick) = register_consumer_at d queue consumer tick
+queue_form d shown now who (RegisterConsumerAt position) = register_consumer_at d position
 queue_form d shown now who (UnregisterConsumer queue consumer) = unregister_consumer d queue consumer
 queue_form d shown now who (NextBatch queue consumer) = next_batch d queue consumer
 queue_form d shown now who (GetBatchEvents batch) = get_batch_events shown.events batch
 queue_form d shown now who (GetBatchInfo batch) = get_batch_info d batch
-queue_form d shown now who (EventRetry batch event seconds) = event_retry d shown.events now batch event seconds
+queue_form d shown now who (EventRetry again) = event_retry d shown.events now again
 queue_form d shown now who (FinishBatch batch) = finish_batch d batch
 queue_form d shown now who MaintRetryEvents = maint_retry_events d now
 queue_form d shown now who (MaintRotateStep1 queue) = maint_rotate_step1 d now who queue
@@ -194,27 +194,27 @@ abbrev pub if_allowed : {P : Type 0} → Reader P → P → ℕ → ℕ → Chec
 if_allowed r p who d (Ok _) deed = deed
 if_allowed r p who d (Err refusal) deed = refused_in r p who d refusal
 
+-- by the database that its session has open, if any: a statement that is allowed outside blocks alone does this
+abbrev pub if_outside : {P : Type 0} → Reader P → P → ℕ → (ℕ → Deed) → Option ℕ → Deed
+if_outside r p who deed None = refuses who NotOpen
+if_outside r p who deed (Some d) = if_allowed r p who d (allowed_outside ((r.world p).database d) who) (deed d)
+
 -- what a statement on nodes does in the world, or why it is refused
 abbrev pub world_does : ℕ → Checked WorldOutcome → Deed
 world_does who (Ok outcome) = record { answers = map (λ reply. (who, reply)) outcome.replies; facts = outcome.facts }
 world_does who (Err refusal) = refuses who refusal
 
--- by the database that the session has open, if any
 abbrev pub node_stmt_does : {P : Type 0} → Reader P → P → ℕ → NodeStmt → Option ℕ → Deed
-node_stmt_does r p who stmt None = refuses who NotOpen
-node_stmt_does r p who stmt (Some d) =
-    if_allowed r p who d (allowed_outside ((r.world p).database d) who) (world_does who (node_form (r.world p) d stmt))
+node_stmt_does r p who stmt = if_outside r p who (λ d. world_does who (node_form (r.world p) d stmt))
 
 -- a daemon is switched on, unless it has been on since a moment
 abbrev pub on_unless : ℕ → Option ℤ → List Fact
 on_unless d None = daemon_on d ∷ []
 on_unless d (Some start) = []
 
--- by the database that the session has open, if any: its daemon is switched
+-- the daemon of a session's database is switched
 abbrev pub switches_daemon : {P : Type 0} → Reader P → P → ℕ → (ℕ → List Fact) → Option ℕ → Deed
-switches_daemon r p who facts None = refuses who NotOpen
-switches_daemon r p who facts (Some d) =
-    if_allowed r p who d (allowed_outside ((r.world p).database d) who) (answers_with who Done (facts d))
+switches_daemon r p who facts = if_outside r p who (λ d. answers_with who Done (facts d))
 
 abbrev pub world_stmt_does : {P : Type 0} → Reader P → P → ℕ → WorldStmt → Option ℕ → Deed
 world_stmt_does r p who (Clock time) home = clock r p who time (waits_at (r.world p) who home)

@@ -1,5 +1,6 @@
 -- The statement forms as a table, and what a line says by it.
 use Rattle.std.specs.Prelude.{ℕ, Bool, true, false, ◌+◌, ◌-◌, ◌^◌, ◌==◌, if◌then◌else◌, List, [], ◌∷◌, ◌++◌, length, take, drop, Option, Some, None, Result, Ok, Err, bytes_eq, codes}
+use Rattle.sky_model.specs.declared.stmt.Extra.{Extra}
 use Rattle.sky_model.specs.declared.stmt.RowStmt.TheVariants as row
 use Rattle.sky_model.specs.declared.stmt.RowStmt.{RowStmt}
 use Rattle.sky_model.specs.declared.stmt.QueueStmt.{QueueStmt}
@@ -91,22 +92,29 @@ row_forms =
     ∷ (codes "scan", last Dotted (λ table. on_rows (row.Scan table)))
     ∷ []
 
+-- an event with these texts
+abbrev pub inserted_event : (queue : List ℕ) (ev_type ev_data : Option (List ℕ)) → Option Extra → Stmt
+inserted_event queue ev_type ev_data extra = on_queues (queues.InsertEvent (record { queue = queue; ev_type = ev_type; ev_data = ev_data; extra = extra }))
+
 -- the four further texts of an event, to the line's end
 abbrev pub extra_row : (queue : List ℕ) (ev_type ev_data : Option (List ℕ)) → GrammarRow
 extra_row queue ev_type ev_data =
     one OptText (λ extra1. one OptText (λ extra2. one OptText (λ extra3. last OptText (λ extra4.
-    on_queues (queues.InsertEvent queue ev_type ev_data (Some (record { ev_extra1 = extra1; ev_extra2 = extra2; ev_extra3 = extra3; ev_extra4 = extra4 })))))))
+    inserted_event queue ev_type ev_data (Some (record { ev_extra1 = extra1; ev_extra2 = extra2; ev_extra3 = extra3; ev_extra4 = extra4 }))))))
 
 -- an event's queue, type and data, and then none or four further texts
 abbrev pub insert_event : GrammarRow
 insert_event =
     one Name (λ queue. one OptText (λ ev_type. one OptText (λ ev_data.
-    either (stop (on_queues (queues.InsertEvent queue ev_type ev_data None))) (extra_row queue ev_type ev_data))))
+    either (stop (inserted_event queue ev_type ev_data None)) (extra_row queue ev_type ev_data))))
+
+-- a trigger that is to ignore these columns
+abbrev pub added_trigger : (name table queue : List ℕ) → Bool → List (List ℕ) → Stmt
+added_trigger name table queue backup columns = on_queues (queues.AddTrigger (record { name = name; table = table; queue = queue; backup = backup; ignored = columns }))
 
 -- the columns to ignore at the end of a trigger's line, or none
 abbrev pub ignore_row : (name table queue : List ℕ) → Bool → GrammarRow
-ignore_row name table queue backup =
-    either (stop (on_queues (queues.AddTrigger name table queue backup []))) (last Ignore (λ columns. on_queues (queues.AddTrigger name table queue backup columns)))
+ignore_row name table queue backup = either (stop (added_trigger name table queue backup [])) (last Ignore (added_trigger name table queue backup))
 
 -- a trigger's name, its table and its queue, and then none, one or both of `backup` and columns to ignore
 abbrev pub add_trigger : GrammarRow
@@ -118,19 +126,19 @@ abbrev pub queue_forms : List (List ℕ × GrammarRow)
 queue_forms =
     (codes "create_queue", last Name (λ queue. on_queues (queues.CreateQueue queue)))
     ∷ (codes "drop_queue", last Name (λ queue. on_queues (queues.DropQueue queue)))
-    ∷ (codes "set_queue_config", one Name (λ queue. one Raw (λ param. last Raw (λ value. on_queues (queues.SetQueueConfig queue param value)))))
+    ∷ (codes "set_queue_config", one Name (λ queue. one Raw (λ param. last Raw (λ value. on_queues (queues.SetQueueConfig (record { queue = queue; param = param; value = value }))))))
     ∷ (codes "queue_info", last Name (λ queue. on_queues (queues.QueueInfo queue)))
     ∷ (codes "insert_event", insert_event)
     ∷ (codes "add_trigger", add_trigger)
     ∷ (codes "ticker", last Name (λ queue. on_queues (queues.Ticker queue)))
     ∷ (codes "force_tick", last Name (λ queue. on_queues (queues.ForceTick queue)))
     ∷ (codes "register_consumer", one Name (λ queue. last Dotted (λ consumer. on_queues (queues.RegisterConsumer queue consumer))))
-    ∷ (codes "register_consumer_at", one Name (λ queue. one Dotted (λ consumer. last (Number (2 ^ 64 - 1)) (λ tick. on_queues (queues.RegisterConsumerAt queue consumer tick)))))
+    ∷ (codes "register_consumer_at", one Name (λ queue. one Dotted (λ consumer. last (Number (2 ^ 64 - 1)) (λ tick. on_queues (queues.RegisterConsumerAt (record { queue = queue; consumer = consumer; tick = tick }))))))
     ∷ (codes "unregister_consumer", one Name (λ queue. last Dotted (λ consumer. on_queues (queues.UnregisterConsumer queue consumer))))
     ∷ (codes "next_batch", one Name (λ queue. last Dotted (λ consumer. on_queues (queues.NextBatch queue consumer))))
     ∷ (codes "get_batch_events", last (Number (2 ^ 64 - 1)) (λ batch. on_queues (queues.GetBatchEvents batch)))
     ∷ (codes "get_batch_info", last (Number (2 ^ 64 - 1)) (λ batch. on_queues (queues.GetBatchInfo batch)))
-    ∷ (codes "event_retry", one (Number (2 ^ 64 - 1)) (λ batch. one (Number (2 ^ 64 - 1)) (λ event. last (Number 1_000_000_000) (λ seconds. on_queues (queues.EventRetry batch event seconds)))))
+    ∷ (codes "event_retry", one (Number (2 ^ 64 - 1)) (λ batch. one (Number (2 ^ 64 - 1)) (λ event. last (Number 1_000_000_000) (λ seconds. on_queues (queues.EventRetry (record { batch = batch; event = event; seconds = seconds }))))))
     ∷ (codes "finish_batch", last (Number (2 ^ 64 - 1)) (λ batch. on_queues (queues.FinishBatch batch)))
     ∷ (codes "maint_retry_events", stop (on_queues queues.MaintRetryEvents))
     ∷ (codes "maint_rotate_step1", last Name (λ queue. on_queues (queues.MaintRotateStep1 queue)))

@@ -12,6 +12,7 @@ use Rattle.sky_model.specs.Batches.{batch_events}
 use Rattle.sky_model.specs.Retries.{retries, retried}
 use Rattle.sky_model.specs.LawsOfBatches.{stands_in}
 use Rattle.sky_model.specs.Reader.{database_by_history}
+use Rattle.sky_model.specs.StepNode.{making_root}
 use Rattle.sky_model.specs.DatabaseCalls.{DatabaseCall, stepped, entered, failed, worked, served, database_does, database_part}
 use Rattle.sky_model.specs.Promises.{after_all}
 use Rattle.sky_model.specs.HistoryPlaces.{IsPlace}
@@ -121,6 +122,7 @@ moment_of (stepped who stmt now) = Some now
 moment_of (entered who outside) = None
 moment_of (failed who now) = Some now
 moment_of (worked part now) = Some now
+moment_of (served (making_root name queue now)) = Some now
 moment_of (served call) = None
 
 -- the mark of a retry that comes back at that moment, or a mark of something else

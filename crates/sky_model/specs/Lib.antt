@@ -25,6 +25,7 @@ pub mod ShownRows
 pub mod Outcome
 pub mod Stops
 pub mod Permits
+pub mod CallPermits
 pub mod Allowed
 pub mod Made
 pub mod OwnTransaction

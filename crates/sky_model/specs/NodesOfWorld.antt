@@ -52,10 +52,14 @@ abbrev pub root_of : ℕ → Checked Outcome → Checked WorldOutcome
 root_of d (Ok making) = Ok (record { replies = Done ∷ []; facts = map (within d) making.marks ++ node_made d ∷ [] })
 root_of d (Err refusal) = Err refusal
 
+-- why a database may not get a node of this name: there is one, or the database has a node
+abbrev pub refuses_new : World → ℕ → List ℕ → Checked (Unit {0})
+refuses_new w d name = refused_if (is_some (node_called w name) || is_some (w.database d).node) (NodeExists name)
+
 -- `create_root NAME NAME`: a root in the session's database, with the set's queue
 abbrev pub create_root : World → ℕ → (name queue : List ℕ) → Checked WorldOutcome
 create_root w d name queue = do
-  refused_if (is_some (node_called w name) || is_some (w.database d).node) (NodeExists name)
+  refuses_new w d name
   root_of d (makes_root (w.database d) w.now name queue)
 
 -- a leaf of a provider, in whose database its consumer has joined the set's queue
@@ -69,7 +73,7 @@ leaf_of d provider name provider_name tick (Err refusal) = Err refusal
 -- `create_leaf NAME NAME`: a leaf in the session's database, whose tick is the newest of its provider's queue
 abbrev pub create_leaf : World → ℕ → (name provider : List ℕ) → Checked WorldOutcome
 create_leaf w d name provider = do
-  refused_if (is_some (node_called w name) || is_some (w.database d).node) (NodeExists name)
+  refuses_new w d name
   p ← found_or (node_called w provider) (NoNode provider)
   queue ← found_or (set_queue (w.database p.database)) (NotProvider provider)
   leaf_of d p.database name provider (newest_id ((w.database p.database).queue queue)) (joins (w.database p.database) queue name)

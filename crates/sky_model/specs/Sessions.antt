@@ -17,6 +17,10 @@ pub data Block : Type 0 where
   inside : Block
   failed : Block
 
+abbrev pub is_outside : Block → Bool
+is_outside outside = true
+is_outside _ = false
+
 abbrev pub block : ℕ → History → Block
 block who [] = outside
 block who (block_begun w ∷ h) = if w == who then inside else block who h

@@ -3,6 +3,7 @@ use Rattle.std.specs.Prelude.{ℕ, ◌+◌, ◌^◌, List, [], ◌∷◌, Bool, 
 use Rattle.std.specs.List.{list_any}
 use Rattle.sky_val.specs.declared.event.Event.{Event}
 use Rattle.pgq_retry.specs.Retries.{count_of}
+use Rattle.sky_model.specs.declared.stmt.ConsumerPosition.{ConsumerPosition}
 use Rattle.sky_model.specs.declared.reply.BatchInfo as shown_batch
 use Rattle.sky_model.specs.declared.reply.ConsumerInfo as shown_consumer
 use Rattle.sky_model.specs.declared.reply.Reply.TheVariants.{Number, Null, Events, BatchInfo, ConsumerInfo}
@@ -49,13 +50,13 @@ abbrev pub floor : Queue → ℕ
 floor q = id_of (find (λ t. is_above (if is_some q.event_tables.pending then second_step_of q.event_tables else 0) t) q.tick_list)
 
 -- `register_consumer_at NAME CONSUMER N`: the same at the tick of this id; one that is registered is moved there
-abbrev pub register_consumer_at : Database → (name consumer : List ℕ) → ℕ → Checked Outcome
-register_consumer_at d name consumer id = do
-  queue ← queue_called name d
-  refused_if (is_nodes d name consumer) NodeConsumer
-  refused_if (id == 0 || nat_lt (newest_id (d.queue queue)) id) (NoTick id (newest_id (d.queue queue)))
-  refused_if (nat_lt id (floor (d.queue queue))) (TickTooOld id (floor (d.queue queue)))
-  if is_some ((d.queue queue).sub consumer) then does_marks (Number 0) (queued (moved queue consumer id) ∷ []) else registers d queue consumer id
+abbrev pub register_consumer_at : Database → ConsumerPosition → Checked Outcome
+register_consumer_at d position = do
+  queue ← queue_called position.queue d
+  refused_if (is_nodes d position.queue position.consumer) NodeConsumer
+  refused_if (position.tick == 0 || nat_lt (newest_id (d.queue queue)) position.tick) (NoTick position.tick (newest_id (d.queue queue)))
+  refused_if (nat_lt position.tick (floor (d.queue queue))) (TickTooOld position.tick (floor (d.queue queue)))
+  if is_some ((d.queue queue).sub position.consumer) then does_marks (Number 0) (queued (moved queue position.consumer position.tick) ∷ []) else registers d queue position.consumer position.tick
 
 -- a consumer leaves, if it is registered
 abbrev pub leaves : ℕ → List ℕ → Option Subscription → Checked Outcome

@@ -4,6 +4,8 @@ use Rattle.std.specs.List.{list_any}
 use Rattle.sky_val.specs.declared.event.Event.{Event}
 use Rattle.sky_urlenc.specs.Changes.{op_named}
 use Rattle.sky_model.specs.declared.stmt.Extra.{Extra}
+use Rattle.sky_model.specs.declared.stmt.QueueSetting.{QueueSetting}
+use Rattle.sky_model.specs.declared.stmt.InsertedEvent.{InsertedEvent}
 use Rattle.sky_model.specs.declared.reply.QueueInfo as reply
 use Rattle.sky_model.specs.declared.reply.Reply.TheVariants.{Number, Null, QueueInfo}
 use Rattle.sky_model.specs.declared.reply.Limit.TheVariants.{Queues}
@@ -89,14 +91,14 @@ abbrev pub tells_of_rows : Option (List ℕ) → Bool
 tells_of_rows ev_type = is_some (option_and_then op_named ev_type)
 
 -- `insert_event NAME TVAL TVAL`, or with four more TVAL: an event with the next id of the queue's sequence
-abbrev pub insert_event : Database → ℤ → ℕ → List ℕ → Option (List ℕ) → Option (List ℕ) → Option Extra → Checked Outcome
-insert_event d now who name ev_type ev_data extra = do
-  queue ← queue_called name d
-  refused_if (is_set_queue name d.node && tells_of_rows ev_type) ReservedType
+abbrev pub insert_event : Database → ℤ → ℕ → InsertedEvent → Checked Outcome
+insert_event d now who event = do
+  queue ← queue_called event.queue d
+  refused_if (is_set_queue event.queue d.node && tells_of_rows event.ev_type) ReservedType
   t ← txid_for d.part who
   id ← next_event_id (d.queue queue)
   does_marks (Number id)
-      (in_own who t (d.part.session who) (queued (raised queue id) ∷ queued (put queue (made_event id now t ev_type ev_data extra)) ∷ []))
+      (in_own who t (d.part.session who) (queued (raised queue id) ∷ queued (put queue (made_event id now t event.ev_type event.ev_data event.extra)) ∷ []))
 
 -- without new events a tick is due if no other tick is kept, or the queue has been idle long enough: twice the lag reaches the limit, and the lag
 -- reaches twice the time between the last two ticks, or the idle period
@@ -158,11 +160,11 @@ force_tick d name = do
   does_marks (Number (newest_id (d.queue queue))) (queued (raised queue ((d.queue queue).seq + forced (d.queue queue).config)) ∷ [])
 
 -- `set_queue_config NAME RAW RAW`: a parameter of the queue gets a value
-abbrev pub set_queue_config : Database → (name param value : List ℕ) → Checked Outcome
-set_queue_config d name param value = do
-  queue ← queue_called name d
-  p ← found_or (param_of param) (NoParam param)
-  config ← found_or (configured_by (d.queue queue).config p value) (BadValue param)
+abbrev pub set_queue_config : Database → QueueSetting → Checked Outcome
+set_queue_config d setting = do
+  queue ← queue_called setting.queue d
+  p ← found_or (param_of setting.param) (NoParam setting.param)
+  config ← found_or (configured_by (d.queue queue).config p setting.value) (BadValue setting.param)
   does_marks (Number 1) (queued (configured queue config) ∷ [])
 
 -- what is shown of a queue: of its event tables the number of the current one, and how many events each has, dead ones among them

@@ -3,6 +3,7 @@ use Rattle.std.specs.Prelude.{ℕ, ◌*◌, ℤ, pos, ◌+ℤ◌, List, [], ◌�
 use Rattle.sky_val.specs.declared.event.Event.{Event}
 use Rattle.pgq_retry.specs.declared.retry.Retry.{Retry}
 use Rattle.pgq_retry.specs.Retries.{is_asked, due_now}
+use Rattle.sky_model.specs.declared.stmt.RetriedEvent.{RetriedEvent}
 use Rattle.sky_model.specs.declared.reply.Reply.TheVariants.{Number}
 use Rattle.sky_model.specs.declared.reply.Refusal.TheVariants.{NoBatch, NodeConsumer, NoEvent}
 use Rattle.sky_model.specs.History.{Batch, Mark, of_worker, began, ended, queued, put, asked, returned}
@@ -23,13 +24,13 @@ asks_for d retry =
 
 -- `event_retry N N N`, by the events of each active batch: of those with the id the first one in the batch. An id without an active batch
 -- has no events either: both are none together, so both look-ups answer NoBatch in the same case
-abbrev pub event_retry : Database → (ℕ → Option (List Event)) → ℤ → (id event seconds : ℕ) → Checked Outcome
-event_retry d events_of now id event seconds = do
-  events ← found_or (events_of id) NoBatch
-  batch ← found_or (d.batch id) NoBatch
+abbrev pub event_retry : Database → (ℕ → Option (List Event)) → ℤ → RetriedEvent → Checked Outcome
+event_retry d events_of now again = do
+  events ← found_or (events_of again.batch) NoBatch
+  batch ← found_or (d.batch again.batch) NoBatch
   refused_if (is_nodes_batch d batch) NodeConsumer
-  e ← found_or (find (λ e. e.ev_id == event) events) NoEvent
-  asks_for d (retry_of now seconds batch e)
+  e ← found_or (find (λ e. e.ev_id == again.event) events) NoEvent
+  asks_for d (retry_of now again.seconds batch e)
 
 -- the marks of retries that come back in a transaction, one after another
 abbrev pub back : ℤ → ℕ → List Retry → List Mark

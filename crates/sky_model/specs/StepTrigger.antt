@@ -2,6 +2,7 @@
 use Rattle.std.specs.Prelude.{ℕ, List, [], ◌∷◌, Bool, false, not, ◌&&◌, Option, Some, None, option_map, nat_le, length, find, bytes_eq}
 use Rattle.std.specs.List.{list_any}
 use Rattle.sky_val.specs.declared.column.Column.{Column}
+use Rattle.sky_model.specs.declared.stmt.AddedTrigger.{AddedTrigger}
 use Rattle.sky_model.specs.declared.reply.Reply.TheVariants.{Done}
 use Rattle.sky_model.specs.declared.reply.Limit.TheVariants.{Triggers}
 use Rattle.sky_model.specs.declared.reply.Refusal.TheVariants.{BadColumn, SetQueue, TableBusy, TooMany, TriggerExists}
@@ -29,13 +30,13 @@ abbrev pub may_ignore : List Column → List ℕ → Bool
 may_ignore columns name = list_any (λ c. bytes_eq c.name name && not c.key) columns
 
 -- `add_trigger NAME TABLE NAME`, with `backup` or without, and with names to ignore
-abbrev pub add_trigger : Database → (name table queue : List ℕ) → Bool → List (List ℕ) → Checked Outcome
-add_trigger d name table_name queue_name backup ignored = do
-  table ← table_called table_name d.part
-  queue ← queue_called queue_name d
-  refused_if (is_set_queue queue_name d.node) SetQueue
-  refused_if (has_trigger name (triggers_of table d.triggers)) (TriggerExists name)
+abbrev pub add_trigger : Database → AddedTrigger → Checked Outcome
+add_trigger d trigger = do
+  table ← table_called trigger.table d.part
+  queue ← queue_called trigger.queue d
+  refused_if (is_set_queue trigger.queue d.node) SetQueue
+  refused_if (has_trigger trigger.name (triggers_of table d.triggers)) (TriggerExists trigger.name)
   refused_if (nat_le (most_of Triggers) (length (triggers_of table d.triggers))) (TooMany Triggers)
-  refused_by (option_map BadColumn (find (λ column. not (may_ignore (d.part.columns table) column)) ignored))
+  refused_by (option_map BadColumn (find (λ column. not (may_ignore (d.part.columns table) column)) trigger.ignored))
   refused_by (option_map TableBusy (least_writer d.part table))
-  does_marks Done (queued (traced table (Some name) (record { queue = queue; backup = backup; ignored = ignored })) ∷ [])
+  does_marks Done (queued (traced table (Some trigger.name) (record { queue = queue; backup = trigger.backup; ignored = trigger.ignored })) ∷ [])

@@ -24,7 +24,8 @@ pub use reply::{
     Refusal, Replies, Reply, Rows, Waiters,
 };
 pub use stmt::{
-    Attempt, BoxedExtra, Change, ColumnNames, Columns, DbStmt, Extra, NodeStmt, QueueStmt, RowStmt,
-    Set, Sets, Stmt, Where, WorldStmt,
+    AddedTrigger, Attempt, BoxedExtra, Change, ColumnNames, Columns, ConsumerPosition, DbStmt,
+    Extra, InsertedEvent, NodeStmt, QueueSetting, QueueStmt, RetriedEvent, RowStmt, Set, Sets,
+    Stmt, Where, WorldStmt,
 };
 pub use stop::Stop;

@@ -272,102 +272,93 @@ impl Drop for RowStmt {
     }
 }
 
+/// A parameter of a queue, and the value that it gets.
+#[derive(Debug, Drop)]
+pub struct QueueSetting {
+    pub queue: Text,
+    pub param: Text,
+    pub value: Text,
+}
+
+/// An event that is put into a queue: its type, its data, and further texts if it has any.
+#[derive(Debug, Drop)]
+pub struct InsertedEvent {
+    pub queue: Text,
+    pub ev_type: Option<Text>,
+    pub ev_data: Option<Text>,
+    pub extra: Option<BoxedExtra>,
+}
+
+/// A trigger of this name, whose events record the writes of a table in a queue: with the rows before, or without, and
+/// without these columns.
+#[derive(Debug, Drop)]
+pub struct AddedTrigger {
+    pub name: Text,
+    pub table: Text,
+    pub queue: Text,
+    pub backup: bool,
+    pub ignored: ColumnNames,
+}
+
+/// A consumer of a queue, and the id of the tick that becomes its position.
+#[derive(Debug, Drop)]
+pub struct ConsumerPosition {
+    pub queue: Text,
+    pub consumer: Text,
+    pub tick: u64,
+}
+
+/// An event of a batch, by their ids, and in how many seconds it is to come back.
+#[derive(Debug, Drop)]
+pub struct RetriedEvent {
+    pub batch: u64,
+    pub event: u64,
+    pub seconds: u64,
+}
+
 /// A statement on queues, their consumers and triggers, with the words of its line in their order.
 #[derive(Debug)]
 pub enum QueueStmt {
     /// `create_queue NAME`
-    CreateQueue {
-        queue: Text,
-    },
+    CreateQueue { queue: Text },
     /// `drop_queue NAME`
-    DropQueue {
-        queue: Text,
-    },
+    DropQueue { queue: Text },
     /// `set_queue_config NAME RAW RAW`
-    SetQueueConfig {
-        queue: Text,
-        param: Text,
-        value: Text,
-    },
+    SetQueueConfig(QueueSetting),
     /// `queue_info NAME`
-    QueueInfo {
-        queue: Text,
-    },
+    QueueInfo { queue: Text },
     /// `insert_event NAME TVAL TVAL`, or with four more TVAL
-    InsertEvent {
-        queue: Text,
-        ev_type: Option<Text>,
-        ev_data: Option<Text>,
-        extra: Option<BoxedExtra>,
-    },
+    InsertEvent(InsertedEvent),
     /// `add_trigger NAME TABLE NAME`, then `backup` or not, then `ignore=` and names or not
-    AddTrigger {
-        name: Text,
-        table: Text,
-        queue: Text,
-        backup: bool,
-        ignored: ColumnNames,
-    },
+    AddTrigger(AddedTrigger),
     /// `ticker NAME`
-    Ticker {
-        queue: Text,
-    },
+    Ticker { queue: Text },
     /// `force_tick NAME`
-    ForceTick {
-        queue: Text,
-    },
+    ForceTick { queue: Text },
     /// `register_consumer NAME CONSUMER`
-    RegisterConsumer {
-        queue: Text,
-        consumer: Text,
-    },
+    RegisterConsumer { queue: Text, consumer: Text },
     /// `register_consumer_at NAME CONSUMER N`
-    RegisterConsumerAt {
-        queue: Text,
-        consumer: Text,
-        tick: u64,
-    },
+    RegisterConsumerAt(ConsumerPosition),
     /// `unregister_consumer NAME CONSUMER`
-    UnregisterConsumer {
-        queue: Text,
-        consumer: Text,
-    },
+    UnregisterConsumer { queue: Text, consumer: Text },
     /// `next_batch NAME CONSUMER`
-    NextBatch {
-        queue: Text,
-        consumer: Text,
-    },
+    NextBatch { queue: Text, consumer: Text },
     /// `get_batch_events N`
-    GetBatchEvents {
-        batch: u64,
-    },
+    GetBatchEvents { batch: u64 },
     /// `get_batch_info N`
-    GetBatchInfo {
-        batch: u64,
-    },
+    GetBatchInfo { batch: u64 },
     /// `event_retry N N N`: a batch, an event, and seconds
-    EventRetry {
-        batch: u64,
-        event: u64,
-        seconds: u64,
-    },
+    EventRetry(RetriedEvent),
     /// `finish_batch N`
-    FinishBatch {
-        batch: u64,
-    },
+    FinishBatch { batch: u64 },
     /// `maint_retry_events`
     MaintRetryEvents,
     /// `maint_rotate_step1 NAME`
-    MaintRotateStep1 {
-        queue: Text,
-    },
+    MaintRotateStep1 { queue: Text },
     /// `maint_rotate_step2`
     MaintRotateStep2,
     /// `consumer_info NAME CONSUMER`
-    ConsumerInfo {
-        queue: Text,
-        consumer: Text,
-    },
+    ConsumerInfo { queue: Text, consumer: Text },
 }
 
 // By hand, as for the statements on rows.
@@ -376,36 +367,17 @@ impl Drop for QueueStmt {
         match self {
             QueueStmt::CreateQueue { queue: _ } => {}
             QueueStmt::DropQueue { queue: _ } => {}
-            QueueStmt::SetQueueConfig {
-                queue: _,
-                param: _,
-                value: _,
-            } => {}
+            QueueStmt::SetQueueConfig(_) => {}
             QueueStmt::QueueInfo { queue: _ } => {}
-            QueueStmt::InsertEvent {
-                queue: _,
-                ev_type: _,
-                ev_data: _,
-                extra: _,
-            } => {}
-            QueueStmt::AddTrigger {
-                name: _,
-                table: _,
-                queue: _,
-                backup: _,
-                ignored: _,
-            } => {}
+            QueueStmt::InsertEvent(_) => {}
+            QueueStmt::AddTrigger(_) => {}
             QueueStmt::Ticker { queue: _ } => {}
             QueueStmt::ForceTick { queue: _ } => {}
             QueueStmt::RegisterConsumer {
                 queue: _,
                 consumer: _,
             } => {}
-            QueueStmt::RegisterConsumerAt {
-                queue: _,
-                consumer: _,
-                tick: _,
-            } => {}
+            QueueStmt::RegisterConsumerAt(_) => {}
             QueueStmt::UnregisterConsumer {
                 queue: _,
                 consumer: _,
@@ -416,11 +388,7 @@ impl Drop for QueueStmt {
             } => {}
             QueueStmt::GetBatchEvents { batch: _ } => {}
             QueueStmt::GetBatchInfo { batch: _ } => {}
-            QueueStmt::EventRetry {
-                batch: _,
-                event: _,
-                seconds: _,
-            } => {}
+            QueueStmt::EventRetry(_) => {}
             QueueStmt::FinishBatch { batch: _ } => {}
             QueueStmt::MaintRetryEvents => {}
             QueueStmt::MaintRotateStep1 { queue: _ } => {}

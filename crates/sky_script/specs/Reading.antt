@@ -2,10 +2,9 @@
 use Rattle.std.specs.Prelude.{◌≡◌, ℕ, ◌-◌, ◌<◌, nat_lt, ◌==◌, ◌&&◌, List, [], ◌∷◌, length, filter, Option, Some, Result, Ok, Err}
 use Rattle.sky_model.specs.declared.stmt.Extra.{Extra}
 use Rattle.sky_model.specs.declared.stmt.Stmt.{Stmt}
-use Rattle.sky_model.specs.declared.stmt.QueueStmt.TheVariants.{InsertEvent}
 use Rattle.sky_model.specs.declared.line.Fixed.{Fixed}
 use Rattle.sky_model.specs.Kinds.{Kind, Of}
-use Rattle.sky_model.specs.Grammar.{GrammarRow, one, last, some_last, some_until, on_queues, extra_row, all_forms, named_form, reads_on, reads}
+use Rattle.sky_model.specs.Grammar.{GrammarRow, one, last, some_last, some_until, inserted_event, extra_row, all_forms, named_form, reads_on, reads}
 use Rattle.sky_script.specs.declared.cause.LineCause.{LineCause}
 use Rattle.sky_script.specs.declared.cause.LineCause.TheVariants.{NotUtf8, BadWord, NoMemory}
 use Rattle.sky_script.specs.Unread.{Unread}
@@ -42,7 +41,7 @@ ReadsLast k (Err cause) old = (make : Of k → Stmt) → Answers (Err cause) (la
 
 -- the four further texts of an event were read, and the line's end, or the cause says why not
 abbrev pub ReadsExtra : Result Extra LineCause → Unread → Type 0
-ReadsExtra (Ok extra) old = (queue : List ℕ) (ev_type ev_data : Option (List ℕ)) → Answers (Ok (on_queues (InsertEvent queue ev_type ev_data (Some extra)))) (extra_row queue ev_type ev_data) old
+ReadsExtra (Ok extra) old = (queue : List ℕ) (ev_type ev_data : Option (List ℕ)) → Answers (Ok (inserted_event queue ev_type ev_data (Some extra))) (extra_row queue ev_type ev_data) old
 ReadsExtra (Err cause) old = (queue : List ℕ) (ev_type ev_data : Option (List ℕ)) → Answers (Err cause) (extra_row queue ev_type ev_data) old
 
 -- these values were read, to the line's end

@@ -8,7 +8,10 @@ ghost use Rattle.sky_script.specs.Reading.{Answers, ReadsExtra};
 
 use crate::cause::LineCause;
 use crate::words::Words;
-use sky_model::{BoxedExtra, DbStmt, Extra, QueueStmt, Stmt};
+use sky_model::{
+    BoxedExtra, ConsumerPosition, DbStmt, Extra, InsertedEvent, QueueSetting, QueueStmt,
+    RetriedEvent, Stmt,
+};
 use std::alloc::Global;
 
 pub(crate) fn create_queue(alloc: Global, words: &mut Words) -> Result<Stmt, LineCause>
@@ -27,17 +30,18 @@ pub(crate) fn drop_queue(alloc: Global, words: &mut Words) -> Result<Stmt, LineC
 
 pub(crate) fn set_queue_config(alloc: Global, words: &mut Words) -> Result<Stmt, LineCause>
     ensures { let row = one Name (λ queue. one Raw (λ param.
-        last Raw (λ value. on_queues (QueueStmt.SetQueueConfig queue param value)))) in
+        last Raw (λ value. on_queues (QueueStmt.SetQueueConfig (record { queue = queue; param = param; value = value }))))) in
         Answers result row words.old }
 {
     let queue = words.name(alloc)?;
     let param = words.raw(alloc)?;
     let value = words.last_raw(alloc)?;
-    Ok(Stmt::Db(DbStmt::Queue(QueueStmt::SetQueueConfig {
+    let setting = QueueSetting {
         queue,
         param,
         value,
-    })))
+    };
+    Ok(Stmt::Db(DbStmt::Queue(QueueStmt::SetQueueConfig(setting))))
 }
 
 pub(crate) fn queue_info(alloc: Global, words: &mut Words) -> Result<Stmt, LineCause>
@@ -54,20 +58,22 @@ pub(crate) fn insert_event(alloc: Global, words: &mut Words) -> Result<Stmt, Lin
     let ev_type = words.opt_text(alloc)?;
     let ev_data = words.opt_text(alloc)?;
     if words.at_end() {
-        return Ok(Stmt::Db(DbStmt::Queue(QueueStmt::InsertEvent {
+        let event = InsertedEvent {
             queue,
             ev_type,
             ev_data,
             extra: None,
-        })));
+        };
+        return Ok(Stmt::Db(DbStmt::Queue(QueueStmt::InsertEvent(event))));
     }
     let extra = extra(alloc, words)?;
-    Ok(Stmt::Db(DbStmt::Queue(QueueStmt::InsertEvent {
+    let event = InsertedEvent {
         queue,
         ev_type,
         ev_data,
         extra: Some(extra),
-    })))
+    };
+    Ok(Stmt::Db(DbStmt::Queue(QueueStmt::InsertEvent(event))))
 }
 
 /// The four further texts of an event, to the line's end.
@@ -112,17 +118,18 @@ pub(crate) fn register_consumer(alloc: Global, words: &mut Words) -> Result<Stmt
 
 pub(crate) fn register_consumer_at(alloc: Global, words: &mut Words) -> Result<Stmt, LineCause>
     ensures { let row = one Name (λ queue. one Dotted (λ consumer.
-        last (Number (2 ^ 64 - 1)) (λ tick. on_queues (QueueStmt.RegisterConsumerAt queue consumer tick)))) in
+        last (Number (2 ^ 64 - 1)) (λ tick. on_queues (QueueStmt.RegisterConsumerAt (record { queue = queue; consumer = consumer; tick = tick }))))) in
         Answers result row words.old }
 {
     let queue = words.name(alloc)?;
     let consumer = words.dotted(alloc)?;
     let tick = words.last_id()?;
-    Ok(Stmt::Db(DbStmt::Queue(QueueStmt::RegisterConsumerAt {
+    let position = ConsumerPosition {
         queue,
         consumer,
         tick,
-    })))
+    };
+    Ok(Stmt::Db(DbStmt::Queue(QueueStmt::RegisterConsumerAt(position))))
 }
 
 pub(crate) fn unregister_consumer(alloc: Global, words: &mut Words) -> Result<Stmt, LineCause>
@@ -159,18 +166,19 @@ pub(crate) fn get_batch_info(words: &mut Words) -> Result<Stmt, LineCause>
 
 pub(crate) fn event_retry(words: &mut Words) -> Result<Stmt, LineCause>
     ensures { let row = one (Number (2 ^ 64 - 1)) (λ batch. one (Number (2 ^ 64 - 1)) (λ event.
-        last (Number 1_000_000_000) (λ seconds. on_queues (QueueStmt.EventRetry batch event seconds)))) in
+        last (Number 1_000_000_000) (λ seconds. on_queues (QueueStmt.EventRetry (record { batch = batch; event = event; seconds = seconds }))))) in
         Answers result row words.old }
 {
     let batch = words.number(u64::MAX)?;
     let event = words.number(u64::MAX)?;
     let seconds = words.number(1_000_000_000)?;
     words.end()?;
-    Ok(Stmt::Db(DbStmt::Queue(QueueStmt::EventRetry {
+    let again = RetriedEvent {
         batch,
         event,
         seconds,
-    })))
+    };
+    Ok(Stmt::Db(DbStmt::Queue(QueueStmt::EventRetry(again))))
 }
 
 pub(crate) fn finish_batch(words: &mut Words) -> Result<Stmt, LineCause>

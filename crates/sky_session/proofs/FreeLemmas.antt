@@ -22,6 +22,7 @@ use Rattle.sky_session.specs.declared.answer.RowStep.{RowStep}
 use Rattle.sky_session.specs.Effects.{with_effects}
 use Rattle.sky_session.specs.Finding.{IsFree, shown_at, change_shown}
 use Rattle.sky_session.specs.Gives.{Does, Runs, Writes}
+use Rattle.sky_state.specs.declared.places.Places.{Places}
 use Rattle.sky_state.specs.Views.{RowStateView}
 use Rattle.sky_state.specs.Seen.{seen}
 
@@ -150,32 +151,32 @@ change-unfound gate g state step who table key attempt new_of result stop is sto
     (keeps-same stop (seen state)) (keeps-same stop g) (keeps-same stop step)
 
 -- one of a row that the session may change
-pub changed : {G : Type 0} (gate : Gate G) (g g' : G) (old new : RowStateView) (before after : RowStep) (who txid table : ℕ) (key : List Val) (place : Option ℕ) (row : List Val) (attempt : Attempt)
-    (new_of : List Val → Checked (Option (List Val))) (made : Option (List Val)) → IsFree old who table key place row → new_of row ≡ Ok made
+pub changed : {G : Type 0} (gate : Gate G) (g g' : G) (old new : RowStateView) (before after : RowStep) (who txid table : ℕ) (key : List Val) (places : Places) (row : List Val) (attempt : Attempt)
+    (new_of : List Val → Checked (Option (List Val))) (made : Option (List Val)) → IsFree old who table key places row → new_of row ≡ Ok made
     → gated gate g (writes_key (seen old) who table key (Some row) made) ≡ does_marks (Number 1) (in_own who txid ((seen old).session who) (tabled (wrote (of_session who) txid table key (Some row) made) ∷ []))
     → g' ≡ passed_all gate g (marks_of (gated gate g (writes_key (seen old) who table key (Some row) made))) → after.replies ≡ before.replies ++ (who, Number 1) ∷ []
     → after.effects ≡ with_effects before.effects (in_own who txid ((seen old).session who) (tabled (wrote (of_session who) txid table key (Some row) made) ∷ []))
     → seen new ≡ after_part_marks (seen old) (in_own who txid ((seen old).session who) (tabled (wrote (of_session who) txid table key (Some row) made) ∷ []))
     → Writes gate (old, g) (new, g') before after who (Ok tt) (change_shown old who table key attempt new_of)
-changed gate g g' old new before after who txid table key place row attempt new_of made finds is does passed replied told after_marks =
+changed gate g g' old new before after who txid table key places row attempt new_of made finds is does passed replied told after_marks =
     key-written gate g g' old new before after who txid table key (Some row) made (change_shown old who table key attempt new_of)
     (change-free gate g (seen old) (shown_at old who table key) who table key attempt new_of (shown_at old who table key).row row made finds.shown finds.free finds.sees is) does passed replied told after_marks
 
 -- one that stops at its new row
-pub change-stopped : {G : Type 0} (gate : Gate G) (g : G) (state : RowStateView) (step : RowStep) (who table : ℕ) (key : List Val) (place : Option ℕ) (row : List Val) (attempt : Attempt)
-    (new_of : List Val → Checked (Option (List Val))) (result : Result (Unit {0}) Stop) (stop : Stop) → IsErrAnd result (λ s. s ≡ stop) → IsFree state who table key place row → StopsAs stop (new_of row)
+pub change-stopped : {G : Type 0} (gate : Gate G) (g : G) (state : RowStateView) (step : RowStep) (who table : ℕ) (key : List Val) (places : Places) (row : List Val) (attempt : Attempt)
+    (new_of : List Val → Checked (Option (List Val))) (result : Result (Unit {0}) Stop) (stop : Stop) → IsErrAnd result (λ s. s ≡ stop) → IsFree state who table key places row → StopsAs stop (new_of row)
     → Writes gate (state, g) (state, g) step step who result (change_shown state who table key attempt new_of)
-change-stopped gate g state step who table key place row attempt new_of result stop is finds stops =
+change-stopped gate g state step who table key places row attempt new_of result stop is finds stops =
     writes-stopped gate g g state state step step who result stop (change_shown state who table key attempt new_of) is
     (change-stops gate g (seen state) (shown_at state who table key) who table key attempt new_of (shown_at state who table key).row row stop finds.shown finds.free finds.sees stops) (keeps-same stop (seen state))
     (keeps-same stop g) (keeps-same stop step)
 
 -- one that stops at its write
-pub change-untold : {G : Type 0} (gate : Gate G) (g g' : G) (state : RowStateView) (before after : RowStep) (who table : ℕ) (key : List Val) (place : Option ℕ) (row : List Val) (attempt : Attempt)
-    (new_of : List Val → Checked (Option (List Val))) (made : Option (List Val)) (result : Result (Unit {0}) Stop) (stop : Stop) → IsErrAnd result (λ s. s ≡ stop) → IsFree state who table key place row
+pub change-untold : {G : Type 0} (gate : Gate G) (g g' : G) (state : RowStateView) (before after : RowStep) (who table : ℕ) (key : List Val) (places : Places) (row : List Val) (attempt : Attempt)
+    (new_of : List Val → Checked (Option (List Val))) (made : Option (List Val)) (result : Result (Unit {0}) Stop) (stop : Stop) → IsErrAnd result (λ s. s ≡ stop) → IsFree state who table key places row
     → new_of row ≡ Ok made → StopsAs stop (gated gate g (writes_key (seen state) who table key (Some row) made)) → Keeps stop g g' → after.replies ≡ before.replies → Keeps stop before.effects after.effects
     → Writes gate (state, g) (state, g') before after who result (change_shown state who table key attempt new_of)
-change-untold gate g g' state before after who table key place row attempt new_of made result stop is finds new stops passes replied told =
+change-untold gate g g' state before after who table key places row attempt new_of made result stop is finds new stops passes replied told =
     writes-stopped gate g g' state state before after who result stop (change_shown state who table key attempt new_of) is
     (subst (StopsAs stop) (sym (change-free gate g (seen state) (shown_at state who table key) who table key attempt new_of (shown_at state who table key).row row made finds.shown finds.free finds.sees new)) stops)
     (keeps-same stop (seen state)) passes (keeps-step stop before after replied told)

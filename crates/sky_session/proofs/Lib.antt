@@ -3,3 +3,4 @@ pub mod LockLemmas
 pub mod FormLemmas
 pub mod WrittenLemmas
 pub mod FreeLemmas
+pub mod CommitLemmas

@@ -1,5 +1,5 @@
 -- A write in a session's transaction.
-use Rattle.std.proofs.Common.{◌≡◌, ℕ, List, [], ◌∷◌, ◌++◌, Bool, true, false, Option, Some, None, Ok, Err, refl, ◌∙◌, ap}
+use Rattle.std.proofs.Common.{◌≡◌, ℕ, List, [], ◌∷◌, ◌++◌, Bool, true, false, Option, Some, None, Ok, Err, refl, sym, ◌∙◌, ap}
 use Rattle.std.specs.Prelude.{not, ◌&&◌}
 use Rattle.sky_val.specs.declared.val.Val.{Val}
 use Rattle.sky_model.specs.History.{Mark, of_session, tabled, wrote}
@@ -12,12 +12,18 @@ use Rattle.sky_model.specs.Outcome.{◌>>=◌, ◌>>◌, refused_if, does_marks}
 use Rattle.sky_model.specs.OwnTransaction.{txid_for, begin_of, commit_of, in_own}
 use Rattle.sky_model.specs.StepRows.{writes_key}
 use Rattle.sky_model.specs.Gates.{Gate, takes_all, gated}
+use Rattle.sky_state.specs.Views.{RowStateView}
+use Rattle.sky_state.specs.Seen.{places_in}
 use Rattle.sky_session.proofs.Steps.{begun-txid, begun-block}
 
 -- a transaction that gets its id holds what it held
 pub holder-begun : (d : RowPart) (who t : ℕ) (own : Option ℕ) → (after_part_marks d (begin_of who t own)).holder ≡ d.holder
 holder-begun d who t None = refl
 holder-begun d who t (Some u) = refl
+
+-- a key is found where it was, if neither tables nor locks have changed
+pub places-kept : (old new : RowStateView) (table : ℕ) (key : List Val) → new.tables ≡ old.tables → new.locks ≡ old.locks → places_in old table key ≡ places_in new table key
+places-kept old new table key tables locks = λ i. places_in (record old { tables = sym tables i; locks = sym locks i }) table key
 
 -- a session has its transaction's id after the write
 pub owns-written : (d one two : RowPart) (who t table : ℕ) (key : List Val) (old new : Option (List Val)) → txid_for d who ≡ Ok t → one ≡ after_part_marks d (begin_of who t (d.session who).txid)

@@ -10,6 +10,7 @@
 #![tactic(auto)]
 
 mod answer;
+mod committing;
 mod effect;
 mod locking;
 mod own_transaction;
@@ -19,6 +20,7 @@ mod settling;
 mod statements;
 
 pub use answer::RowStep;
+pub use committing::CommitPlan;
 pub use effect::{Effect, Effects};
 pub use row_db::RowDb;
 pub use sky_model::WriteGate;

@@ -30,7 +30,7 @@ use crate::row_statements::{check_seen, tell_write, write_key};
 use sky_fits::with_sets;
 use sky_locks::LockKey;
 use sky_model::{Attempt, Refusal, Reply, Sets, Stop, WriteGate};
-use sky_state::RowState;
+use sky_state::{Places, RowState};
 use sky_val::{Row, SessionId};
 
 /// The session waits for the lock holder, or is refused if it would wait for itself.
@@ -83,14 +83,16 @@ pub(crate) fn insert_key<G: WriteGate>(
     requires awake { is_waiting who (seen state.old).waiting ≡ false }
     ensures { Writes G.rule (state.old, gate.old) (state.new, gate.new) step.old step.new who result (attempts (seen state.old) ((rows_by (seen state.old)).key who key.table key.key) who key.table key.key (Insertion row.now)) }
 {
-    if let Some(holder) = state.other_holder(who, &key) {
+    let lock = state.find_lock(&key);
+    if let Some(holder) = state.other_holder(who, &key, lock) {
         let attempt = Attempt::Insertion(row.copy(state.alloc())?);
         return wait(state, who, &key, attempt, holder, step);
     }
     let place = find_room(state, who, &key)?;
+    let places = Places { row: place, lock };
     let row = row.copy(state.alloc())?;
     let txid = tell_write(state, who, &key, None, Some(&row), gate, &mut step.effects)?;
-    Ok(write_key(state, who, txid, key, place, Some(row), step)?)
+    Ok(write_key(state, who, txid, key, places, Some(row), step)?)
 }
 
 /// What an update or a delete finds at its key.
@@ -100,8 +102,8 @@ pub(crate) enum Found<'a> {
     NoRow,
     /// It sees a row, and this other session holds the key.
     Held(SessionId),
-    /// It sees this row, which it may change, and the key has this place.
-    Free(Option<usize>, &'a Row),
+    /// It sees this row, which it may change, and the key is found at these places.
+    Free(Places, &'a Row),
 }
 
 /// Makes the tests that an update and a delete have in common, in their order.
@@ -118,11 +120,12 @@ fn find_row<'a>(state: &'a RowState, who: SessionId, key: &LockKey) -> Result<Fo
     let Some(row) = state.row_shown(who, key.table, &key.key, place, &now) else {
         return Ok(Found::NoRow);
     };
-    if let Some(holder) = state.other_holder(who, key) {
+    let lock = state.find_lock(key);
+    if let Some(holder) = state.other_holder(who, key, lock) {
         return Ok(Found::Held(holder));
     }
     check_seen(state, who, key.table, &key.key, place, &now)?;
-    Ok(Found::Free(place, row))
+    Ok(Found::Free(Places { row: place, lock }, row))
 }
 
 /// Changes the row that the session sees at the key; if there is none, it changes 0 rows.
@@ -138,13 +141,13 @@ pub(crate) fn change_key<G: WriteGate>(
     requires awake { is_waiting who (seen state.old).waiting ≡ false }
     ensures { Writes G.rule (state.old, gate.old) (state.new, gate.new) step.old step.new who result (attempts (seen state.old) ((rows_by (seen state.old)).key who key.table key.key) who key.table key.key (Changes sets.now)) }
 {
-    let (place, old) = match find_row(state, who, &key)? {
+    let (places, old) = match find_row(state, who, &key)? {
         Found::NoRow => return Ok(step.answer(who, Reply::Number(0))?),
         Found::Held(holder) => {
             let attempt = Attempt::Changes(sets.copy(state.alloc())?);
             return wait(state, who, &key, attempt, holder, step);
         }
-        Found::Free(place, old) => (place, old),
+        Found::Free(places, old) => (places, old),
     };
     let columns = state.schema(key.table).columns();
     let new = with_sets(state.alloc(), columns, sets.as_slice(), old)?;
@@ -157,7 +160,7 @@ pub(crate) fn change_key<G: WriteGate>(
         gate,
         &mut step.effects,
     )?;
-    Ok(write_key(state, who, txid, key, place, Some(new), step)?)
+    Ok(write_key(state, who, txid, key, places, Some(new), step)?)
 }
 
 /// Deletes the row that the session sees at the key; if there is none, it deletes 0 rows.
@@ -172,15 +175,15 @@ pub(crate) fn delete_key<G: WriteGate>(
     requires awake { is_waiting who (seen state.old).waiting ≡ false }
     ensures { Writes G.rule (state.old, gate.old) (state.new, gate.new) step.old step.new who result (attempts (seen state.old) ((rows_by (seen state.old)).key who key.table key.key) who key.table key.key Deletion) }
 {
-    let (place, old) = match find_row(state, who, &key)? {
+    let (places, old) = match find_row(state, who, &key)? {
         Found::NoRow => return Ok(step.answer(who, Reply::Number(0))?),
         Found::Held(holder) => {
             return wait(state, who, &key, Attempt::Deletion, holder, step);
         }
-        Found::Free(place, old) => (place, old),
+        Found::Free(places, old) => (places, old),
     };
     let txid = tell_write(state, who, &key, Some(old), None, gate, &mut step.effects)?;
-    Ok(write_key(state, who, txid, key, place, None, step)?)
+    Ok(write_key(state, who, txid, key, places, None, step)?)
 }
 
 /// Makes the session's attempt with the key. A statement that resumes comes in here.

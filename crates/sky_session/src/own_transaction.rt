@@ -12,13 +12,13 @@ ghost use Rattle.sky_model.specs.OwnTransaction.{txid_for, begin_of, commit_of, 
 ghost use Rattle.sky_session.specs.Effects.{with_effects};
 ghost use Rattle.sky_model.specs.Gates.{passed_all};
 ghost use Rattle.sky_model.specs.SessionMarks.{Enters, failing, ending};
-ghost use Rattle.sky_state.specs.Seen.{seen, found_in};
+ghost use Rattle.sky_state.specs.Seen.{seen, places_in};
 
 use crate::effect::{Effect, Effects};
 use sky_fits::{Block, allow};
 use sky_locks::LockKey;
 use sky_model::{Refusal, Where, WriteGate};
-use sky_state::RowState;
+use sky_state::{Places, RowState};
 use sky_val::{NoMemory, Row, SessionId};
 
 /// The id of the session's transaction: its own, or the next one, if there is one.
@@ -80,6 +80,7 @@ pub(crate) fn begin_own(state: &mut RowState, who: SessionId, txid: u64) -> Resu
     ensures ok { OnOk result (seen state.new ≡ after_part_marks (seen state.old) (begin_of who txid ((seen state.old).session who).txid)) }
     ensures err { OnErr result (seen state.new ≡ seen state.old) }
     ensures stay { state.new.tables ≡ state.old.tables }
+    ensures locks { state.new.locks ≡ state.old.locks }
 {
     if state.own_txid(who).is_none() {
         state.began(who)?;
@@ -124,7 +125,7 @@ pub(crate) fn commit_own(
     Ok(())
 }
 
-/// Writes the key, which was found at the place, in the session's transaction, which has this id or gets it. If the
+/// Writes the key, which was found at the places, in the session's transaction, which has this id or gets it. If the
 /// session is in no block, the transaction then commits. A transaction that is this write alone takes no lock: nobody
 /// could wait for it.
 pub(crate) fn write_own(
@@ -132,25 +133,25 @@ pub(crate) fn write_own(
     who: SessionId,
     txid: u64,
     key: LockKey,
-    place: Option<usize>,
+    places: Places,
     row: Option<Row>,
     effects: &mut Effects,
 ) -> Result<(), NoMemory>
     requires id { txid_for (seen state.old) who ≡ Ok txid }
     requires within { key.table < length (seen state.old).tables }
-    requires found { place ≡ found_in state.old key.table key.key }
+    requires found { places ≡ places_in state.old key.table key.key }
     requires free { other_holder (seen state.old).holder who key.table key.key ≡ None }
     ensures marks { OnOk result (seen state.new ≡ after_part_marks (seen state.old)
         (in_own who txid ((seen state.old).session who) (tabled (wrote (of_session who) txid key.table key.key None row) ∷ []))) }
     ensures told { OnOk result (effects.new ≡ with_effects effects.old (commit_of who txid ((seen state.old).session who).block)) }
 {
     if is_alone(state, who) {
-        state.wrote_alone(who, key, place, row)?;
+        state.wrote_alone(who, key, places.row, row)?;
         effects.push(Effect::Committed(txid))?;
         return Ok(());
     }
     begin_own(state, who, txid)?;
-    state.wrote(who, txid, key, place, row)?;
+    state.wrote(who, txid, key, places, row)?;
     commit_own(state, who, txid, effects)?;
     Ok(())
 }

@@ -21,17 +21,18 @@ ghost use Rattle.sky_model.specs.Calls.{row_turn};
 ghost use Rattle.sky_model.specs.RowCalls.{row_stepped, row_entered, row_failed, row_settled, rolled_back, txid_taken, single_ended, worker_begun, worker_ended, row_guarded};
 ghost use Rattle.sky_model.specs.RowSteps.{RowSteps};
 ghost use Rattle.sky_model.specs.Settling.{ready, settling, with_settling};
-ghost use Rattle.sky_session.specs.Committing.{commits_of};
+ghost use Rattle.sky_session.specs.Committing.{commits_of, plan_of, committed_in};
 ghost use Rattle.sky_session.specs.Effects.{with_effects};
 ghost use Rattle.sky_session.specs.Gives.{Settles, Gives, nothing};
 ghost use Rattle.sky_state.specs.Seen.{seen};
 
 use crate::answer::RowStep;
+use crate::committing::{CommitPlan, plan_commit};
 use crate::effect::Effects;
 use crate::own_transaction::{abort_block, admit, begin_own, commit_alone, next_txid, take_own};
 use crate::settling::settle_behind;
-use crate::statements::own_answer;
-use sky_fits::{Block, allow};
+use crate::statements::{commit_answer, own_answer};
+use sky_fits::Block;
 use sky_model::{OpenGate, Refusal, RowStmt, Where, WriteGate};
 use sky_state::RowState;
 use sky_trans::TransFault;
@@ -73,6 +74,14 @@ impl RowDb {
         Some((number, self.state.schema(number)))
     }
 
+    /// The columns of the table of this number.
+    pub fn schema(&self, table: u32) -> &Schema
+        requires { table < length (seen self.now).tables }
+        ensures { result.now ≡ (seen self.now).columns table }
+    {
+        self.state.schema(table)
+    }
+
     /// The snapshot that the session's statements read by.
     pub fn snapshot(&self, who: SessionId) -> Result<Snapshot, NoMemory>
         ensures { IfOk result (λ snapshot. snapshot ≡ snapshot_for (seen self.now) ((seen self.now).session who)) }
@@ -101,19 +110,12 @@ impl RowDb {
         self.state.is_waiting(who)
     }
 
-    /// The id of the transaction that a `commit` of the session makes permanent now; none if it may not commit, is in
-    /// no block or in an aborted one, or its transaction has no id.
-    pub fn commits(&self, who: SessionId) -> Option<u64>
-        ensures { result ≡ commits_of (seen self.now) who }
+    /// What a `commit` of the session does now.
+    pub fn plan_commit(&self, who: SessionId) -> CommitPlan
+        ensures plan { result ≡ plan_of (seen self.now) who }
+        ensures txid { committed_in result ≡ commits_of (seen self.now) who }
     {
-        let waits = self.state.is_waiting(who);
-        if allow(waits, self.state.standing(who), Where::WhenOpen).is_err() {
-            return None;
-        }
-        match self.state.block(who) {
-            Block::Inside => self.state.own_txid(who),
-            _ => None,
-        }
+        plan_commit(&self.state, who)
     }
 
     /// Whether the session is in a transaction block, an aborted one too.
@@ -125,6 +127,8 @@ impl RowDb {
 
     /// Admits a statement that isn't on rows, or refuses it. One that is allowed only `outside` of blocks reads
     /// nothing; any other takes the snapshot of a repeatable read block, if it is the first there.
+    // Always inlined: a refusal is large, and this is on the path of each statement on queues.
+    #[inline(always)]
     pub fn enter(&mut self, who: SessionId, outside: bool) -> Result<Option<Refusal>, NoMemory>
         ensures ok { IfOk result (λ refusal. Enters (seen self.old) (seen self.new) who (entry_place outside) refusal) }
         ensures err { OnErr result (seen self.new ≡ seen self.old) }
@@ -179,6 +183,24 @@ impl RowDb {
             (row_stepped (room_of G.rule gate.old) who stmt.now) (row_turn (by_gate G.rule part_by_itself) (seen self.old, gate.old) who stmt.now)) }
     {
         own_answer(&mut self.state, who, stmt, gate, step)?;
+        settle_behind(&mut self.state, gate, step)?;
+        Ok(())
+    }
+
+    /// A session's `commit`, by the plan for it, and the statements that it unblocks. Its answers and effects are added
+    /// to what was given before.
+    pub fn commit_into<G: WriteGate>(
+        &mut self,
+        who: SessionId,
+        plan: CommitPlan,
+        gate: &mut G,
+        step: &mut RowStep,
+    ) -> Result<(), NoMemory>
+        requires { plan ≡ plan_of (seen self.old) who }
+        ensures { OnOk result (Settles G.rule (seen self.old, gate.old) (seen self.new, gate.new) step.old step.new
+            (row_stepped (room_of G.rule gate.old) who RowStmt.Commit) (row_turn (by_gate G.rule part_by_itself) (seen self.old, gate.old) who RowStmt.Commit)) }
+    {
+        commit_answer(&mut self.state, who, plan, gate, step)?;
         settle_behind(&mut self.state, gate, step)?;
         Ok(())
     }

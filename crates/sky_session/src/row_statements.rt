@@ -23,7 +23,7 @@ ghost use Rattle.sky_val.specs.declared.val.Val.{Val};
 ghost use Rattle.sky_session.specs.Effects.{EffectsView, with_effects};
 ghost use Rattle.sky_session.specs.Gives.{Ran, Writes};
 ghost use Rattle.sky_model.specs.Stops.{StopsAs, Keeps};
-ghost use Rattle.sky_state.specs.Seen.{seen, found_in};
+ghost use Rattle.sky_state.specs.Seen.{seen, found_in, places_in};
 
 use crate::answer::RowStep;
 use crate::effect::{Effect, Effects};
@@ -32,7 +32,7 @@ use crate::own_transaction::{txid_for, write_own};
 use sky_fits::{key_fits, key_stays, new_schema, row_fits, sets_fit};
 use sky_locks::LockKey;
 use sky_model::{Columns, Limit, Refusal, Reply, Rows, Sets, Stop, WriteGate};
-use sky_state::RowState;
+use sky_state::{Places, RowState};
 use sky_txid::Snapshot;
 use sky_urlenc::op_of;
 use sky_val::{Key, NoMemory, Op, Row, SessionId, Text};
@@ -155,27 +155,27 @@ pub(crate) fn tell_write<G: WriteGate>(
     Ok(txid)
 }
 
-/// Makes the write that the gate and the effects have recorded, of a key that was found at the place, and that no other
+/// Makes the write that the gate and the effects have recorded, of a key that was found at the places, and that no other
 /// session holds.
 pub(crate) fn write_key(
     state: &mut RowState,
     who: SessionId,
     txid: u64,
     key: LockKey,
-    place: Option<usize>,
+    places: Places,
     row: Option<Row>,
     step: &mut RowStep,
 ) -> Result<(), NoMemory>
     requires id { txid_for (seen state.old) who ≡ Ok txid }
     requires within { key.table < length (seen state.old).tables }
-    requires found { place ≡ found_in state.old key.table key.key }
+    requires found { places ≡ places_in state.old key.table key.key }
     requires free { other_holder (seen state.old).holder who key.table key.key ≡ None }
     ensures marks { (old : Option (List Val)) → OnOk result (seen state.new ≡ after_part_marks (seen state.old) (in_own who txid ((seen state.old).session who) (tabled (wrote (of_session who) txid key.table key.key old row) ∷ []))) }
     ensures told { (old : Option (List Val)) (before : EffectsView) → step.old.effects ≡ with_effects before (tabled (wrote (of_session who) txid key.table key.key old row) ∷ [])
         → OnOk result (step.new.effects ≡ with_effects before (in_own who txid ((seen state.old).session who) (tabled (wrote (of_session who) txid key.table key.key old row) ∷ []))) }
     ensures replied { OnOk result (step.new.replies ≡ step.old.replies ++ (who, Number 1) ∷ []) }
 {
-    write_own(state, who, txid, key, place, row, &mut step.effects)?;
+    write_own(state, who, txid, key, places, row, &mut step.effects)?;
     step.answer(who, Reply::Number(1))?;
     Ok(())
 }

@@ -11,13 +11,14 @@ use Rattle.sky_val.specs.Entries.{Entries}
 use Rattle.sky_keys.specs.declared.version.Version.{Version}
 use Rattle.sky_txid.specs.Snapshot.{SnapshotView}
 use Rattle.sky_rows.specs.Table.{TableView, place_in}
-use Rattle.sky_locks.specs.Locks.{holder}
+use Rattle.sky_locks.specs.Locks.{holder, slot_place}
 use Rattle.sky_model.specs.declared.stmt.Attempt.{Attempt}
 use Rattle.sky_model.specs.declared.stmt.Attempt.TheVariants.{Deletion}
 use Rattle.sky_model.specs.Sessions as model
 use Rattle.sky_model.specs.State.{RowPart}
 use Rattle.sky_fits.specs.declared.standing.Block.TheVariants.{Outside}
 use Rattle.sky_fits.specs.Blocks.{seen_block}
+use Rattle.sky_state.specs.declared.places.Places.{Places}
 use Rattle.sky_state.specs.declared.session.Sight.{Sight}
 use Rattle.sky_state.specs.declared.session.Sight.TheVariants.{AtEach, AtFirst, AtPlace}
 use Rattle.sky_state.specs.declared.session.Session.{Session}
@@ -56,6 +57,13 @@ versions_of tables n = (table_of tables n).versions
 -- where a key of a table is found, if it has a version
 abbrev pub found_in : RowStateView → ℕ → List Val → Option ℕ
 found_in d table key = place_in (table_of d.tables.values table) key
+
+-- where its slot among the locks is found, if it is held or waited for
+abbrev pub lock_in : RowStateView → ℕ → List Val → Option ℕ
+lock_in d table key = slot_place d.locks table key
+
+abbrev pub places_in : RowStateView → ℕ → List Val → Places
+places_in d table key = record { row = found_in d table key; lock = lock_in d table key }
 
 -- whether a transaction has written in a table: its bit for the table is set
 abbrev pub wrote_in : List (ℕ × ℕ) → (table t : ℕ) → Bool

@@ -24,4 +24,4 @@ pub record RowStateView : Type 0 where
 
 -- those of a database in which nothing has happened
 abbrev pub no_rows : RowStateView
-no_rows = record { trans = record { next = 3; running = [] }; workers = []; sessions = []; tables = record { names = []; values = [] }; read_only = []; writers = []; locks = record { held = []; waiting = [] }; attempts = [] }
+no_rows = record { trans = record { next = 3; running = [] }; workers = []; sessions = []; tables = record { names = []; values = [] }; read_only = []; writers = []; locks = record { held = []; waiting = []; places = [] }; attempts = [] }

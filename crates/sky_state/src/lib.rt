@@ -10,6 +10,7 @@
 mod attempts;
 mod key_shown;
 mod marks;
+mod places;
 mod row_state;
 mod session;
 mod sessions;
@@ -17,4 +18,5 @@ mod waiting;
 mod work;
 mod writers;
 
+pub use places::Places;
 pub use row_state::RowState;

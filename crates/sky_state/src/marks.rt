@@ -8,8 +8,9 @@ ghost use Rattle.sky_model.specs.History.{of_session, began, ended, block_begun,
 ghost use Rattle.sky_model.specs.State.{after_part, after_part_marks};
 ghost use Rattle.sky_keys.specs.Versions.{written, forgotten};
 ghost use Rattle.sky_rows.specs.Table.{place_in};
-ghost use Rattle.sky_state.specs.Seen.{seen, found_in, columns_of, versions_of};
+ghost use Rattle.sky_state.specs.Seen.{seen, found_in, places_in, columns_of, versions_of};
 
+use crate::places::Places;
 use crate::row_state::RowState;
 use crate::session::Sight;
 use sky_fits::Block;
@@ -42,6 +43,7 @@ impl RowState {
         ensures mark { IfOk result (λ txid. seen self.new ≡ after_part (seen self.old) (began (of_session who) txid)) }
         ensures err { OnErr result (seen self.new ≡ seen self.old) }
         ensures stay { self.new.tables ≡ self.old.tables }
+        ensures locks { self.new.locks ≡ self.old.locks }
     {
         self.sessions.make_room(who)?;
         let txid = self.trans.begin()?;
@@ -126,7 +128,7 @@ impl RowState {
         Ok(())
     }
 
-    /// The session's transaction wrote a key of a table, which was found at the place, and the session holds the key
+    /// The session's transaction wrote a key of a table, which was found at the places, and the session holds the key
     /// from then on. The row that the key had isn't kept, so in the mark it is none. A table forgets which keys the
     /// transactions below the least running one wrote: they have ended, and nobody asks for that any more.
     pub fn wrote(
@@ -134,20 +136,20 @@ impl RowState {
         who: SessionId,
         txid: u64,
         key: LockKey,
-        place: Option<usize>,
+        places: Places,
         row: Option<Row>,
     ) -> Result<(), NoMemory>
         requires within { key.table < length (seen self.old).tables }
-        requires found { place ≡ found_in self.old key.table key.key }
+        requires found { places ≡ places_in self.old key.table key.key }
         requires free { other_holder (seen self.old).holder who key.table key.key ≡ None }
         ensures { OnOk result (seen self.new ≡ after_part (seen self.old) (tabled (wrote (of_session who) txid key.table key.key None row))) }
     {
-        self.locks.take(who, &key)?;
+        self.locks.take_at(who, &key, places.lock)?;
         self.writers.add(key.table, txid)?;
         let least = self.trans.least().unwrap_or(txid);
         let table = self.tables.get_mut(key.table as usize);
         table.prune(least);
-        table.write_at(place, txid, key.key, row)?;
+        table.write_at(places.row, txid, key.key, row)?;
         Ok(())
     }
 

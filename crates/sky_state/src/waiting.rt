@@ -7,7 +7,7 @@ ghost use Rattle.sky_model.specs.History.{tabled, waits};
 ghost use Rattle.sky_model.specs.State.{after_part};
 ghost use Rattle.sky_model.specs.Settling.{ready};
 ghost use Rattle.sky_model.specs.StepLocks.{ring};
-ghost use Rattle.sky_state.specs.Seen.{seen};
+ghost use Rattle.sky_state.specs.Seen.{seen, lock_in};
 
 use crate::row_state::RowState;
 use sky_locks::LockKey;
@@ -15,11 +15,24 @@ use sky_model::{Attempt, Waiters};
 use sky_val::{NoMemory, SessionId};
 
 impl RowState {
-    /// The session that holds the key, if it is another one.
-    pub fn other_holder(&self, who: SessionId, key: &LockKey) -> Option<SessionId>
+    /// Where the key's slot among the locks is. It is found there until the locks change.
+    pub fn find_lock(&self, key: &LockKey) -> Option<usize>
+        ensures { result ≡ lock_in self.now key.now.table key.now.key }
+    {
+        self.locks.find(key)
+    }
+
+    /// The session that holds the key, whose slot is at the place, if it is another one.
+    pub fn other_holder(
+        &self,
+        who: SessionId,
+        key: &LockKey,
+        place: Option<usize>,
+    ) -> Option<SessionId>
+        requires { place ≡ lock_in self.now key.now.table key.now.key }
         ensures { result ≡ other_holder (seen self.now).holder who key.now.table key.now.key }
     {
-        let holder = self.locks.holder(key)?;
+        let holder = self.locks.holder_at(key, place)?;
         if holder == who {
             return None;
         }

@@ -4,6 +4,8 @@ use Rattle.std.proofs.lemmas.Bool.Decides.{nat_tests}
 use Rattle.std.proofs.lemmas.Grind.{common_steps}
 use Rattle.std.proofs.lemmas.List.Quantifiers.{position-Some}
 use Rattle.std.proofs.lemmas.List.Sums.{fails_before_first}
+use Rattle.std.proofs.lemmas.List.{get_or-set_same, get_or_append_left, length-append, set-set}
+use Rattle.std.proofs.Math.Seq.{get_or-append_seam}
 use Rattle.std.specs.List.{position_or_len}
 use Rattle.std.specs.BTreeMap.{is_at}
 use Rattle.std.specs.Map.{lookup}
@@ -13,7 +15,7 @@ use Rattle.sky_model.specs.State.{changed_at, changed_for}
 use Rattle.sky_model.specs.History.{in_hand, batch_in_hand}
 use Rattle.sky_model.specs.World.{after_facts}
 use Rattle.sky_model.proofs.Cases.{by_test}
-use Rattle.sky_world.specs.Hands.{HandAt, is_hand_of, hand_at, batch_at}
+use Rattle.sky_world.specs.Hands.{HandAt, IsPlaceOf, is_hand_of, hand_at, no_worker, worker_at, with_hand, batch_at}
 use Rattle.sky_world.specs.Views.{StateView}
 use Rattle.sky_world.specs.Seen.{seen_state}
 use Rattle.sky_world.specs.Whole.{IsWhole}
@@ -72,22 +74,23 @@ as-changed d t hand f g each = λ i e. by e (d == e) (λ n. each e n) i
     by e true all = λ i n. all n i
     by e false all = λ i n. all n i
 
-pub hand-set : (d : ℕ) (t : List ℕ) (hand : Option Hand) (hands : List HandAt) (at : ℕ) (x : HandAt) → position (is_hand_of d t) hands ≡ Some at
-    → hand_at (slice_set hands at (record (get_or hands at x) { hand = hand })) ≡ changed_at d (changed_for t (λ _. hand)) (hand_at hands)
-hand-set d t hand hands at x is =
-    let found = position-Some (is_hand_of d t) hands at x is in
-    as-changed d t hand (hand_at hands) _ (set-first d t hand hands at x found.0 found.1 found.2)
+pub hand-set : (d : ℕ) (t : List ℕ) (hand : Option Hand) (hands : List HandAt) (place : ℕ) → IsPlaceOf hands d t place → hand_at (with_hand hands place hand) ≡ changed_at d (changed_for t (λ _. hand)) (hand_at hands)
+hand-set d t hand hands place is = as-changed d t hand (hand_at hands) _ (set-first d t hand hands place no_worker is.within is.own is.first)
 
 -- what it had
-pub hand-there : (d : ℕ) (t : List ℕ) (hands : List HandAt) (at : ℕ) (x : HandAt) → position (is_hand_of d t) hands ≡ Some at → hand_at hands d t ≡ (get_or hands at x).hand
-hand-there d t hands at x is = let found = position-Some (is_hand_of d t) hands at x is in first hands at found.0 found.1 found.2
+pub hand-there : (d : ℕ) (t : List ℕ) (hands : List HandAt) (place : ℕ) → IsPlaceOf hands d t place → hand_at hands d t ≡ (worker_at hands place).hand
+hand-there d t hands place is = first hands place is.within is.own is.first
   where
-    first : (hands : List HandAt) (at : ℕ) → at < length hands → is_hand_of d t (get_or hands at x) ≡ true → ((k : ℕ) → k < at → is_hand_of d t (get_or hands k x) ≡ false) → hand_at hands d t ≡ (get_or hands at x).hand
+    first : (hands : List HandAt) (at : ℕ) → at < length hands → is_hand_of d t (worker_at hands at) ≡ true → ((k : ℕ) → k < at → is_hand_of d t (worker_at hands k) ≡ false) → hand_at hands d t ≡ (worker_at hands at).hand
     first [] at lt is before = absurd (omega (arith, lt))
     first (z ∷ zs) zero lt is before = ap (λ b. option_and_then HandAt.hand (if b then Some z else find (is_hand_of d t) zs)) is
     first (z ∷ zs) (suc at) lt is before =
         ap (λ b. option_and_then HandAt.hand (if b then Some z else find (is_hand_of d t) zs)) (before zero (omega arith))
         ∙ first zs at (omega (arith, lt)) is (λ k less. before (suc k) (omega (arith, less)))
+
+-- the first that is the table's
+pub is-place : (d : ℕ) (t : List ℕ) (hands : List HandAt) (place : ℕ) → position (is_hand_of d t) hands ≡ Some place → IsPlaceOf hands d t place
+is-place d t hands place is = let found = position-Some (is_hand_of d t) hands place no_worker is in record { within = found.0; own = found.1; first = found.2 }
 
 -- ---- none of them is that of the table
 
@@ -142,41 +145,51 @@ put-back d t hand f is = sym (as-changed d t hand f f (λ e n. by e n (is_it d t
         ap (λ k. f k n) (sym number) ∙ ap (f d) name ∙ is
     by e n false it = refl
 
--- the last change of one counts
-pub changed-twice : (d : ℕ) (t : List ℕ) (hand first : Option Hand) (f : ℕ → List ℕ → Option Hand)
-    → changed_at d (changed_for t (λ _. hand)) (changed_at d (changed_for t (λ _. first)) f) ≡ changed_at d (changed_for t (λ _. hand)) f
-changed-twice d t hand first f = λ i e. by e (d == e) i
-  where
-    names : (g : List ℕ → Option Hand) (n : List ℕ) (b : Bool) → (if b then hand else (if b then first else g n)) ≡ (if b then hand else g n)
-    names g n true = refl
-    names g n false = refl
-
-    by : (e : ℕ) (b : Bool) → (if b then changed_for t (λ _. hand) (if b then changed_for t (λ _. first) (f e) else f e) else (if b then changed_for t (λ _. first) (f e) else f e)) ≡ (if b then changed_for t (λ _. hand) (f e) else f e)
-    by e true = λ i n. names (f e) n (bytes_eq n t) i
-    by e false = refl
-
 -- ---- as the code keeps it
 
-abbrev with_hand : HandAt → Option Hand → HandAt
-with_hand x hand = record x { hand = hand }
+-- none is found where none that is found is one
+pub none-found : {A : Type 0} (o : Option A) → ((a : A) → o ≡ Some a → ⊥) → o ≡ None
+none-found None not = refl
+none-found (Some a) not = absurd (not a refl)
 
--- what the worker at a place has in hand
-pub hand-of : (d : ℕ) (t : List ℕ) (hands now : List HandAt) (at : ℕ) (x z : HandAt) → hands ≡ now → position (is_hand_of d t) now ≡ Some at → x ≡ get_or hands at x → z ≡ x → hand_at now d t ≡ z.hand
-hand-of d t hands now at x z same is at_x z_x =
-    hand-there d t now at x is ∙ ap (λ hs. HandAt.hand (get_or hs at x)) (sym same) ∙ ap HandAt.hand (sym at_x ∙ sym z_x)
+-- a new one, which has nothing
+pub place-added : (d : ℕ) (t copied : List ℕ) (hands now more : List HandAt) (place : ℕ) → hands ≡ now → position (is_hand_of d t) now ≡ None → copied ≡ t
+    → more ≡ hands ++ record { database = d; table = copied; hand = None } ∷ [] → place ≡ length hands → IsPlaceOf more d t place
+place-added d t copied hands now more place same none copied_is is last =
+    subst (λ hs. IsPlaceOf hs d t place) (sym (is ∙ ap (λ hs. hs ++ y ∷ []) same)) (subst (IsPlaceOf (now ++ y ∷ []) d t) (sym (last ∙ ap length same)) (record {
+      within = omega (arith, length-append now (y ∷ []));
+      own = ap (is_hand_of d t) (get_or-append_seam now y [] no_worker) ∙ own;
+      first = λ k lt. ap (is_hand_of d t) (get_or_append_left now (y ∷ []) no_worker k lt) ∙ none-before d t now no_worker none k lt;
+    }))
+  where
+    y : HandAt
+    y = record { database = d; table = copied; hand = None }
 
--- it has this in hand from now on
-pub hand-stored : (d : ℕ) (t : List ℕ) (hand h : Option Hand) (hands now : List HandAt) (at : ℕ) (x z : HandAt) → hands ≡ now → position (is_hand_of d t) now ≡ Some at → x ≡ get_or hands at x → z ≡ x → h ≡ hand
-    → hand_at (slice_set hands at (record z { hand = h })) ≡ changed_at d (changed_for t (λ _. hand)) (hand_at now)
-hand-stored d t hand h hands now at x z same is at_x z_x h_is =
-    (λ i. hand_at (slice_set (same i) at (with_hand ((z_x ∙ at_x ∙ ap (λ hs. get_or hs at x) same) i) (h_is i))))
-    ∙ hand-set d t hand now at x is
+    own : is_hand_of d t y ≡ true
+    own = let name : bytes_eq t copied ≡ true = ap (bytes_eq t) copied_is ∙ bytes_eq_refl t in grind (arith, nat_tests, name)
 
--- a new one has
-pub hand-added : (d : ℕ) (t copied : List ℕ) (hand : Option Hand) (hands now more : List HandAt) → hands ≡ now → position (is_hand_of d t) now ≡ None → copied ≡ t
-    → more ≡ hands ++ record { database = d; table = copied; hand = hand } ∷ [] → hand_at more ≡ changed_at d (changed_for t (λ _. hand)) (hand_at now)
-hand-added d t copied hand hands now more same none copied_is is =
-    ap hand_at (is ∙ ap (λ hs. hs ++ record { database = d; table = copied; hand = hand } ∷ []) same) ∙ hand-pushed d t copied hand now none copied_is
+pub nothing-added : (d : ℕ) (t copied : List ℕ) (hands now more : List HandAt) → hands ≡ now → position (is_hand_of d t) now ≡ None → copied ≡ t
+    → more ≡ hands ++ record { database = d; table = copied; hand = None } ∷ [] → hand_at more ≡ hand_at now
+nothing-added d t copied hands now more same none copied_is is =
+    ap hand_at (is ∙ ap (λ hs. hs ++ record { database = d; table = copied; hand = None } ∷ []) same)
+    ∙ hand-pushed d t copied None now none copied_is
+    ∙ put-back d t None (hand_at now) (hand-none d t now none)
+
+-- ---- a worker's move
+
+-- what was taken up at its place, and then put down there
+pub hand-moved : (d : ℕ) (t : List ℕ) (hand : Option Hand) (placed taken put : List HandAt) (place : ℕ) → IsPlaceOf placed d t place → taken ≡ with_hand placed place None → put ≡ with_hand taken place hand
+    → hand_at put ≡ changed_at d (changed_for t (λ _. hand)) (hand_at placed)
+hand-moved d t hand placed taken put place is took puts =
+    ap hand_at (puts ∙ ap (λ hs. with_hand hs place hand) took ∙ twice) ∙ hand-set d t hand placed place is
+  where
+    left : HandAt
+    left = record (worker_at placed place) { hand = None }
+
+    twice : with_hand (with_hand placed place None) place hand ≡ with_hand placed place hand
+    twice =
+        ap (λ x. slice_set (slice_set placed place left) place (record x { hand = hand })) (get_or-set_same placed place left no_worker is.within)
+        ∙ set-set placed place left (record left { hand = hand })
 
 -- ---- the batches of leaves
 

@@ -3,12 +3,12 @@ use Rattle.std.proofs.Common.{◌≡◌, ℕ, ◌==◌, List, [], ◌∷◌, ◌
 use Rattle.std.specs.List.{list_any}
 use Rattle.sky_model.specs.declared.reply.Reply.TheVariants.{Done, Null}
 use Rattle.sky_model.specs.Hands.{CopyHand, Hand, copy_in}
-use Rattle.sky_model.specs.History.{Fact, in_hand, noded, hold_ended}
+use Rattle.sky_model.specs.History.{Fact, Mark, in_hand, noded, hold_ended}
 use Rattle.sky_model.specs.Copies.{Hold}
 use Rattle.sky_model.specs.State.{Database, after_marks}
 use Rattle.sky_model.specs.Outcome.{answers, does_marks, marks_of}
 use Rattle.sky_model.specs.StepNode.{NodeCall, removing, set_queue}
-use Rattle.sky_model.specs.World.{World, after_facts}
+use Rattle.sky_model.specs.World.{World, after_fact, after_facts}
 use Rattle.sky_model.specs.CopyMoves.{lets_go_for}
 use Rattle.sky_model.specs.WorkersOfWorld.{call_facts, calls_facts, move_facts, moves}
 use Rattle.londiste_batches.specs.Moved.{after_calls}
@@ -16,7 +16,7 @@ use Rattle.sky_world.specs.Views.{StateView}
 use Rattle.sky_world.specs.Seen.{seen_state}
 use Rattle.sky_world.specs.Nodes.{Happened, Does}
 use Rattle.sky_world.specs.Workers.{lets_go_with, parts_with, leaving}
-use Rattle.sky_world.proofs.Worlds.{after_facts-append}
+use Rattle.sky_world.proofs.Worlds.{after_facts-append, after_facts-within}
 use Rattle.sky_world.proofs.CallsInTurn.{marks_of_all, after-all, facts-all, changed-there, unchanged-there}
 
 -- one call as a list
@@ -38,6 +38,20 @@ calls-then w d (call ∷ calls) others =
     v : World
     v = after_facts w front
 
+-- calls after a worker's hand was emptied
+handed-first : (w : World) (d : ℕ) (table : List ℕ) (n : ℕ) (calls : List NodeCall)
+    → after_facts (after_fact w (in_hand d table None)) (calls_facts (after_fact w (in_hand d table None)) n calls) ≡ after_fact (after_facts w (calls_facts w n calls)) (in_hand d table None)
+handed-first w d table n calls =
+    ap (after_facts emptied) (facts-all emptied n calls)
+    ∙ after_facts-within emptied n marks
+    ∙ ap (λ x. after_fact x (in_hand d table None)) (sym (ap (after_facts w) (facts-all w n calls) ∙ after_facts-within w n marks))
+  where
+    emptied : World
+    emptied = after_fact w (in_hand d table None)
+
+    marks : List Mark
+    marks = marks_of_all (w.database n) calls
+
 -- ---- what the steps find
 
 -- a database after calls in it
@@ -52,6 +66,10 @@ pub other-happened : (old new : StateView) (p d : ℕ) (calls : List NodeCall) �
 other-happened old new p d calls apart happened =
     ap (λ (w : World). w.database d) (happened.changed ∙ ap (after_facts (seen_state old)) (facts-all (seen_state old) p calls))
     ∙ unchanged-there (seen_state old) p d (marks_of_all ((seen_state old).database p) calls) apart
+
+-- any database after a worker's hand was emptied
+pub hand-happened : (old new : StateView) (d : ℕ) (table : List ℕ) (n : ℕ) → Happened old new (in_hand d table None ∷ []) → (seen_state new).database n ≡ (seen_state old).database n
+hand-happened old new d table n happened = ap (λ (w : World). w.database n) happened.changed
 
 -- a hold that is let go leaves the set's queue
 queue-kept : (d : Database) (hold : Option ℕ) → set_queue (after_calls d (lets_go_with hold)) ≡ set_queue d
@@ -73,14 +91,14 @@ lets-go None = refl
 lets-go (Some copy) = refl
 
 pub left-leaf : (old a b c new : StateView) (p d : ℕ) (table : List ℕ) (hold : Option ℕ) (consumer : Option (List ℕ)) (hand : Option Hand) → hold ≡ option_map CopyHand.hold (copy_in hand)
-    → Happened old a (calls_facts (seen_state old) p (lets_go_with hold)) → Happened a b (calls_facts (seen_state a) p (parts_with consumer)) → Happened b c (call_facts (seen_state b) d (removing table))
-    → Happened c new (in_hand d table None ∷ []) → Does old new Done (moves (seen_state old) p d (in_hand d table) (Ok (leaving table consumer hand)))
+    → Happened old a (in_hand d table None ∷ []) → Happened a b (calls_facts (seen_state a) p (lets_go_with hold)) → Happened b c (calls_facts (seen_state b) p (parts_with consumer)) → Happened c new (call_facts (seen_state c) d (removing table))
+    → Does old new Done (moves (seen_state old) p d (in_hand d table) (Ok (leaving table consumer hand)))
 left-leaf old a b c new p d table hold consumer hand is first second third last = record {
   facts = move_facts w p d (in_hand d table) (leaving table consumer hand);
   outcome = refl;
   moments = tt;
   happened = record {
-    changed = last.changed ∙ ap (λ x. after_facts x (in_hand d table None ∷ [])) (third.changed ∙ ap (λ x. after_facts x (call_facts x d (removing table))) both) ∙ sym whole;
+    changed = dropped.changed ∙ ap (λ x. after_facts x (calls_facts x d (removing table ∷ []))) (both ∙ handed-first w d table p calls) ∙ handed-first v d table d (removing table ∷ []) ∙ sym whole;
     sessions = last.sessions ∙ third.sessions ∙ second.sessions ∙ first.sessions;
     databases = last.databases ∙ third.databases ∙ second.databases ∙ first.databases;
     whole = last.whole;
@@ -90,20 +108,25 @@ left-leaf old a b c new p d table hold consumer hand is first second third last 
     w : World
     w = seen_state old
 
+    emptied : World
+    emptied = after_fact w (in_hand d table None)
+
     calls : List NodeCall
     calls = lets_go_for (copy_in hand) ++ parts_with consumer
 
     v : World
     v = after_facts w (calls_facts w p calls)
 
-    both : seen_state b ≡ v
-    both =
-        second.changed ∙ ap (λ x. after_facts x (calls_facts x p (parts_with consumer))) first.changed
-        ∙ sym (calls-then w p (lets_go_with hold) (parts_with consumer))
-        ∙ ap (λ xs. after_facts w (calls_facts w p (xs ++ parts_with consumer))) (ap lets_go_with is ∙ lets-go (copy_in hand))
+    dropped : Happened c new (calls_facts (seen_state c) d (removing table ∷ []))
+    dropped = happened-one c new d (removing table) last
 
-    whole : after_facts w (move_facts w p d (in_hand d table) (leaving table consumer hand)) ≡ after_facts (after_facts v (call_facts v d (removing table))) (in_hand d table None ∷ [])
+    both : seen_state c ≡ after_facts emptied (calls_facts emptied p calls)
+    both =
+        third.changed ∙ ap (λ x. after_facts x (calls_facts x p (parts_with consumer))) (second.changed ∙ ap (λ x. after_facts x (calls_facts x p (lets_go_with hold))) first.changed)
+        ∙ sym (calls-then emptied p (lets_go_with hold) (parts_with consumer))
+        ∙ ap (λ xs. after_facts emptied (calls_facts emptied p (xs ++ parts_with consumer))) (ap lets_go_with is ∙ lets-go (copy_in hand))
+
+    whole : after_facts w (move_facts w p d (in_hand d table) (leaving table consumer hand)) ≡ after_fact (after_facts v (calls_facts v d (removing table ∷ []))) (in_hand d table None)
     whole =
         after_facts-append w (calls_facts w p calls) (calls_facts v d (removing table ∷ []) ++ in_hand d table None ∷ [])
         ∙ after_facts-append v (calls_facts v d (removing table ∷ [])) (in_hand d table None ∷ [])
-        ∙ ap (λ facts. after_facts (after_facts v facts) (in_hand d table None ∷ [])) (append-nil (call_facts v d (removing table)))

@@ -8,6 +8,7 @@ pub mod Skipping
 pub mod Clocks
 pub mod ServedNodes
 pub mod CallsInTurn
+pub mod TwoPlaces
 pub mod TwoDatabases
 pub mod MoveMoments
 pub mod LeavesLeaf

@@ -15,13 +15,13 @@ use Rattle.sky_model.specs.Reader.{within_database, by_world, Deed, answers_with
 use Rattle.sky_model.specs.Settling.{Turn, with_rest}
 use Rattle.sky_model.specs.Clock.{deed_in}
 use Rattle.sky_model.specs.WorkersOfWorld.{node_form}
-use Rattle.sky_model.specs.Calls.{allowed_outside, fails_if, refused_in, if_allowed, world_does, node_stmt_does, on_unless, world_stmt_does}
+use Rattle.sky_model.specs.Calls.{allowed_outside, fails_if, refused_in, if_allowed, if_outside, world_does, node_stmt_does, on_unless, world_stmt_does}
 use Rattle.sky_world.specs.Views.{StateView}
 use Rattle.sky_world.specs.Seen.{seen_state}
 use Rattle.sky_world.specs.Whole.{IsWhole}
 use Rattle.sky_world.specs.Adds.{AddsDeed}
 use Rattle.sky_world.specs.Nodes.{Stays, Happened}
-use Rattle.sky_world.specs.Outside.{if_outside, IsOutside, Enters}
+use Rattle.sky_world.specs.Outside.{IsOutside, Enters}
 
 -- ---- deeds
 
@@ -87,9 +87,9 @@ refused-aborts old new d who refusal kind before mid after lt is so added adds =
 
 -- a session that has no database open
 pub not-open : (v : StateView) (who : ℕ) (home : Option ℕ) (before after : List (ℕ × Reply)) → IsWhole v → who < length v.sessions.names → home ≡ (seen_state v).homes who → None ≡ home
-    → after ≡ before ++ (who, Refused NotOpen) ∷ [] → (deed : ℕ → Deed) → AddsDeed v v before after (if_outside (seen_state v) who deed ((seen_state v).homes who))
+    → after ≡ before ++ (who, Refused NotOpen) ∷ [] → (deed : ℕ → Deed) → AddsDeed v v before after (if_outside by_world (seen_state v) who deed ((seen_state v).homes who))
 not-open v who home before after whole lt is none added deed =
-    subst (λ h. AddsDeed v v before after (if_outside (seen_state v) who deed h)) (none ∙ is) (answers-alone v v who (Refused NotOpen) [] before after lt tt refl refl whole added)
+    subst (λ h. AddsDeed v v before after (if_outside by_world (seen_state v) who deed h)) (none ∙ is) (answers-alone v v who (Refused NotOpen) [] before after lt tt refl refl whole added)
 
 -- what it does then, by whether it is allowed
 abbrev if_may : World → ℕ → ℕ → Deed → Checked (Unit {0}) → Deed
@@ -98,41 +98,41 @@ if_may w who d deed may = if_allowed by_world w who d may deed
 -- one that may not make it
 pub outside-refused : (old s new : StateView) (who d : ℕ) (home : Option ℕ) (found : Option Refusal) (refusal : Refusal) (before after : List (ℕ × Reply)) → home ≡ (seen_state old).homes who → Some d ≡ home
     → allowed_outside ((seen_state old).database d) who ≡ refused_by found → found ≡ Some refusal → Stays old s → AddsDeed s new before after (refused_in by_world (seen_state s) who d refusal)
-    → (deed : ℕ → Deed) → AddsDeed old new before after (if_outside (seen_state old) who deed ((seen_state old).homes who))
+    → (deed : ℕ → Deed) → AddsDeed old new before after (if_outside by_world (seen_state old) who deed ((seen_state old).homes who))
 outside-refused old s new who d home found refusal before after is there may refused stays adds deed =
-    subst (λ h. AddsDeed old new before after (if_outside (seen_state old) who deed h)) (there ∙ is)
+    subst (λ h. AddsDeed old new before after (if_outside by_world (seen_state old) who deed h)) (there ∙ is)
     (subst (λ m. AddsDeed old new before after (if_may (seen_state old) who d (deed d) m)) (sym (may ∙ ap refused_by refused))
     (adds-after old s new (λ w. refused_in by_world w who d refusal) before after stays adds))
 
 -- one that may
 pub outside-done : (old s new : StateView) (who d : ℕ) (deed : World → ℕ → Deed) (before mid after : List (ℕ × Reply)) → IsOutside old s who d → mid ≡ before → AddsDeed s new mid after (deed (seen_state s) d)
-    → AddsDeed old new before after (if_outside (seen_state old) who (deed (seen_state old)) ((seen_state old).homes who))
+    → AddsDeed old new before after (if_outside by_world (seen_state old) who (deed (seen_state old)) ((seen_state old).homes who))
 outside-done old s new who d deed before mid after outside same adds =
-    subst (λ h. AddsDeed old new before after (if_outside (seen_state old) who (deed (seen_state old)) h)) (sym outside.home)
+    subst (λ h. AddsDeed old new before after (if_outside by_world (seen_state old) who (deed (seen_state old)) h)) (sym outside.home)
     (subst (λ m. AddsDeed old new before after (if_may (seen_state old) who d (deed (seen_state old) d) m)) (sym outside.allowed)
     (subst (λ xs. AddsDeed old new xs after (deed (seen_state old) d)) same (adds-after old s new (λ w. deed w d) mid after outside.stays adds)))
 
 -- as the code finds it
 pub entered-not : (old new : StateView) (who : ℕ) (entered : Option ℕ) (deed : ℕ → Deed) (whole : Deed) (before after : List (ℕ × Reply)) → Enters old new before after who entered → entered ≡ None
-    → if_outside (seen_state old) who deed ((seen_state old).homes who) ≡ whole → AddsDeed old new before after whole
+    → if_outside by_world (seen_state old) who deed ((seen_state old).homes who) ≡ whole → AddsDeed old new before after whole
 entered-not old new who entered deed whole before after enters none is = subst (AddsDeed old new before after) is (subst (Enters old new before after who) none enters deed)
 
 pub entered-done : (old s new : StateView) (who d : ℕ) (entered : Option ℕ) (deed : World → ℕ → Deed) (whole : Deed) (before mid after : List (ℕ × Reply)) → Enters old s before mid who entered → entered ≡ Some d
-    → (who < length s.sessions.names → AddsDeed s new mid after (deed (seen_state s) d)) → if_outside (seen_state old) who (deed (seen_state old)) ((seen_state old).homes who) ≡ whole → AddsDeed old new before after whole
+    → (who < length s.sessions.names → AddsDeed s new mid after (deed (seen_state s) d)) → if_outside by_world (seen_state old) who (deed (seen_state old)) ((seen_state old).homes who) ≡ whole → AddsDeed old new before after whole
 entered-done old s new who d entered deed whole before mid after enters there adds is =
     let outside : IsOutside old s who d × (mid ≡ before) = subst (Enters old s before mid who) there enters in
     subst (AddsDeed old new before after) is (outside-done old s new who d deed before mid after outside.0 outside.1 (adds outside.0.known))
 
 -- ---- the statements
 
-pub nodes-outside : (w : World) (who : ℕ) (stmt : NodeStmt) (home : Option ℕ) → if_outside w who (λ d. world_does who (node_form w d stmt)) home ≡ node_stmt_does by_world w who stmt home
+pub nodes-outside : (w : World) (who : ℕ) (stmt : NodeStmt) (home : Option ℕ) → if_outside by_world w who (λ d. world_does who (node_form w d stmt)) home ≡ node_stmt_does by_world w who stmt home
 nodes-outside w who stmt None = refl
 nodes-outside w who stmt (Some d) = refl
 
-pub on-outside : (w : World) (who : ℕ) (home : Option ℕ) → if_outside w who (λ d. answers_with who Done (on_unless d (w.daemons d))) home ≡ world_stmt_does by_world w who PgqdOn home
+pub on-outside : (w : World) (who : ℕ) (home : Option ℕ) → if_outside by_world w who (λ d. answers_with who Done (on_unless d (w.daemons d))) home ≡ world_stmt_does by_world w who PgqdOn home
 on-outside w who None = refl
 on-outside w who (Some d) = refl
 
-pub off-outside : (w : World) (who : ℕ) (home : Option ℕ) → if_outside w who (λ d. answers_with who Done (daemon_off d ∷ [])) home ≡ world_stmt_does by_world w who PgqdOff home
+pub off-outside : (w : World) (who : ℕ) (home : Option ℕ) → if_outside by_world w who (λ d. answers_with who Done (daemon_off d ∷ [])) home ≡ world_stmt_does by_world w who PgqdOff home
 off-outside w who None = refl
 off-outside w who (Some d) = refl

@@ -41,12 +41,8 @@ use Rattle.sky_world.proofs.Worlds.{after_facts-within, after_facts-append, stor
 use Rattle.sky_world.proofs.Outside.{answers-alone}
 
 -- a table whose columns are found by its name is there
-pub table-found : (d : Database) (name : List ℕ) (columns : List Column) → Some columns ≡ columns_called name d → is_some (table_number d name) ≡ true
-table-found d name columns found = of (table_number d name) found
-  where
-    of : (o : Option ℕ) → Some columns ≡ option_map d.part.columns o → is_some o ≡ true
-    of None found = absurd (cc)
-    of (Some table) found = refl
+pub columns-found : (d e : Database) (name : List ℕ) (table : ℕ) (columns : List Column) → table_number d name ≡ Some table → columns ≡ d.part.columns table → d ≡ e → Some columns ≡ columns_called name e
+columns-found d e name table columns number of_table same = ap Some of_table ∙ sym (ap (option_map d.part.columns) number) ∙ ap (columns_called name) same
 
 -- ---- in one database
 

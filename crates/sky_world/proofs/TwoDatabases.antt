@@ -1,19 +1,21 @@
 -- A move of a worker changes two databases, and what the worker has in hand.
-use Rattle.std.proofs.Common.{◌≡◌, ℕ, ◌<◌, ◌==◌, List, [], ◌∷◌, ◌++◌, Bool, true, false, map, length, get_or, slice_set, get_or-set_other, All, Option, refl, sym, ◌∙◌, ap, subst, arith, if◌then◌else◌}
+use Rattle.std.proofs.Common.{◌≡◌, ℕ, ◌<◌, ◌==◌, List, [], ◌∷◌, ◌++◌, Bool, true, false, map, length, get_or, slice_set, take, drop, All, Option, refl, sym, ◌∙◌, ap, subst, arith, if◌then◌else◌}
 use Rattle.std.proofs.lemmas.Bool.Decides.{nat_tests}
 use Rattle.std.proofs.lemmas.List.{length-set}
 use Rattle.std.proofs.lemmas.List.Elements.{All-set, All-get_or}
 use Rattle.std.proofs.lemmas.Option.{get_or_from_slice_get, slice_get_read}
-use Rattle.sky_names.specs.Named.{with_value}
+use Rattle.std.proofs.Math.Seq.{take-append_seam}
 use Rattle.sky_model.specs.Hands.{BatchHand}
 use Rattle.sky_model.specs.History.{Mark, Fact, within}
 use Rattle.sky_model.specs.State.{Database, after_marks, changed_at}
+use Rattle.sky_model.specs.StepNode.{NodeCall}
 use Rattle.sky_model.specs.WorkerMoves.{Move}
 use Rattle.sky_model.specs.World.{World, after_fact, after_facts}
 use Rattle.sky_model.specs.WorkersOfWorld.{calls_facts, move_facts}
 use Rattle.pgq_db.specs.Views.{DbView}
 use Rattle.pgq_db.specs.Seen.{seen_database, no_database}
 use Rattle.londiste_batches.specs.Moved.{after_calls}
+use Rattle.sky_world.specs.Databases.{with_stores}
 use Rattle.sky_world.specs.Hands.{HandAt, hand_at, batch_at}
 use Rattle.sky_world.specs.Views.{StateView}
 use Rattle.sky_world.specs.Seen.{seen_state}
@@ -48,37 +50,42 @@ after-moved w p d ps ds last =
 
 -- ---- the databases that are kept
 
--- a database that is taken out, another one changed, and the first put back
-abbrev pub with_both : List DbView → (p d : ℕ) → (empty d_new p_new : DbView) → List DbView
-with_both stores p d empty d_new p_new = slice_set (slice_set (slice_set stores p empty) d d_new) p p_new
+-- both of them changed
+abbrev pub with_both : List DbView → (p d : ℕ) → (p_new d_new : DbView) → List DbView
+with_both stores p d p_new d_new = slice_set (slice_set stores p p_new) d d_new
 
-read-both : (stores : List DbView) (p d n : ℕ) (empty d_new p_new : DbView) → p < length stores → d < length stores
-    → get_or (with_both stores p d empty d_new p_new) n no_database ≡ (if p == n then p_new else if d == n then d_new else get_or stores n no_database)
-read-both stores p d n empty d_new p_new p_lt d_lt =
-    get_or-changed (slice_set (slice_set stores p empty) d d_new) p n p_new no_database (omega (arith, p_lt, length-set (slice_set stores p empty) d d_new, length-set stores p empty))
-    ∙ by (p == n) refl
+read-both : (stores : List DbView) (p d n : ℕ) (p_new d_new : DbView) → p < length stores → d < length stores
+    → get_or (with_both stores p d p_new d_new) n no_database ≡ (if d == n then d_new else if p == n then p_new else get_or stores n no_database)
+read-both stores p d n p_new d_new p_lt d_lt =
+    get_or-changed (slice_set stores p p_new) d n d_new no_database (omega (arith, d_lt, length-set stores p p_new))
+    ∙ ap (λ x. if d == n then d_new else x) (get_or-changed stores p n p_new no_database p_lt)
+
+-- as the code keeps them, which was lent all of them
+pub both-kept-as : (v : StateView) (stores : List DbView) (p d : ℕ) (p_new d_new : DbView) → stores ≡ v.databases.values
+    → with_stores v.databases (with_both stores p d p_new d_new) ≡ record v.databases { values = with_both v.databases.values p d p_new d_new }
+both-kept-as v stores p d p_new d_new all =
+    ap (λ xs. with_stores v.databases (with_both xs p d p_new d_new)) all
+    ∙ ap (λ count. record v.databases { values = take count (new ++ drop (length new) v.databases.values) }) (sym len)
+    ∙ ap (λ taken. record v.databases { values = taken }) (take-append_seam new (drop (length new) v.databases.values))
   where
-    by : (b : Bool) → (p == n) ≡ b → (if b then p_new else get_or (slice_set (slice_set stores p empty) d d_new) n no_database) ≡ (if b then p_new else if d == n then d_new else get_or stores n no_database)
-    by true e = refl
-    by false e =
-        get_or-changed (slice_set stores p empty) d n d_new no_database (omega (arith, d_lt, length-set stores p empty))
-        ∙ ap (λ x. if d == n then d_new else x) (get_or-changed stores p n empty no_database p_lt ∙ ap (λ b. if b then empty else get_or stores n no_database) e)
+    new : List DbView
+    new = with_both v.databases.values p d p_new d_new
 
--- the two that were there
-pub first-there : (stores : List DbView) (p : ℕ) (old : DbView) → p < length stores → old ≡ get_or stores p old → get_or stores p no_database ≡ old
-first-there stores p old lt at = get_or_from_slice_get stores p old no_database (slice_get_read stores (length stores) p old refl lt at)
+    len : length new ≡ length v.databases.values
+    len = length-set (slice_set v.databases.values p p_new) d d_new ∙ length-set v.databases.values p p_new
 
-pub second-there : (stores : List DbView) (p d : ℕ) (empty old : DbView) → d < length stores → (p == d) ≡ false → old ≡ get_or (slice_set stores p empty) d old → get_or stores d no_database ≡ old
-second-there stores p d empty old lt apart at =
-    first-there stores d old lt (at ∙ get_or-set_other stores p d empty old (grind (arith, nat_tests, apart)))
+-- one that was there
+pub is-there : (stores : List DbView) (p : ℕ) (old : DbView) → p < length stores → old ≡ get_or stores p old → get_or stores p no_database ≡ old
+is-there stores p old lt at = get_or_from_slice_get stores p old no_database (slice_get_read stores (length stores) p old refl lt at)
 
 -- what holds of each still does
-pub both-kept : (P : DbView → Type 0) (stores : List DbView) (p d : ℕ) (empty p_old p_new d_old d_new : DbView) → p < length stores → d < length stores → (p == d) ≡ false
-    → p_old ≡ get_or stores p p_old → d_old ≡ get_or (slice_set stores p empty) d d_old → P empty → (P p_old → P p_new) → (P d_old → P d_new) → All P stores → All P (with_both stores p d empty d_new p_new)
-both-kept P stores p d empty p_old p_new d_old d_new p_lt d_lt apart p_at d_at none p_keeps d_keeps all =
-    All-set P (slice_set (slice_set stores p empty) d d_new) p p_new (p_keeps (subst P (first-there stores p p_old p_lt p_at) (All-get_or P stores p no_database p_lt all)))
-    (All-set P (slice_set stores p empty) d d_new (d_keeps (subst P (second-there stores p d empty d_old d_lt apart d_at) (All-get_or P stores d no_database d_lt all)))
-    (All-set P stores p empty none all))
+pub both-kept : (P : DbView → Type 0) (stores : List DbView) (p d : ℕ) (p_old p_new d_old d_new : DbView) → p < length stores → d < length stores
+    → p_old ≡ get_or stores p p_old → d_old ≡ get_or stores d d_old → (P p_old → P p_new) → (P d_old → P d_new) → All P stores → All P (with_both stores p d p_new d_new)
+both-kept P stores p d p_old p_new d_old d_new p_lt d_lt p_at d_at p_keeps d_keeps all =
+    All-set P (slice_set stores p p_new) d d_new (d_keeps (there d d_old d_lt d_at)) (All-set P stores p p_new (p_keeps (there p p_old p_lt p_at)) all)
+  where
+    there : (n : ℕ) (old : DbView) → n < length stores → old ≡ get_or stores n old → P old
+    there n old lt at = subst P (is-there stores n old lt at) (All-get_or P stores n no_database lt all)
 
 -- ---- what the world shows then
 
@@ -87,14 +94,14 @@ abbrev pub PutInHand : StateView → List HandAt → List (ℕ × BatchHand) →
 PutInHand v hands batches last =
     (stores : ℕ → Database) → record (seen_state v) { database = stores; hands = hand_at hands; batches = batch_at batches } ≡ after_fact (record (seen_state v) { database = stores }) last
 
-shows-both : (v : StateView) (p d : ℕ) (last : Fact) (ps ds : List Mark) (empty p_old p_new d_old d_new : DbView) (hands : List HandAt) (batches : List (ℕ × BatchHand)) → p < length v.databases.values
-    → d < length v.databases.values → (p == d) ≡ false → p_old ≡ get_or v.databases.values p p_old → d_old ≡ get_or (slice_set v.databases.values p empty) d d_old
+shows-both : (v : StateView) (p d : ℕ) (last : Fact) (ps ds : List Mark) (p_old p_new d_old d_new : DbView) (hands : List HandAt) (batches : List (ℕ × BatchHand)) → p < length v.databases.values
+    → d < length v.databases.values → (p == d) ≡ false → p_old ≡ get_or v.databases.values p p_old → d_old ≡ get_or v.databases.values d d_old
     → seen_database p_new ≡ after_marks (seen_database p_old) ps → seen_database d_new ≡ after_marks (seen_database d_old) ds → PutInHand v hands batches last
-    → seen_state (record v { databases = with_value (with_value (with_value v.databases p empty) d d_new) p p_new; hands = hands; batches = batches })
+    → seen_state (record v { databases = record v.databases { values = with_both v.databases.values p d p_new d_new }; hands = hands; batches = batches })
     ≡ after_fact (record (seen_state v) { database = changed_at d (λ x. after_marks x ds) (changed_at p (λ x. after_marks x ps) (seen_state v).database) }) last
-shows-both v p d last ps ds empty p_old p_new d_old d_new hands batches p_lt d_lt apart p_at d_at p_is d_is put =
+shows-both v p d last ps ds p_old p_new d_old d_new hands batches p_lt d_lt apart p_at d_at p_is d_is put =
     (λ i. record (seen_state v) {
-      database = λ n. (ap seen_database (read-both v.databases.values p d n empty d_new p_new p_lt d_lt) ∙ by n (p == n) (d == n) refl refl) i;
+      database = λ n. (ap seen_database (read-both v.databases.values p d n p_new d_new p_lt d_lt) ∙ by n (p == n) (d == n) refl refl) i;
       hands = hand_at hands;
       batches = batch_at batches;
     })
@@ -103,27 +110,31 @@ shows-both v p d last ps ds empty p_old p_new d_old d_new hands batches p_lt d_l
     stores : List DbView
     stores = v.databases.values
 
-    by : (n : ℕ) (b c : Bool) → (p == n) ≡ b → (d == n) ≡ c → seen_database (if b then p_new else if c then d_new else get_or stores n no_database)
+    -- one of them, after marks in it
+    after : (k n : ℕ) (old new : DbView) (marks : List Mark) → k < length stores → old ≡ get_or stores k old → (k == n) ≡ true → seen_database new ≡ after_marks (seen_database old) marks
+        → seen_database new ≡ after_marks (seen_database (get_or stores n no_database)) marks
+    after k n old new marks lt at one is =
+        let same : k ≡ n = grind (arith, nat_tests, one) in
+        is ∙ ap (λ (x : DbView). after_marks (seen_database x) marks) (sym (is-there stores k old lt at)) ∙ ap (λ m. after_marks (seen_database (get_or stores m no_database)) marks) same
+
+    by : (n : ℕ) (b c : Bool) → (p == n) ≡ b → (d == n) ≡ c → seen_database (if c then d_new else if b then p_new else get_or stores n no_database)
         ≡ (if c then after_marks (if b then after_marks (seen_database (get_or stores n no_database)) ps else seen_database (get_or stores n no_database)) ds
         else (if b then after_marks (seen_database (get_or stores n no_database)) ps else seen_database (get_or stores n no_database)))
     by n true true one also = absurd (let same : p ≡ n = grind (arith, nat_tests, one) in let other : d ≡ n = grind (arith, nat_tests, also) in grind (arith, nat_tests, apart, same, other))
-    by n true false one also =
-        let same : p ≡ n = grind (arith, nat_tests, one) in
-        p_is ∙ ap (λ (x : DbView). after_marks (seen_database x) ps) (sym (first-there stores p p_old p_lt p_at)) ∙ ap (λ k. after_marks (seen_database (get_or stores k no_database)) ps) same
-    by n false true one also =
-        let same : d ≡ n = grind (arith, nat_tests, also) in
-        d_is ∙ ap (λ (x : DbView). after_marks (seen_database x) ds) (sym (second-there stores p d empty d_old d_lt apart d_at)) ∙ ap (λ k. after_marks (seen_database (get_or stores k no_database)) ds) same
+    by n true false one also = after p n p_old p_new ps p_lt p_at one p_is
+    by n false true one also = after d n d_old d_new ds d_lt d_at also d_is
     by n false false one also = refl
 
-pub moved-there : {H : Type 0} (v now : StateView) (p d : ℕ) (handed : Option H → Fact) (move : Move H) (empty p_old p_new d_old d_new : DbView) (hands : List HandAt) (batches : List (ℕ × BatchHand)) → v ≡ now
-    → p < length v.databases.values → d < length v.databases.values → (p == d) ≡ false → p_old ≡ get_or v.databases.values p p_old → d_old ≡ get_or (slice_set v.databases.values p empty) d d_old
+pub moved-there : {H : Type 0} (v now : StateView) (p d : ℕ) (handed : Option H → Fact) (move : Move H) (p_old p_new d_old d_new : DbView) (hands : List HandAt) (batches : List (ℕ × BatchHand)) → v ≡ now
+    → p < length v.databases.values → d < length v.databases.values → (p == d) ≡ false → p_old ≡ get_or v.databases.values p p_old → d_old ≡ get_or v.databases.values d d_old
     → seen_database p_new ≡ after_calls (seen_database p_old) move.provider → seen_database d_new ≡ after_calls (seen_database d_old) move.replica → PutInHand v hands batches (handed move.hand)
-    → AreWhole (length v.sessions.names) (with_both v.databases.values p d empty d_new p_new) → Happened now (record v { databases = with_value (with_value (with_value v.databases p empty) d d_new) p p_new; hands = hands; batches = batches }) (move_facts (seen_state now) p d handed move)
-moved-there v now p d handed move empty p_old p_new d_old d_new hands batches same p_lt d_lt apart p_at d_at p_is d_is put whole =
-    subst (λ (w : StateView). Happened w (record v { databases = with_value (with_value (with_value v.databases p empty) d d_new) p p_new; hands = hands; batches = batches }) (move_facts (seen_state w) p d handed move)) same (record {
-      changed = shows-both v p d (handed move.hand) ps ds empty p_old p_new d_old d_new hands batches p_lt d_lt apart p_at d_at
-          (p_is ∙ after-all (seen_database p_old) move.provider ∙ ap (λ (x : DbView). after_marks (seen_database p_old) (marks_of_all (seen_database x) move.provider)) (sym (first-there stores p p_old p_lt p_at)))
-          (d_is ∙ after-all (seen_database d_old) move.replica ∙ ap (λ (x : DbView). after_marks (seen_database d_old) (marks_of_all (seen_database x) move.replica)) (sym (second-there stores p d empty d_old d_lt apart d_at)))
+    → AreWhole (length v.sessions.names) (with_both v.databases.values p d p_new d_new)
+    → Happened now (record v { databases = record v.databases { values = with_both v.databases.values p d p_new d_new }; hands = hands; batches = batches }) (move_facts (seen_state now) p d handed move)
+moved-there v now p d handed move p_old p_new d_old d_new hands batches same p_lt d_lt apart p_at d_at p_is d_is put whole =
+    subst (λ (w : StateView). Happened w (record v { databases = record v.databases { values = with_both v.databases.values p d p_new d_new }; hands = hands; batches = batches }) (move_facts (seen_state w) p d handed move)) same (record {
+      changed = shows-both v p d (handed move.hand) ps ds p_old p_new d_old d_new hands batches p_lt d_lt apart p_at d_at
+          (marked p p_old p_new move.provider p_lt p_at p_is)
+          (marked d d_old d_new move.replica d_lt d_at d_is)
           put
           ∙ sym (after-moved (seen_state v) p d ps ds (handed move.hand))
           ∙ ap (after_facts (seen_state v)) (sym (moved-facts (seen_state v) p d handed move apart));
@@ -140,3 +151,9 @@ moved-there v now p d handed move empty p_old p_new d_old d_new hands batches sa
 
     ds : List Mark
     ds = marks_of_all ((seen_state v).database d) move.replica
+
+    -- calls leave these marks
+    marked : (n : ℕ) (old new : DbView) (calls : List NodeCall) → n < length stores → old ≡ get_or stores n old → seen_database new ≡ after_calls (seen_database old) calls
+        → seen_database new ≡ after_marks (seen_database old) (marks_of_all ((seen_state v).database n) calls)
+    marked n old new calls lt at is =
+        is ∙ after-all (seen_database old) calls ∙ ap (λ (x : DbView). after_marks (seen_database old) (marks_of_all (seen_database x) calls)) (sym (is-there stores n old lt at))

@@ -25,18 +25,19 @@ use Rattle.sky_model.specs.WorkersOfWorld.{move_facts, moves, restarting}
 use Rattle.sky_model.specs.NodesOfWorld.{WorldOutcome}
 use Rattle.pgq_db.specs.Views.{DbView}
 use Rattle.pgq_db.specs.Seen.{seen_database}
-use Rattle.pgq_db.specs.declared.faults.WorkerFault.{WorkerFault}
-use Rattle.pgq_db.specs.declared.faults.WorkerFault.TheVariants as fault
+use Rattle.londiste_calls.specs.declared.faults.WorkerFault.{WorkerFault}
+use Rattle.londiste_calls.specs.declared.faults.WorkerFault.TheVariants as fault
 use Rattle.londiste_batches.specs.Moved.{after_call, after_calls, MovesAs, MovesBy, MoveRefused}
-use Rattle.sky_world.specs.Hands.{HandAt, hand_at, batch_at}
+use Rattle.sky_world.specs.Databases.{with_stores}
+use Rattle.sky_world.specs.Hands.{HandAt, IsPlaceOf, hand_at, worker_at, with_hand, batch_at}
 use Rattle.sky_world.specs.Views.{StateView}
 use Rattle.sky_world.specs.Seen.{seen_state}
 use Rattle.sky_world.specs.Whole.{IsWholeIn, AreWhole, IsWhole}
 use Rattle.sky_world.specs.Nodes.{Happened, DoesAll, Stays, Stopped}
 use Rattle.sky_world.specs.Workers.{leaf_in, stop_of, stopping}
 use Rattle.sky_world.proofs.Whole.{HasWhole, whole-new, whole-served}
-use Rattle.sky_world.proofs.HandsAt.{put-back, batch-back, changed-twice}
-use Rattle.sky_world.proofs.TwoDatabases.{PutInHand, with_both, first-there, second-there, both-kept, moved-there}
+use Rattle.sky_world.proofs.HandsAt.{put-back, batch-back, hand-there, hand-moved}
+use Rattle.sky_world.proofs.TwoDatabases.{PutInHand, with_both, both-kept-as, is-there, both-kept, moved-there}
 use Rattle.sky_world.proofs.MoveMoments.{moments-moved, moments-replayed}
 
 -- ---- calls in each of two databases
@@ -59,40 +60,35 @@ whole-calls : (sessions : ℕ) (old new : Database) (calls : List NodeCall) → 
 whole-calls sessions old new [] is whole = subst (IsWholeIn sessions) (sym is) whole
 whole-calls sessions old new (call ∷ calls) is whole = whole-calls sessions (after_call old call) new calls is (whole-call sessions old call whole)
 
--- one database was exchanged for a spare one while the other was changed, and then came back
-pub record Went (stores : List DbView) (p d : ℕ) (spare p_old d_old : DbView) : Type 0 where
-  pub p_lt : p < length stores
-  pub d_lt : d < length stores
+-- two databases were lent, as they stood among all of them
+pub record Lent (v : StateView) (stores : List DbView) (p d : ℕ) (p_old d_old : DbView) : Type 0 where
+  pub all : stores ≡ v.databases.values
+  pub p_lt : p < length v.databases.values
+  pub d_lt : d < length v.databases.values
   pub apart : (p == d) ≡ false
-  pub p_at : p_old ≡ get_or stores p p_old
-  pub d_at : d_old ≡ get_or (slice_set stores p spare) d d_old
-  pub empty : seen_database spare ≡ database_of []
+  pub p_at : p_old ≡ get_or v.databases.values p p_old
+  pub d_at : d_old ≡ get_or v.databases.values d d_old
 
--- so it went, as the code finds it
-pub went-as : (stores : List DbView) (p d : ℕ) (spare p_was p_old d_old : DbView) → p < length stores → d < length (slice_set stores p spare) → (p == d) ≡ false → p_was ≡ get_or stores p p_was → p_old ≡ p_was
-    → d_old ≡ get_or (slice_set stores p spare) d d_old → seen_database spare ≡ database_of [] → Went stores p d spare p_old d_old
-went-as stores p d spare p_was p_old d_old p_lt d_lt apart p_at is d_at empty = record {
-  p_lt = p_lt;
-  d_lt = subst (λ n. d < n) (length-set stores p spare) d_lt;
-  apart = apart;
-  p_at = subst (λ x. x ≡ get_or stores p x) (sym is) p_at;
-  d_at = d_at;
-  empty = empty;
-}
+-- so they were, as the code finds it
+pub lent-as : (v now : StateView) (stores : List DbView) (p d : ℕ) (p_old d_old : DbView) → v ≡ now → stores ≡ v.databases.values → length v.databases.values ≡ length v.databases.names
+    → p < length now.databases.names → d < length now.databases.names → (p == d) ≡ false → p_old ≡ get_or stores p p_old → d_old ≡ get_or stores d d_old → Lent v stores p d p_old d_old
+lent-as v now stores p d p_old d_old same all as_many p_lt d_lt apart p_at d_at =
+    let names : length v.databases.values ≡ length now.databases.names = as_many ∙ ap (λ (w : StateView). length w.databases.names) same in record {
+      all = all;
+      p_lt = omega (arith, names, p_lt);
+      d_lt = omega (arith, names, d_lt);
+      apart = apart;
+      p_at = p_at ∙ ap (λ xs. get_or xs p p_old) all;
+      d_at = d_at ∙ ap (λ xs. get_or xs d d_old) all;
+    }
 
 -- what holds of all databases still does
-whole-both : (sessions : ℕ) (stores : List DbView) (p d : ℕ) (spare p_old p_new d_old d_new : DbView) → Went stores p d spare p_old d_old → Both (seen_database p_old) (seen_database p_new) (seen_database d_old) (seen_database d_new)
-    → AreWhole sessions stores → AreWhole sessions (with_both stores p d spare d_new p_new)
-whole-both sessions stores p d spare p_old p_new d_old d_new went both whole = record {
-  each = both-kept (HasWhole sessions) stores p d spare p_old p_new d_old d_new went.p_lt went.d_lt went.apart went.p_at went.d_at (whole-new sessions (seen_database spare) went.empty)
+whole-both : (sessions : ℕ) (v : StateView) (stores : List DbView) (p d : ℕ) (p_old p_new d_old d_new : DbView) → Lent v stores p d p_old d_old → Both (seen_database p_old) (seen_database p_new) (seen_database d_old) (seen_database d_new)
+    → AreWhole sessions v.databases.values → AreWhole sessions (with_both v.databases.values p d p_new d_new)
+whole-both sessions v stores p d p_old p_new d_old d_new lent both whole = record {
+  each = both-kept (HasWhole sessions) v.databases.values p d p_old p_new d_old d_new lent.p_lt lent.d_lt lent.p_at lent.d_at
       (whole-calls sessions (seen_database p_old) (seen_database p_new) both.ps both.provider) (whole-calls sessions (seen_database d_old) (seen_database d_new) both.ds both.replica) whole.each;
 }
-
--- what was put in its place comes back
-pub spare-back : (stores : List DbView) (p d : ℕ) (spare d_new x : DbView) → p < length stores → (p == d) ≡ false → x ≡ get_or (slice_set (slice_set stores p spare) d d_new) p x → seen_database spare ≡ database_of []
-    → seen_database x ≡ database_of []
-spare-back stores p d spare d_new x p_lt apart is none =
-    ap seen_database (is ∙ get_or-set_other (slice_set stores p spare) d p d_new x (grind (arith, nat_tests, apart)) ∙ get_or-set_same stores p spare x p_lt) ∙ none
 
 -- ---- the workers
 
@@ -160,31 +156,30 @@ put-then (Err e) ok t = absurd (cc)
 -- ---- what it did
 
 -- the world as it is kept is the one that is shown, with these databases and this in hand
-shown-parts : {H : Type 0} (k : Worker H) (v : StateView) (p d : ℕ) (spare p_old d_old : DbView) (hand : Option H) → p < length v.databases.values → d < length v.databases.values → (p == d) ≡ false
-    → p_old ≡ get_or v.databases.values p p_old → d_old ≡ get_or (slice_set v.databases.values p spare) d d_old → hand ≡ k.has (seen_state v)
+shown-parts : {H : Type 0} (k : Worker H) (v : StateView) (stores : List DbView) (p d : ℕ) (p_old d_old : DbView) (hand : Option H) → Lent v stores p d p_old d_old → hand ≡ k.has (seen_state v)
     → k.does (seen_database p_old) (seen_database d_old) hand ≡ k.does ((seen_state v).database p) ((seen_state v).database d) (k.has (seen_state v))
-shown-parts k v p d spare p_old d_old hand p_lt d_lt apart p_at d_at in_hand_is = λ i.
-    k.does (seen_database (sym (first-there v.databases.values p p_old p_lt p_at) i)) (seen_database (sym (second-there v.databases.values p d spare d_old d_lt apart d_at) i)) (in_hand_is i)
+shown-parts k v stores p d p_old d_old hand lent in_hand_is = λ i.
+    k.does (seen_database (sym (is-there v.databases.values p p_old lent.p_lt lent.p_at) i)) (seen_database (sym (is-there v.databases.values d d_old lent.d_lt lent.d_at) i)) (in_hand_is i)
 
 -- the world after a move
-abbrev after_step : (v : StateView) (p d : ℕ) (spare p_new d_new : DbView) (hands : List HandAt) (batches : List (ℕ × BatchHand)) → StateView
-after_step v p d spare p_new d_new hands batches =
-    record v { databases = with_value (with_value (with_value v.databases p spare) d d_new) p p_new; hands = hands; batches = batches }
+abbrev after_step : (v : StateView) (stores : List DbView) (p d : ℕ) (p_new d_new : DbView) (hands : List HandAt) (batches : List (ℕ × BatchHand)) → StateView
+after_step v stores p d p_new d_new hands batches = record v { databases = with_stores v.databases (with_both stores p d p_new d_new); hands = hands; batches = batches }
 
-module _ {H : Type 0} (k : Worker H) (v now : StateView) (p d : ℕ) (spare p_old p_new d_old d_new : DbView) (hand hand_new : Option H) (hands : List HandAt) (batches : List (ℕ × BatchHand)) (same : v ≡ now) (whole : IsWhole now)
-    (went : Went v.databases.values p d spare p_old d_old) (was : hand ≡ k.has (seen_state v)) (put : PutInHand v hands batches (k.handed hand_new)) where
+module _ {H : Type 0} (k : Worker H) (v now : StateView) (stores : List DbView) (p d : ℕ) (p_old p_new d_old d_new : DbView) (hand hand_new : Option H) (hands : List HandAt) (batches : List (ℕ × BatchHand)) (same : v ≡ now) (whole : IsWhole now)
+    (lent : Lent v stores p d p_old d_old) (was : hand ≡ k.has (seen_state v)) (put : PutInHand v hands batches (k.handed hand_new)) where
   abbrev new : StateView
-  new = after_step v p d spare p_new d_new hands batches
+  new = after_step v stores p d p_new d_new hands batches
 
   parts : k.does (seen_database p_old) (seen_database d_old) hand ≡ k.does ((seen_state now).database p) ((seen_state now).database d) (k.has (seen_state now))
-  parts = shown-parts k v p d spare p_old d_old hand went.p_lt went.d_lt went.apart went.p_at went.d_at was ∙ ap (λ (w : StateView). k.does ((seen_state w).database p) ((seen_state w).database d) (k.has (seen_state w))) same
+  parts = shown-parts k v stores p d p_old d_old hand lent was ∙ ap (λ (w : StateView). k.does ((seen_state w).database p) ((seen_state w).database d) (k.has (seen_state w))) same
 
   -- a move
   happens : (move : Move H) → seen_database p_new ≡ after_calls (seen_database p_old) move.provider → seen_database d_new ≡ after_calls (seen_database d_old) move.replica → hand_new ≡ move.hand
       → Happened now new (move_facts (seen_state now) p d k.handed move)
   happens move p_is d_is in_hand_is =
-      moved-there v now p d k.handed move spare p_old p_new d_old d_new hands batches same went.p_lt went.d_lt went.apart went.p_at went.d_at p_is d_is (subst (λ h. PutInHand v hands batches (k.handed h)) in_hand_is put)
-      (whole-both (length v.sessions.names) v.databases.values p d spare p_old p_new d_old d_new went (record { ps = move.provider; ds = move.replica; provider = p_is; replica = d_is }) (subst IsWhole (sym same) whole))
+      subst (λ n. Happened now (record v { databases = n; hands = hands; batches = batches }) (move_facts (seen_state now) p d k.handed move)) (sym (both-kept-as v stores p d p_new d_new lent.all))
+      (moved-there v now p d k.handed move p_old p_new d_old d_new hands batches same lent.p_lt lent.d_lt lent.apart lent.p_at lent.d_at p_is d_is (subst (λ h. PutInHand v hands batches (k.handed h)) in_hand_is put)
+      (whole-both (length v.sessions.names) v stores p d p_old p_new d_old d_new lent (record { ps = move.provider; ds = move.replica; provider = p_is; replica = d_is }) (subst IsWhole (sym same) whole)))
 
   pub step-done : (replies : List Reply) → MovesBy (k.does (seen_database p_old) (seen_database d_old) hand) (seen_database p_old) (seen_database p_new) (seen_database d_old) (seen_database d_new) replies hand_new
       → DoesAll now new replies (steps k (seen_state now) p d)
@@ -219,11 +214,11 @@ module _ {H : Type 0} (k : Worker H) (v now : StateView) (p d : ℕ) (spare p_ol
 
 -- ---- a move as the code makes it
 
-pub record Tried {H A E : Type 0} (k : Worker H) (v now : StateView) (p d : ℕ) (spare p_old p_new d_old d_new : DbView) (hand hand_new : Option H) (hands : List HandAt) (batches : List (ℕ × BatchHand))
+pub record Tried {H A E : Type 0} (k : Worker H) (v now : StateView) (stores : List DbView) (p d : ℕ) (p_old p_new d_old d_new : DbView) (hand hand_new : Option H) (hands : List HandAt) (batches : List (ℕ × BatchHand))
     (items : A → List Reply) (moved : Result A WorkerFault) (given : Result A Stop) (kept : Result (Unit {0}) E) : Type 0 where
   pub same : v ≡ now
   pub whole : IsWhole now
-  pub went : Went v.databases.values p d spare p_old d_old
+  pub lent : Lent v stores p d p_old d_old
   pub was : hand ≡ k.has (seen_state v)
   pub put : OnOk kept (PutInHand v hands batches (k.handed hand_new))
   pub keeps : OnOk kept (given ≡ stopping moved)
@@ -231,13 +226,13 @@ pub record Tried {H A E : Type 0} (k : Worker H) (v now : StateView) (p d : ℕ)
   pub moves : IfOk moved (λ a. MovesBy (k.does (seen_database p_old) (seen_database d_old) hand) (seen_database p_old) (seen_database p_new) (seen_database d_old) (seen_database d_new) (items a) hand_new)
   pub stops : IfErr moved (λ f. MoveRefused f (k.does (seen_database p_old) (seen_database d_old) hand) (seen_database p_old) (seen_database p_new) (seen_database d_old) (seen_database d_new) hand hand_new)
 
-module _ {H A E : Type 0} {k : Worker H} {v now : StateView} {p d : ℕ} {spare p_old p_new d_old d_new : DbView} {hand hand_new : Option H} {hands : List HandAt} {batches : List (ℕ × BatchHand)}
-    {items : A → List Reply} {moved : Result A WorkerFault} {given : Result A Stop} {kept : Result (Unit {0}) E} (tried : Tried k v now p d spare p_old p_new d_old d_new hand hand_new hands batches items moved given kept) where
+module _ {H A E : Type 0} {k : Worker H} {v now : StateView} {stores : List DbView} {p d : ℕ} {p_old p_new d_old d_new : DbView} {hand hand_new : Option H} {hands : List HandAt} {batches : List (ℕ × BatchHand)}
+    {items : A → List Reply} {moved : Result A WorkerFault} {given : Result A Stop} {kept : Result (Unit {0}) E} (tried : Tried k v now stores p d p_old p_new d_old d_new hand hand_new hands batches items moved given kept) where
   kept-given : run_out given ≡ false → (given ≡ stopping moved) × (is_ok kept ≡ true)
   kept-given sound = kept-moved kept moved given tried.keeps tried.lost sound
 
   abbrev after : StateView
-  after = after_step v p d spare p_new d_new hands batches
+  after = after_step v stores p d p_new d_new hands batches
 
   pub tried-ok : IfOk given (λ a. DoesAll now after (items a) (steps k (seen_state now) p d))
   tried-ok = by given refl
@@ -245,7 +240,7 @@ module _ {H A E : Type 0} {k : Worker H} {v now : StateView} {p d : ℕ} {spare 
       done : (a : A) (m : Result A WorkerFault) → moved ≡ m → given ≡ Ok a → stopping m ≡ Ok a → is_ok kept ≡ true → DoesAll now after (items a) (steps k (seen_state now) p d)
       done a (Ok b) same is e ok =
           subst (λ x. DoesAll now after (items x) (steps k (seen_state now) p d)) (ap (value_or b) e)
-          (step-done k v now p d spare p_old p_new d_old d_new hand hand_new hands batches tried.same tried.whole tried.went tried.was (put-then kept ok tried.put) (items b)
+          (step-done k v now stores p d p_old p_new d_old d_new hand hand_new hands batches tried.same tried.whole tried.lent tried.was (put-then kept ok tried.put) (items b)
           (subst (λ m. IfOk m (λ x. MovesBy (k.does (seen_database p_old) (seen_database d_old) hand) (seen_database p_old) (seen_database p_new) (seen_database d_old) (seen_database d_new) (items x) hand_new)) same tried.moves))
       done a (Err f) same is e ok = absurd (cc)
 
@@ -261,7 +256,7 @@ module _ {H A E : Type 0} {k : Worker H} {v now : StateView} {p d : ℕ} {spare 
       refused refusal (Ok a) same is e ok = absurd (cc)
       refused refusal (Err f) same is e ok =
           subst (λ s. Stopped now after s (steps k (seen_state now) p d)) (ap stop_in e)
-          (step-refused k v now p d spare p_old p_new d_old d_new hand hand_new hands batches tried.same tried.whole tried.went tried.was (put-then kept ok tried.put) f
+          (step-refused k v now stores p d p_old p_new d_old d_new hand hand_new hands batches tried.same tried.whole tried.lent tried.was (put-then kept ok tried.put) f
           (subst (λ m. IfErr m (λ x. MoveRefused x (k.does (seen_database p_old) (seen_database d_old) hand) (seen_database p_old) (seen_database p_new) (seen_database d_old) (seen_database d_new) hand hand_new)) same tried.stops))
 
       by : (g : Result A Stop) → given ≡ g → IfErr g (λ s. Stopped now after s (steps k (seen_state now) p d))
@@ -270,46 +265,44 @@ module _ {H A E : Type 0} {k : Worker H} {v now : StateView} {p d : ℕ} {spare 
       by (Err (stop.Refused refusal)) is = let both = kept-given (ap run_out is) in refused refusal moved refl is (sym both.0 ∙ is) both.1
 
 -- so it was tried, as the code finds it
-tried-as : {H A E : Type 0} (k : Worker H) (v now : StateView) (p d : ℕ) (spare p_old stepped p_new d_old d_new : DbView) (hand hand_new : Option H) (hands : List HandAt) (batches : List (ℕ × BatchHand))
-    (items : A → List Reply) (moved : Result A WorkerFault) (given : Result A Stop) (kept : Result (Unit {0}) E) → v ≡ now → IsWhole now → Went v.databases.values p d spare p_old d_old → hand ≡ k.has (seen_state v)
+tried-as : {H A E : Type 0} (k : Worker H) (v now : StateView) (stores : List DbView) (p d : ℕ) (p_old p_new d_old d_new : DbView) (hand hand_new : Option H) (hands : List HandAt) (batches : List (ℕ × BatchHand))
+    (items : A → List Reply) (moved : Result A WorkerFault) (given : Result A Stop) (kept : Result (Unit {0}) E) → v ≡ now → IsWhole now → Lent v stores p d p_old d_old → hand ≡ k.has (seen_state v)
     → OnOk kept (PutInHand v hands batches (k.handed hand_new)) → OnOk kept (given ≡ stopping moved) → OnErr kept (given ≡ Err stop.NoMemory)
-    → p_new ≡ stepped
-    → IfOk moved (λ a. MovesBy (k.does (seen_database p_old) (seen_database d_old) hand) (seen_database p_old) (seen_database stepped) (seen_database d_old) (seen_database d_new) (items a) hand_new)
-    → IfErr moved (λ f. MoveRefused f (k.does (seen_database p_old) (seen_database d_old) hand) (seen_database p_old) (seen_database stepped) (seen_database d_old) (seen_database d_new) hand hand_new)
-    → Tried k v now p d spare p_old p_new d_old d_new hand hand_new hands batches items moved given kept
-tried-as k v now p d spare p_old stepped p_new d_old d_new hand hand_new hands batches items moved given kept same whole went was put keeps lost back by not = record {
+    → IfOk moved (λ a. MovesBy (k.does (seen_database p_old) (seen_database d_old) hand) (seen_database p_old) (seen_database p_new) (seen_database d_old) (seen_database d_new) (items a) hand_new)
+    → IfErr moved (λ f. MoveRefused f (k.does (seen_database p_old) (seen_database d_old) hand) (seen_database p_old) (seen_database p_new) (seen_database d_old) (seen_database d_new) hand hand_new)
+    → Tried k v now stores p d p_old p_new d_old d_new hand hand_new hands batches items moved given kept
+tried-as k v now stores p d p_old p_new d_old d_new hand hand_new hands batches items moved given kept same whole lent was put keeps lost by not = record {
   same = same;
   whole = whole;
-  went = went;
+  lent = lent;
   was = was;
   put = put;
   keeps = keeps;
   lost = lost;
-  moves = subst (λ x. IfOk moved (λ a. MovesBy (k.does (seen_database p_old) (seen_database d_old) hand) (seen_database p_old) (seen_database x) (seen_database d_old) (seen_database d_new) (items a) hand_new)) (sym back) by;
-  stops = subst (λ x. IfErr moved (λ f. MoveRefused f (k.does (seen_database p_old) (seen_database d_old) hand) (seen_database p_old) (seen_database x) (seen_database d_old) (seen_database d_new) hand hand_new)) (sym back) not;
+  moves = by;
+  stops = not;
 }
 
--- a copy's worker took up what it had, and put down what it has
-hands-set : (d : ℕ) (table : List ℕ) (hand : Option Hand) (old taken set : List HandAt) → hand_at taken ≡ changed_at d (changed_for table (λ _. None)) (hand_at old)
-    → hand_at set ≡ changed_at d (changed_for table (λ _. hand)) (hand_at taken) → hand_at set ≡ changed_at d (changed_for table (λ _. hand)) (hand_at old)
-hands-set d table hand old taken set took put = put ∙ ap (changed_at d (changed_for table (λ _. hand))) took ∙ changed-twice d table hand None (hand_at old)
+-- a copy's worker put down what it has, where it took up what it had
+put-copy : (v : StateView) (d : ℕ) (table : List ℕ) (set hand_new : Option Hand) (placed taken hands : List HandAt) (place : ℕ) → hand_at placed ≡ hand_at v.hands → IsPlaceOf placed d table place → taken ≡ with_hand placed place None
+    → set ≡ hand_new → hands ≡ with_hand taken place set → PutInHand v hands v.batches (in_hand d table hand_new)
+put-copy v d table set hand_new placed taken hands place same at took is put = λ stores i.
+    record (seen_state v) { database = stores; hands = (hand-moved d table set placed taken hands place at took put ∙ (λ j. changed_at d (changed_for table (λ _. is j)) (same j))) i }
 
-put-copy : {E : Type 0} (kept : Result (Unit {0}) E) (v : StateView) (d : ℕ) (table : List ℕ) (set hand_new : Option Hand) (taken hands : List HandAt) → hand_at taken ≡ changed_at d (changed_for table (λ _. None)) (hand_at v.hands)
-    → set ≡ hand_new → OnOk kept (hand_at hands ≡ changed_at d (changed_for table (λ _. set)) (hand_at taken)) → OnOk kept (PutInHand v hands v.batches (in_hand d table hand_new))
-put-copy (Err e) v d table set hand_new taken hands took is put = tt
-put-copy (Ok _) v d table set hand_new taken hands took is put = λ stores i.
-    record (seen_state v) { database = stores; hands = (hands-set d table set v.hands taken hands took put ∙ ap (λ h. changed_at d (changed_for table (λ _. h)) (hand_at v.hands)) is) i }
+-- that can't fail
+abbrev pub kept-there : Result (Unit {0}) (Unit {0})
+kept-there = Ok tt
 
 -- so it was tried for a table
-pub copy-tried : {A E : Type 0} (v now : StateView) (p d : ℕ) (table : List ℕ) (spare p_old stepped p_new d_old d_new : DbView) (hand hand_new set : Option Hand) (taken hands : List HandAt) (items : A → List Reply)
-    (moved : Result A WorkerFault) (given : Result A Stop) (kept : Result (Unit {0}) E) → v ≡ now → IsWhole now → Went v.databases.values p d spare p_old d_old → hand ≡ hand_at v.hands d table
-    → hand_at taken ≡ changed_at d (changed_for table (λ _. None)) (hand_at v.hands) → set ≡ hand_new → OnOk kept (hand_at hands ≡ changed_at d (changed_for table (λ _. set)) (hand_at taken)) → OnOk kept (given ≡ stopping moved)
-    → OnErr kept (given ≡ Err stop.NoMemory) → p_new ≡ stepped
-    → IfOk moved (λ a. MovesBy (copy_move (seen_database p_old) (seen_database d_old) table hand) (seen_database p_old) (seen_database stepped) (seen_database d_old) (seen_database d_new) (items a) hand_new)
-    → IfErr moved (λ f. MoveRefused f (copy_move (seen_database p_old) (seen_database d_old) table hand) (seen_database p_old) (seen_database stepped) (seen_database d_old) (seen_database d_new) hand hand_new)
-    → Tried (copier_of d table) v now p d spare p_old p_new d_old d_new hand hand_new hands v.batches items moved given kept
-copy-tried v now p d table spare p_old stepped p_new d_old d_new hand hand_new set taken hands items moved given kept same whole went was took is put =
-    tried-as (copier_of d table) v now p d spare p_old stepped p_new d_old d_new hand hand_new hands v.batches items moved given kept same whole went was (put-copy kept v d table set hand_new taken hands took is put)
+pub copy-tried : {A : Type 0} (v now : StateView) (stores : List DbView) (p d : ℕ) (table : List ℕ) (p_old p_new d_old d_new : DbView) (hand hand_new set : Option Hand) (placed taken hands : List HandAt) (place : ℕ) (items : A → List Reply)
+    (moved : Result A WorkerFault) (given : Result A Stop) → v ≡ now → IsWhole now → Lent v stores p d p_old d_old → hand_at placed ≡ hand_at v.hands → IsPlaceOf placed d table place → hand ≡ (worker_at placed place).hand
+    → taken ≡ with_hand placed place None → set ≡ hand_new → hands ≡ with_hand taken place set → given ≡ stopping moved
+    → IfOk moved (λ a. MovesBy (copy_move (seen_database p_old) (seen_database d_old) table hand) (seen_database p_old) (seen_database p_new) (seen_database d_old) (seen_database d_new) (items a) hand_new)
+    → IfErr moved (λ f. MoveRefused f (copy_move (seen_database p_old) (seen_database d_old) table hand) (seen_database p_old) (seen_database p_new) (seen_database d_old) (seen_database d_new) hand hand_new)
+    → Tried (copier_of d table) v now stores p d p_old p_new d_old d_new hand hand_new hands v.batches items moved given kept-there
+copy-tried v now stores p d table p_old p_new d_old d_new hand hand_new set placed taken hands place items moved given same whole lent same_hands at hand_is took is put stops =
+    tried-as (copier_of d table) v now stores p d p_old p_new d_old d_new hand hand_new hands v.batches items moved given kept-there same whole lent (hand_is ∙ sym (hand-there d table placed place at) ∙ ap (λ f. f d table) same_hands)
+    (put-copy v d table set hand_new placed taken hands place same_hands at took is put) stops tt
 
 -- a leaf's worker put down what it has
 put-batch : {E : Type 0} (kept : Result (Unit {0}) E) (v : StateView) (d : ℕ) (set hand_new : Option BatchHand) (batches : List (ℕ × BatchHand)) → set ≡ hand_new
@@ -318,23 +311,23 @@ put-batch (Err e) v d set hand_new batches is put = tt
 put-batch (Ok _) v d set hand_new batches is put = λ stores i. record (seen_state v) { database = stores; batches = (put ∙ ap (λ h. changed_at d (λ _. h) (batch_at v.batches)) is) i }
 
 -- so it was tried for a leaf
-pub batch-tried : {A E : Type 0} (v now : StateView) (p d : ℕ) (spare p_old stepped p_new d_old d_new : DbView) (hand hand_new set : Option BatchHand) (batches : List (ℕ × BatchHand)) (items : A → List Reply)
-    (moved : Result A WorkerFault) (given : Result A Stop) (kept : Result (Unit {0}) E) → v ≡ now → IsWhole now → Went v.databases.values p d spare p_old d_old → hand ≡ batch_at v.batches d
+pub batch-tried : {A E : Type 0} (v now : StateView) (stores : List DbView) (p d : ℕ) (p_old p_new d_old d_new : DbView) (hand hand_new set : Option BatchHand) (batches : List (ℕ × BatchHand)) (items : A → List Reply)
+    (moved : Result A WorkerFault) (given : Result A Stop) (kept : Result (Unit {0}) E) → v ≡ now → IsWhole now → Lent v stores p d p_old d_old → hand ≡ batch_at v.batches d
     → set ≡ hand_new → OnOk kept (batch_at batches ≡ changed_at d (λ _. set) (batch_at v.batches)) → OnOk kept (given ≡ stopping moved)
-    → OnErr kept (given ≡ Err stop.NoMemory) → p_new ≡ stepped
-    → IfOk moved (λ a. MovesBy (replay_move (seen_database p_old) (seen_database d_old) (leaf_in (seen_database d_old).node) hand) (seen_database p_old) (seen_database stepped) (seen_database d_old) (seen_database d_new) (items a) hand_new)
-    → IfErr moved (λ f. MoveRefused f (replay_move (seen_database p_old) (seen_database d_old) (leaf_in (seen_database d_old).node) hand) (seen_database p_old) (seen_database stepped) (seen_database d_old) (seen_database d_new) hand hand_new)
-    → Tried (replayer_of d) v now p d spare p_old p_new d_old d_new hand hand_new v.hands batches items moved given kept
-batch-tried v now p d spare p_old stepped p_new d_old d_new hand hand_new set batches items moved given kept same whole went was is put =
-    tried-as (replayer_of d) v now p d spare p_old stepped p_new d_old d_new hand hand_new v.hands batches items moved given kept same whole went was (put-batch kept v d set hand_new batches is put)
+    → OnErr kept (given ≡ Err stop.NoMemory)
+    → IfOk moved (λ a. MovesBy (replay_move (seen_database p_old) (seen_database d_old) (leaf_in (seen_database d_old).node) hand) (seen_database p_old) (seen_database p_new) (seen_database d_old) (seen_database d_new) (items a) hand_new)
+    → IfErr moved (λ f. MoveRefused f (replay_move (seen_database p_old) (seen_database d_old) (leaf_in (seen_database d_old).node) hand) (seen_database p_old) (seen_database p_new) (seen_database d_old) (seen_database d_new) hand hand_new)
+    → Tried (replayer_of d) v now stores p d p_old p_new d_old d_new hand hand_new v.hands batches items moved given kept
+batch-tried v now stores p d p_old p_new d_old d_new hand hand_new set batches items moved given kept same whole lent was is put =
+    tried-as (replayer_of d) v now stores p d p_old p_new d_old d_new hand hand_new v.hands batches items moved given kept same whole lent was (put-batch kept v d set hand_new batches is put)
 
 -- ---- what is in hand is lost
 
-pub restart-there : (v now : StateView) (p d : ℕ) (table : List ℕ) (spare p_old stepped p_new d_old d_new : DbView) (hand hand_new : Option Hand) (hands : List HandAt) → v ≡ now → IsWhole now
-    → Went v.databases.values p d spare p_old d_old → hand ≡ hand_at v.hands d table → hand_at hands ≡ changed_at d (changed_for table (λ _. None)) (hand_at v.hands) → p_new ≡ stepped
-    → MovesAs (gives_up_in table hand) (seen_database p_old) (seen_database stepped) (seen_database d_old) (seen_database d_new) [] hand_new
-    → Happened now (after_step v p d spare p_new d_new hands v.batches) (move_facts (seen_state now) p d (in_hand d table) (restarting table (hand_at now.hands d table)))
-restart-there v now p d table spare p_old stepped p_new d_old d_new hand hand_new hands same whole went was took back moved =
-    subst (λ o. Happened now (after_step v p d spare p_new d_new hands v.batches) (move_facts (seen_state now) p d (in_hand d table) (restarting table o))) (was ∙ ap (λ (w : StateView). hand_at w.hands d table) same)
-    (happens (copier_of d table) v now p d spare p_old p_new d_old d_new hand None hands v.batches same whole went was (λ stores i. record (seen_state v) { database = stores; hands = took i })
-    (restarting table hand) (ap seen_database back ∙ moved.provider.changed) moved.replica.changed refl)
+pub restart-there : (v now : StateView) (stores : List DbView) (p d : ℕ) (table : List ℕ) (p_old p_new d_old d_new : DbView) (hand hand_new : Option Hand) (hands : List HandAt) → v ≡ now → IsWhole now
+    → Lent v stores p d p_old d_old → hand ≡ hand_at v.hands d table → hand_at hands ≡ changed_at d (changed_for table (λ _. None)) (hand_at v.hands)
+    → MovesAs (gives_up_in table hand) (seen_database p_old) (seen_database p_new) (seen_database d_old) (seen_database d_new) [] hand_new
+    → Happened now (after_step v stores p d p_new d_new hands v.batches) (move_facts (seen_state now) p d (in_hand d table) (restarting table (hand_at now.hands d table)))
+restart-there v now stores p d table p_old p_new d_old d_new hand hand_new hands same whole lent was took moved =
+    subst (λ o. Happened now (after_step v stores p d p_new d_new hands v.batches) (move_facts (seen_state now) p d (in_hand d table) (restarting table o))) (was ∙ ap (λ (w : StateView). hand_at w.hands d table) same)
+    (happens (copier_of d table) v now stores p d p_old p_new d_old d_new hand None hands v.batches same whole lent was (λ stores i. record (seen_state v) { database = stores; hands = took i })
+    (restarting table hand) moved.provider.changed moved.replica.changed refl)

@@ -1,5 +1,5 @@
 -- The statements on the workers of leaves, by the leaf and the database that they find.
-use Rattle.std.proofs.Common.{◌≡◌, ℕ, List, [], ◌∷◌, Bool, true, false, not, ◌&&◌, bytes_eq, option_map, is_some, Option, Some, None, Ok, refl, sym, ◌∙◌, ap, if◌then◌else◌}
+use Rattle.std.proofs.Common.{◌≡◌, ℕ, List, [], ◌∷◌, Bool, true, false, not, ◌&&◌, bytes_eq, Option, Some, None, Ok, refl, sym, ◌∙◌, ap, if◌then◌else◌}
 use Rattle.std.proofs.lemmas.Bool.{and_parts}
 use Rattle.sky_val.specs.declared.column.Column.{Column}
 use Rattle.sky_val.specs.declared.column.ColKind.{ColKind}
@@ -10,7 +10,6 @@ use Rattle.sky_model.specs.declared.reply.Reply.TheVariants.{Done}
 use Rattle.sky_model.specs.declared.reply.Refusal.TheVariants.{NoNode, NotInSet}
 use Rattle.sky_model.specs.History.{in_hand, batch_in_hand}
 use Rattle.sky_model.specs.Outcome.{Checked, ◌>>=◌, ◌>>◌, found_or, refused_if}
-use Rattle.sky_model.specs.StepNode.{table_number}
 use Rattle.sky_model.specs.ReplayMoves.{replay_move}
 use Rattle.sky_model.specs.NodesOfWorld.{WorldOutcome, Located, node_called, same_kind, same_column, same_columns, columns_called}
 use Rattle.sky_model.specs.Nodes.{leaf_tables}
@@ -21,7 +20,7 @@ use Rattle.sky_model.specs.WorkersOfWorld.{leaf_table, source, source_alike, are
 use Rattle.sky_world.specs.Views.{StateView}
 use Rattle.sky_world.specs.Seen.{seen_state}
 use Rattle.sky_world.specs.Nodes.{Happened, Does}
-use Rattle.sky_world.specs.Workers.{if_leaf, leaf_called, leaf_with, leaf_in, copies, replays}
+use Rattle.sky_world.specs.Workers.{AreAlike, if_leaf, leaf_called, leaf_with, leaf_in, copies, replays}
 
 -- ---- by the leaf
 
@@ -150,17 +149,15 @@ same-all [] (e ∷ es) is = absurd (cc)
 same-all (c ∷ cs) [] is = absurd (cc)
 
 -- two databases have a table, with the same columns
-pub same-table : (p r : Database) (table : List ℕ) (l : Leaf) → r.node ≡ Some (of_leaf l) → is_among table (tables_of (of_leaf l)) ≡ true → are_alike (columns_called table p) (columns_called table r) ≡ true → SameTable p r table
-same-table p r table l node among alike = record {
+pub same-table : (p r : Database) (table : List ℕ) (l : Leaf) → r.node ≡ Some (of_leaf l) → is_among table (tables_of (of_leaf l)) ≡ true → (numbers : ℕ × ℕ) → AreAlike p r table numbers
+    → SameTable p r table numbers.0 numbers.1
+same-table p r table l node among numbers alike = record {
   joined = ap (λ n. is_among table (leaf_tables n)) node ∙ among;
-  there = there (table_number p table) alike;
-  columns = columns (columns_called table p) (columns_called table r) alike;
+  there = alike.there;
+  here = alike.here;
+  columns = columns (columns_called table p) (columns_called table r) alike.columns;
 }
   where
-    there : (o : Option ℕ) → are_alike (option_map p.part.columns o) (columns_called table r) ≡ true → is_some o ≡ true
-    there None is = absurd (cc)
-    there (Some t) is = refl
-
     columns : (a b : Option (List Column)) → are_alike a b ≡ true → a ≡ b
     columns None b is = absurd (cc)
     columns (Some cs) None is = absurd (cc)

@@ -1,4 +1,5 @@
 pub mod Hands
+pub mod Databases
 pub mod Views
 pub mod Seen
 pub mod Homes

@@ -81,10 +81,6 @@ Joined old new database (Ok tick) consumer = Joins old new database tick consume
 Joined old new database (Err (Refused refusal)) consumer = (node_does ((seen_state old).database database) (joining consumer) ≡ Err refusal) × Stays old new
 Joined old new database (Err NoMemory) consumer = Unit {0}
 
--- why a database may not get a node of this name: there is one, or the database has a node
-abbrev pub refuses_new : World → ℕ → List ℕ → Checked (Unit {0})
-refuses_new w d name = refused_if (is_some (node_called w name) || is_some (w.database d).node) (NodeExists name)
-
 -- a leaf of a provider of this name, in this database
 abbrev pub leaf_from : World → ℕ → (name provider : List ℕ) → (from : ℕ) → Checked WorldOutcome
 leaf_from w d name provider from = do

@@ -1,19 +1,12 @@
 -- What the world's methods give on statements that are allowed only outside blocks, by what the world showed.
 use Rattle.std.specs.Prelude.{◌≡◌, ℕ, ◌<◌, List, Option, Some, None, Ok, length}
 use Rattle.sky_model.specs.declared.reply.Reply.{Reply}
-use Rattle.sky_model.specs.declared.reply.Refusal.TheVariants.{NotOpen}
-use Rattle.sky_model.specs.World.{World}
-use Rattle.sky_model.specs.Reader.{by_world, Deed, refuses}
-use Rattle.sky_model.specs.Calls.{allowed_outside, if_allowed}
+use Rattle.sky_model.specs.Reader.{by_world, Deed}
+use Rattle.sky_model.specs.Calls.{allowed_outside, if_outside}
 use Rattle.sky_world.specs.Views.{StateView}
 use Rattle.sky_world.specs.Seen.{seen_state}
 use Rattle.sky_world.specs.Adds.{AddsDeed}
 use Rattle.sky_world.specs.Nodes.{Stays}
-
--- such a statement does this, by the database that its session has open, unless the session may not make it
-abbrev pub if_outside : World → ℕ → (ℕ → Deed) → Option ℕ → Deed
-if_outside w who deed None = refuses who NotOpen
-if_outside w who deed (Some d) = if_allowed by_world w who d (allowed_outside (w.database d) who) (deed d)
 
 -- a session may make one in this database, which it has open, and nothing is changed
 pub record IsOutside (old new : StateView) (who database : ℕ) : Type 0 where
@@ -26,4 +19,4 @@ pub record IsOutside (old new : StateView) (who database : ℕ) : Type 0 where
 -- it may, and nothing is answered; or whatever such a statement is, it is refused
 abbrev pub Enters : (old new : StateView) (before after : List (ℕ × Reply)) → ℕ → Option ℕ → Type 0
 Enters old new before after who (Some database) = IsOutside old new who database × (after ≡ before)
-Enters old new before after who None = (deed : ℕ → Deed) → AddsDeed old new before after (if_outside (seen_state old) who deed ((seen_state old).homes who))
+Enters old new before after who None = (deed : ℕ → Deed) → AddsDeed old new before after (if_outside by_world (seen_state old) who deed ((seen_state old).homes who))

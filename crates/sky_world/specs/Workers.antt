@@ -1,5 +1,5 @@
 -- What the world's methods on the workers of leaves give, by what the world showed.
-use Rattle.std.specs.Prelude.{ℕ, List, [], ◌∷◌, ◌++◌, not, Option, Some, None, Result, Ok, Err}
+use Rattle.std.specs.Prelude.{◌≡◌, true, ℕ, List, [], ◌∷◌, ◌++◌, not, Option, Some, None, Result, Ok, Err}
 use Rattle.londiste_state.specs.Nodes.{Node, of_root, of_leaf, Leaf, is_among, tables_of}
 use Rattle.sky_model.specs.declared.reply.Reply.TheVariants.{Done}
 use Rattle.sky_model.specs.declared.reply.Refusal.TheVariants.{IdsSpent, NoNode, NotInSet, NotLeaf, TooMany, TxidsSpent}
@@ -9,15 +9,16 @@ use Rattle.sky_model.specs.declared.stop.Stop.TheVariants as stop
 use Rattle.sky_model.specs.Hands.{Hand, copy_in}
 use Rattle.sky_model.specs.History.{in_hand, batch_in_hand}
 use Rattle.sky_model.specs.Outcome.{Checked, ◌>>=◌, ◌>>◌, found_or, refused_if}
-use Rattle.sky_model.specs.StepNode.{NodeCall, parting, removing, letting_go}
+use Rattle.sky_model.specs.StepNode.{NodeCall, table_number, parting, removing, letting_go}
 use Rattle.sky_model.specs.WorkerMoves.{Move}
 use Rattle.sky_model.specs.CopyMoves.{copy_move, lets_go_for}
 use Rattle.sky_model.specs.ReplayMoves.{replay_move}
-use Rattle.sky_model.specs.NodesOfWorld.{WorldOutcome, node_called}
-use Rattle.sky_model.specs.WorkersOfWorld.{moves}
+use Rattle.sky_model.specs.NodesOfWorld.{WorldOutcome, node_called, columns_called}
+use Rattle.sky_model.specs.State.{Database}
+use Rattle.sky_model.specs.WorkersOfWorld.{moves, are_alike}
 use Rattle.sky_model.specs.World.{World}
-use Rattle.pgq_db.specs.declared.faults.WorkerFault.{WorkerFault}
-use Rattle.pgq_db.specs.declared.faults.WorkerFault.TheVariants as fault
+use Rattle.londiste_calls.specs.declared.faults.WorkerFault.{WorkerFault}
+use Rattle.londiste_calls.specs.declared.faults.WorkerFault.TheVariants as fault
 
 -- a node that is a leaf, in a database
 abbrev pub if_leaf : (name : List ℕ) → (database : ℕ) → Node → Checked (ℕ × Leaf)
@@ -36,6 +37,12 @@ leaf_with w name table = do
   x ← leaf_called w name
   refused_if (not (is_among table (tables_of (of_leaf x.1)))) (NotInSet table)
   Ok x
+
+-- two databases have a table, under these numbers, with the same columns
+pub record AreAlike (p r : Database) (table : List ℕ) (numbers : ℕ × ℕ) : Type 0 where
+  pub there : table_number p table ≡ Some numbers.0
+  pub here : table_number r table ≡ Some numbers.1
+  pub columns : are_alike (columns_called table p) (columns_called table r) ≡ true
 
 -- the leaf that a node is; any other node is read as a leaf without tables
 abbrev pub leaf_in : Option Node → Leaf

@@ -1,11 +1,9 @@
 //! What the workers of leaves have in hand, from one move to the next.
 
-ghost use Rattle.std.specs.Prelude.{◌≡◌, [], None, OnOk, OnErr, option_map, position};
-ghost use Rattle.sky_model.specs.Hands as model;
-ghost use Rattle.sky_model.specs.Hands.{copy_in};
+ghost use Rattle.std.specs.Prelude.{◌≡◌, ◌<◌, [], None, IfOk, OnOk, OnErr, length, option_map, position};
 ghost use Rattle.sky_model.specs.State.{changed_at, changed_for};
 ghost use Rattle.londiste_copy.specs.Hands.{hand_of};
-ghost use Rattle.sky_world.specs.Hands.{is_hand_of, hand_at, batch_at};
+ghost use Rattle.sky_world.specs.Hands.{IsPlaceOf, is_hand_of, hand_at, worker_at, with_hand, batch_at};
 
 use londiste_batches::BatchHand;
 use londiste_copy::Hand;
@@ -68,13 +66,40 @@ impl Hands {
         }
     }
 
-    /// The number of the hold of a copy that the worker of a table has in hand.
-    pub(crate) fn hold(&self, database: usize, table: &Text) -> Option<u64>
-        ensures { result ≡ option_map model.CopyHand.hold (copy_in (hand_at self.now database table.now)) }
+    /// The place of the worker of a table. If it has none yet, it gets one, with nothing in hand.
+    pub(crate) fn place_for(&mut self, database: usize, table: &Text) -> Result<usize, NoMemory>
+        ensures place { IfOk result (λ place. IsPlaceOf self.new database table.now place) }
+        ensures same { hand_at self.new ≡ hand_at self.old }
     {
-        let at = self.place(database, table)?;
-        let hand = self.hands[at].hand.as_ref()?;
-        hand.hold()
+        if let Some(place) = self.place(database, table) {
+            return Ok(place);
+        }
+        let place = self.hands.len();
+        let table = table.copy(self.alloc)?;
+        let hand = None;
+        self.hands.push(HandAt {
+            database,
+            table,
+            hand,
+        })?;
+        Ok(place)
+    }
+
+    /// Takes what the worker at a place has in hand, which is nothing then.
+    pub(crate) fn take_at(&mut self, place: usize) -> Option<Hand>
+        requires { place < length self.old }
+        ensures hand { option_map hand_of result ≡ (worker_at self.old place).hand }
+        ensures nothing { self.new ≡ with_hand self.old place None }
+    {
+        self.hands[place].hand.take()
+    }
+
+    /// From now on the worker at a place has this in hand, or nothing.
+    pub(crate) fn put_at(&mut self, place: usize, hand: Option<Hand>)
+        requires { place < length self.old }
+        ensures { self.new ≡ with_hand self.old place (option_map hand_of hand) }
+    {
+        self.hands[place].hand = hand;
     }
 
     /// Takes what the worker of a table has in hand, which is nothing then.
@@ -82,35 +107,8 @@ impl Hands {
         ensures hand { option_map hand_of result ≡ hand_at self.old database table.now }
         ensures nothing { hand_at self.new ≡ changed_at database (changed_for table.now (λ _. None)) (hand_at self.old) }
     {
-        let at = self.place(database, table)?;
-        self.hands[at].hand.take()
-    }
-
-    /// From now on the worker of a table has this in hand, or nothing. If memory runs out, nothing changes.
-    pub(crate) fn set(
-        &mut self,
-        database: usize,
-        table: &Text,
-        hand: Option<Hand>,
-    ) -> Result<(), NoMemory>
-        ensures ok { OnOk result (hand_at self.new ≡ changed_at database (changed_for table.now (λ _. option_map hand_of hand)) (hand_at self.old)) }
-        ensures err { OnErr result (self.new ≡ self.old) }
-    {
-        match self.place(database, table) {
-            Some(at) => self.hands[at].hand = hand,
-            None => {
-                let Some(hand) = hand else {
-                    return Ok(());
-                };
-                let table = table.copy(self.alloc)?;
-                self.hands.push(HandAt {
-                    database,
-                    table,
-                    hand: Some(hand),
-                })?;
-            }
-        }
-        Ok(())
+        let place = self.place(database, table)?;
+        self.take_at(place)
     }
 
     /// The place of the worker of a table.

@@ -7,6 +7,7 @@
 #![tactic(auto)]
 
 mod clock;
+mod databases;
 mod hands;
 mod nodes;
 mod state;

@@ -9,12 +9,12 @@ ghost use Rattle.sky_model.specs.History.{within, node_made, noded, leaf_made};
 ghost use Rattle.sky_model.specs.Stops.{StopsAs};
 ghost use Rattle.sky_model.specs.Reader.{by_world};
 ghost use Rattle.sky_model.specs.StepNode.{makes_root, set_queue, table_number, may_serve, node_does, adding, listing, unlisting};
-ghost use Rattle.sky_model.specs.NodesOfWorld.{node_called, done_in, root_of, create_root, provides, same_columns, uses, first_user, create_leaf, add_table, table_state};
+ghost use Rattle.sky_model.specs.NodesOfWorld.{node_called, refuses_new, done_in, root_of, create_root, provides, same_columns, uses, first_user, create_leaf, add_table, table_state};
 ghost use Rattle.sky_model.specs.WorkersOfWorld.{parts_for, remove_table, node_form};
 ghost use Rattle.sky_model.specs.Calls.{world_does, node_stmt_does};
 ghost use Rattle.sky_world.specs.Seen.{seen_state};
 ghost use Rattle.sky_world.specs.Adds.{AddsDeed};
-ghost use Rattle.sky_world.specs.Nodes.{Happened, Does, DoesAll, Stopped, Ran, as_list, StopsLike, Joined, refuses_new, leaf_from, provided_as};
+ghost use Rattle.sky_world.specs.Nodes.{Happened, Does, DoesAll, Stopped, Ran, as_list, StopsLike, Joined, leaf_from, provided_as};
 ghost use Rattle.sky_world.specs.Whole.{IsWhole};
 ghost use Rattle.sky_world.specs.Workers.{parts_with};
 
@@ -254,7 +254,7 @@ impl State {
             let name = name.copy(self.alloc)?;
             return Err(Stop::Refused(Refusal::NoNode(name)));
         };
-        let Some(schema) = self.store(database).schema(table) else {
+        let Some((number, schema)) = self.store(database).table(table) else {
             let table = table.copy(self.alloc)?;
             return Err(Stop::Refused(Refusal::NoTable(table)));
         };
@@ -265,11 +265,11 @@ impl State {
         match node {
             Node::Root(root) => {
                 self.check_provider(database, root.name())?;
-                self.add_to_root(database, table)
+                self.add_to_root(database, table, number)
             }
             Node::Leaf(leaf) => {
                 self.check_provided(schema.columns(), leaf, table)?;
-                self.add_to_leaf(database, table)
+                self.add_to_leaf(database, table, number)
             }
         }
     }
@@ -300,8 +300,8 @@ impl State {
             let table = table.copy(self.alloc)?;
             return Err(Stop::Refused(Refusal::NotInSet(table)));
         };
-        match self.store(provider).schema(table) {
-            Some(schema) if same_columns(columns, schema.columns()) => Ok(()),
+        match self.store(provider).table(table) {
+            Some((_, schema)) if same_columns(columns, schema.columns()) => Ok(()),
             _ => {
                 let table = table.copy(self.alloc)?;
                 Err(Stop::Refused(Refusal::SchemaDiffers(table)))
@@ -323,16 +323,16 @@ impl State {
     }
 
     /// A table joins the root of a database.
-    fn add_to_root(&mut self, database: usize, table: &Text) -> Result<Reply, Stop>
+    fn add_to_root(&mut self, database: usize, table: &Text, number: u32) -> Result<Reply, Stop>
         requires database { database < length self.old.databases.names }
         requires provider { is_some (set_queue ((seen_state self.old).database database)) ≡ true }
-        requires there { is_some (table_number ((seen_state self.old).database database) table.now) ≡ true }
+        requires number { table_number ((seen_state self.old).database database) table.now ≡ Some number }
         requires may { may_serve (listing table.now) ((seen_state self.old).database database).node ≡ true }
         requires whole { IsWhole self.old }
         ensures { Ran self.old self.new result (done_in database Done (node_does ((seen_state self.old).database database) (listing table.now))) }
     {
         let store = self.databases.get_mut(database);
-        match store.root_add(table) {
+        match store.root_add(table, number) {
             Ok(None) => Ok(Reply::Done),
             Ok(Some(writer)) => Err(Stop::Refused(Refusal::TableBusy(writer))),
             Err(RootFault::TooManyTriggers) => {
@@ -343,15 +343,15 @@ impl State {
     }
 
     /// A table joins the leaf of a database.
-    fn add_to_leaf(&mut self, database: usize, table: &Text) -> Result<Reply, Stop>
+    fn add_to_leaf(&mut self, database: usize, table: &Text, number: u32) -> Result<Reply, Stop>
         requires database { database < length self.old.databases.names }
-        requires there { is_some (table_number ((seen_state self.old).database database) table.now) ≡ true }
+        requires number { table_number ((seen_state self.old).database database) table.now ≡ Some number }
         requires may { may_serve (adding table.now) ((seen_state self.old).database database).node ≡ true }
         requires whole { IsWhole self.old }
         ensures { Ran self.old self.new result (done_in database Done (node_does ((seen_state self.old).database database) (adding table.now))) }
     {
         let store = self.databases.get_mut(database);
-        match store.leaf_add(table) {
+        match store.leaf_add(table, number) {
             Ok(None) => Ok(Reply::Done),
             Ok(Some(writer)) => Err(Stop::Refused(Refusal::TableBusy(writer))),
             Err(_) => Err(Stop::NoMemory),
@@ -371,19 +371,19 @@ impl State {
             let table = table.copy(self.alloc)?;
             return Err(Stop::Refused(Refusal::NotInSet(table)));
         }
-        if self.store(database).schema(table).is_none() {
+        let Some((number, _)) = self.store(database).table(table) else {
             let table = table.copy(self.alloc)?;
             return Err(Stop::Refused(Refusal::NoTable(table)));
-        }
+        };
         match node {
             Node::Root(root) => {
                 self.check_unused(root.name(), table)?;
-                Ok(self.drop_from_root(database, table))
+                Ok(self.drop_from_root(database, table, number))
             }
             Node::Leaf(leaf) => {
                 let provider = self.source(leaf, table)?;
                 let consumer = self.copys_consumer(node, leaf, table)?;
-                Ok(self.leave_leaf(provider, database, table, consumer.as_ref()))
+                Ok(self.leave_leaf(provider, database, table, number, consumer.as_ref()))
             }
         }
     }
@@ -435,14 +435,15 @@ impl State {
     }
 
     /// A table leaves the root of a database.
-    fn drop_from_root(&mut self, database: usize, table: &Text) -> Reply
+    fn drop_from_root(&mut self, database: usize, table: &Text, number: u32) -> Reply
         requires database { database < length self.old.databases.names }
+        requires number { table_number ((seen_state self.old).database database) table.now ≡ Some number }
         requires may { may_serve (unlisting table.now) ((seen_state self.old).database database).node ≡ true }
         requires whole { IsWhole self.old }
         ensures { Does self.old self.new result (done_in database Done (node_does ((seen_state self.old).database database) (unlisting table.now))) }
     {
         let store = self.databases.get_mut(database);
-        store.root_drop(table);
+        store.root_drop(table, number);
         Reply::Done
     }
 

@@ -16,6 +16,7 @@ ghost use Rattle.sky_world.specs.Nodes.{Stays};
 ghost use Rattle.sky_world.specs.Outside.{Enters};
 ghost use Rattle.sky_world.specs.Whole.{IsWhole};
 
+use crate::databases::Databases;
 use crate::hands::{Batches, Hands};
 use pgq_db::Db;
 use sky_model::{DbStmt, Limit, Refusal, Replies, Reply, RowStmt, Stmt};
@@ -33,7 +34,7 @@ pub(crate) struct State {
     pub(crate) clock: i64,
     // The database that each session has open.
     sessions: Named<Option<usize>>,
-    pub(crate) databases: Named<Db>,
+    pub(crate) databases: Databases,
     // The databases whose daemon is on, each with the moment at which it was started.
     pub(crate) daemons: BTreeMap<usize, i64>,
     // The databases that have a node, in the order in which they got it.
@@ -42,8 +43,6 @@ pub(crate) struct State {
     pub(crate) hands: Hands,
     // What the workers of leaves have in hand.
     pub(crate) batches: Batches,
-    // An empty database, with which one is exchanged while a worker goes by two.
-    pub(crate) spare: Db,
 }
 
 impl Model for State {
@@ -55,7 +54,7 @@ impl Model for State {
 
     ghost view = { λ s. record { now = s.clock; sessions = s.sessions; databases = s.databases; daemons = s.daemons.entries; nodes = s.nodes.items; hands = s.hands; batches = s.batches } };
 
-    ghost invariant = { λ s. IsConsistent s.clock (length s.databases.names) s.sessions.values s.daemons.entries s.nodes.items s.spare };
+    ghost invariant = { λ s. IsConsistent s.clock (length s.databases.names) s.sessions.values s.daemons.entries s.nodes.items };
 }
 
 impl State {
@@ -68,12 +67,11 @@ impl State {
             alloc,
             clock: 0,
             sessions: Named::new(alloc),
-            databases: Named::new(alloc),
+            databases: Databases::new(alloc),
             daemons: BTreeMap::new(alloc),
             nodes: Vec::new(alloc),
             hands: Hands::new(alloc),
             batches: Batches::new(alloc),
-            spare: Db::new(alloc),
         }
     }
 

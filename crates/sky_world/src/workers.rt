@@ -1,29 +1,30 @@
 //! The workers of leaves: the statements that make their moves and restart them, and what a table that leaves a leaf
 //! leaves behind.
 
-ghost use Rattle.std.specs.Prelude.{◌≡◌, ◌<◌, [], ◌∷◌, true, false, Ok, Some, IfOk, IfErr, OnOk, OnErr, Err, is_some, option_copied, length, None, ◌==◌};
+ghost use Rattle.std.specs.Prelude.{◌≡◌, ◌<◌, [], ◌∷◌, true, false, Ok, Some, IfOk, IfErr, IfSome, OnOk, OnErr, Err, is_some, option_copied, option_map, length, None, ◌==◌};
 ghost use Rattle.londiste_state.specs.Nodes.{of_leaf, tables_of, is_among};
+ghost use Rattle.sky_model.specs.Hands.{CopyHand, copy_in};
 ghost use Rattle.sky_model.specs.History.{in_hand, batch_in_hand};
 ghost use Rattle.sky_model.specs.Nodes.{is_leaf};
 ghost use Rattle.sky_model.specs.Stops.{StopsAs};
-ghost use Rattle.sky_model.specs.StepNode.{set_queue, may_serve, parting, removing, letting_go};
+ghost use Rattle.sky_model.specs.StepNode.{set_queue, table_number, may_serve, parting, removing, letting_go};
 ghost use Rattle.sky_model.specs.NodesOfWorld.{columns_called};
 ghost use Rattle.sky_model.specs.WorkersOfWorld.{source, source_alike, are_alike, call_facts, calls_facts, moves, move_facts, copy_step, provider_of, restart, restart_table, restarting, londiste_step};
 ghost use Rattle.londiste_copy.specs.Copying.{SameTable};
 ghost use Rattle.sky_world.specs.Seen.{seen_state};
 ghost use Rattle.sky_world.specs.Nodes.{Happened, Does, Ran, DoesAll, Stopped};
 ghost use Rattle.sky_world.specs.Whole.{IsWhole};
-ghost use Rattle.sky_world.specs.Workers.{copies, replays, leaf_called, leaf_with, leaving, lets_go_with, parts_with, stop_of, stopping};
+ghost use Rattle.sky_world.specs.Workers.{AreAlike, copies, replays, leaf_called, leaf_with, leaving, lets_go_with, parts_with, stop_of, stopping};
 
+use crate::databases::two_of;
 use crate::nodes::same_columns;
 use crate::state::State;
-use londiste_copy::CopyWorker;
+use londiste_copy::{CopiedTable, CopyWorker};
 use londiste_replay::ReplayWorker;
 use londiste_state::{Leaf, Node};
 use pgq_db::WorkerFault;
 use sky_model::{Limit, Refusal, Reply, Stop};
 use sky_val::{NoMemory, Text};
-use std::mem;
 
 impl State {
     /// Runs `copy_step`: one move of the worker that copies the table.
@@ -33,8 +34,13 @@ impl State {
         ensures err { IfErr result (λ stop. Stopped self.old self.new stop (copy_step (seen_state self.old) name.now table.now)) }
     {
         let (database, leaf) = self.leaf_with(name, table)?;
-        let provider = self.source_alike(database, leaf, table)?;
-        self.move_copy(provider, database, table)
+        let (provider, (from, to)) = self.source_alike(database, leaf, table)?;
+        let table = CopiedTable {
+            name: table,
+            from,
+            to,
+        };
+        self.move_copy(provider, database, &table)
     }
 
     /// One move of the worker that copies a table of a leaf's database from its provider's.
@@ -42,25 +48,24 @@ impl State {
         &mut self,
         provider: usize,
         database: usize,
-        table: &Text,
+        table: &CopiedTable,
     ) -> Result<Vec<Reply>, Stop>
         requires provider { provider < length self.old.databases.names }
         requires database { database < length self.old.databases.names }
         requires apart { (provider == database) ≡ false }
         requires root { is_some (set_queue ((seen_state self.old).database provider)) ≡ true }
-        requires same { SameTable ((seen_state self.old).database provider) ((seen_state self.old).database database) table.now }
+        requires same { SameTable ((seen_state self.old).database provider) ((seen_state self.old).database database) table.now.name.now table.now.from table.now.to }
         requires whole { IsWhole self.old }
-        ensures ok { IfOk result (λ replies. DoesAll self.old self.new replies.items (copies (seen_state self.old) provider database table.now)) }
-        ensures err { IfErr result (λ stop. Stopped self.old self.new stop (copies (seen_state self.old) provider database table.now)) }
+        ensures ok { IfOk result (λ replies. DoesAll self.old self.new replies.items (copies (seen_state self.old) provider database table.now.name.now)) }
+        ensures err { IfErr result (λ stop. Stopped self.old self.new stop (copies (seen_state self.old) provider database table.now.name.now)) }
     {
-        let hand = self.hands.take(database, table);
+        let place = self.hands.place_for(database, table.name)?;
+        let hand = self.hands.take_at(place);
         let mut worker = CopyWorker::with_hand(self.alloc, hand);
-        mem::swap(&mut self.spare, self.databases.get_mut(provider));
-        let to = self.databases.get_mut(database);
-        let moved = worker.step(&mut self.spare, to, table);
-        mem::swap(&mut self.spare, self.databases.get_mut(provider));
-        let kept = self.hands.set(database, table, worker.into_hand());
-        if_kept(moved, kept)
+        let (from, to) = two_of(self.databases.stores_mut(), provider, database);
+        let moved = worker.step(from, to, table);
+        self.hands.put_at(place, worker.into_hand());
+        stopping(moved)
     }
 
     /// Runs `londiste_step`: one move of the leaf's worker.
@@ -87,10 +92,8 @@ impl State {
     {
         let hand = self.batches.get(database);
         let mut worker = ReplayWorker::with_hand(self.alloc, hand);
-        mem::swap(&mut self.spare, self.databases.get_mut(provider));
-        let to = self.databases.get_mut(database);
-        let moved = worker.step(&mut self.spare, to);
-        mem::swap(&mut self.spare, self.databases.get_mut(provider));
+        let (from, to) = two_of(self.databases.stores_mut(), provider, database);
+        let moved = worker.step(from, to);
         let kept = self.batches.set(database, worker.into_hand());
         if_kept(moved, kept)
     }
@@ -134,10 +137,8 @@ impl State {
     {
         let hand = self.hands.take(database, table);
         let mut worker = CopyWorker::with_hand(self.alloc, hand);
-        mem::swap(&mut self.spare, self.databases.get_mut(provider));
-        let to = self.databases.get_mut(database);
-        worker.restart(&mut self.spare, to, table);
-        mem::swap(&mut self.spare, self.databases.get_mut(provider));
+        let (from, to) = two_of(self.databases.stores_mut(), provider, database);
+        worker.restart(from, to, table);
     }
 
     /// A table leaves a leaf: the snapshot that is held for its copy is let go, its consumer leaves, if it has one, and a
@@ -147,22 +148,34 @@ impl State {
         provider: usize,
         database: usize,
         table: &Text,
+        number: u32,
         consumer: Option<&Text>,
     ) -> Reply
         requires provider { provider < length self.old.databases.names }
         requires database { database < length self.old.databases.names }
         requires apart { (provider == database) ≡ false }
         requires root { is_some (set_queue ((seen_state self.old).database provider)) ≡ true }
+        requires number { table_number ((seen_state self.old).database database) table.now ≡ Some number }
         requires may { may_serve (removing table.now) ((seen_state self.old).database database).node ≡ true }
         requires whole { IsWhole self.old }
         ensures { Does self.old self.new result (moves (seen_state self.old) provider database (in_hand database table.now) (Ok (leaving table.now (option_copied consumer.entry) ((seen_state self.old).hands database table.now)))) }
     {
-        let hold = self.hands.hold(database, table);
+        let hold = self.take_hand(database, table);
         self.let_go_if(provider, hold);
         self.part_if(provider, consumer);
-        self.drop_from_leaf(database, table);
-        self.empty_hand(database, table);
+        self.drop_from_leaf(database, table, number);
         Reply::Done
+    }
+
+    /// The worker that copies a table has nothing in hand from now on. If it had a copy, the number of the copy's hold is
+    /// given.
+    fn take_hand(&mut self, database: usize, table: &Text) -> Option<u64>
+        requires { IsWhole self.old }
+        ensures hold { result ≡ option_map CopyHand.hold (copy_in ((seen_state self.old).hands database table.now)) }
+        ensures happened { Happened self.old self.new (in_hand database table.now None ∷ []) }
+    {
+        let hand = self.hands.take(database, table)?;
+        hand.hold()
     }
 
     /// A snapshot that is held in a database is let go, if there is one.
@@ -210,22 +223,15 @@ impl State {
     }
 
     /// A table leaves the leaf of a database.
-    fn drop_from_leaf(&mut self, database: usize, table: &Text)
+    fn drop_from_leaf(&mut self, database: usize, table: &Text, number: u32)
         requires database { database < length self.old.databases.names }
+        requires number { table_number ((seen_state self.old).database database) table.now ≡ Some number }
         requires may { may_serve (removing table.now) ((seen_state self.old).database database).node ≡ true }
         requires whole { IsWhole self.old }
         ensures { Happened self.old self.new (call_facts (seen_state self.old) database (removing table.now)) }
     {
         let store = self.databases.get_mut(database);
-        store.leaf_drop(table);
-    }
-
-    /// The worker that copies a table has nothing in hand from now on.
-    fn empty_hand(&mut self, database: usize, table: &Text)
-        requires { IsWhole self.old }
-        ensures { Happened self.old self.new (in_hand database table.now None ∷ []) }
-    {
-        self.hands.take(database, table);
+        store.leaf_drop(table, number);
     }
 
     /// The leaf of a name, and the number of its database.
@@ -294,34 +300,43 @@ impl State {
         Ok(provider)
     }
 
-    /// The same, if both databases have the table with the same columns.
-    fn source_alike(&self, database: usize, leaf: &Leaf, table: &Text) -> Result<usize, Stop>
+    /// The same, if both databases have the table with the same columns, and its numbers in them.
+    fn source_alike(
+        &self,
+        database: usize,
+        leaf: &Leaf,
+        table: &Text,
+    ) -> Result<(usize, (u32, u32)), Stop>
         requires { database < length self.now.databases.names }
-        ensures ok { IfOk result (λ provider. source_alike (seen_state self.now) database leaf.now table.now ≡ Ok provider) }
+        ensures ok { IfOk result (λ found. source_alike (seen_state self.now) database leaf.now table.now ≡ Ok found.0) }
         ensures err { IfErr result (λ stop. StopsAs stop (source_alike (seen_state self.now) database leaf.now table.now)) }
-        ensures root { IfOk result (λ provider. is_some (set_queue ((seen_state self.now).database provider)) ≡ true) }
-        ensures alike { IfOk result (λ provider. are_alike (columns_called table.now ((seen_state self.now).database provider)) (columns_called table.now ((seen_state self.now).database database)) ≡ true) }
-        ensures within { IfOk result (λ provider. provider < length self.now.databases.names) }
+        ensures root { IfOk result (λ found. is_some (set_queue ((seen_state self.now).database found.0)) ≡ true) }
+        ensures alike { IfOk result (λ found. AreAlike ((seen_state self.now).database found.0) ((seen_state self.now).database database) table.now found.1) }
+        ensures within { IfOk result (λ found. found.0 < length self.now.databases.names) }
     {
         let provider = self.source(leaf, table)?;
-        if !self.are_alike(provider, database, table) {
-            let table = table.copy(self.alloc)?;
-            return Err(Stop::Refused(Refusal::SchemaDiffers(table)));
+        match self.numbers_alike(provider, database, table) {
+            Some(numbers) => Ok((provider, numbers)),
+            None => {
+                let table = table.copy(self.alloc)?;
+                Err(Stop::Refused(Refusal::SchemaDiffers(table)))
+            }
         }
-        Ok(provider)
     }
 
-    /// Whether two databases have a table, with the same columns.
-    fn are_alike(&self, provider: usize, database: usize, table: &Text) -> bool
+    /// The numbers of a table in two databases, if both have it, with the same columns.
+    fn numbers_alike(&self, provider: usize, database: usize, table: &Text) -> Option<(u32, u32)>
         requires provider { provider < length self.now.databases.names }
         requires database { database < length self.now.databases.names }
-        ensures { result ≡ are_alike (columns_called table.now ((seen_state self.now).database provider)) (columns_called table.now ((seen_state self.now).database database)) }
+        ensures found { is_some result ≡ are_alike (columns_called table.now ((seen_state self.now).database provider)) (columns_called table.now ((seen_state self.now).database database)) }
+        ensures alike { IfSome result (λ numbers. AreAlike ((seen_state self.now).database provider) ((seen_state self.now).database database) table.now numbers) }
     {
-        let schema = self.store(provider).schema(table);
-        let other = self.store(database).schema(table);
-        match (schema, other) {
-            (Some(schema), Some(other)) => same_columns(schema.columns(), other.columns()),
-            _ => false,
+        let (from, schema) = self.store(provider).table(table)?;
+        let (to, other) = self.store(database).table(table)?;
+        if same_columns(schema.columns(), other.columns()) {
+            Some((from, to))
+        } else {
+            None
         }
     }
 }
@@ -335,6 +350,13 @@ fn if_kept(
     ensures lost { OnErr kept (result ≡ Err Stop.NoMemory) }
 {
     kept?;
+    stopping(moved)
+}
+
+/// What a worker's move gave, as a statement gives it.
+fn stopping(moved: Result<Vec<Reply>, WorkerFault>) -> Result<Vec<Reply>, Stop>
+    ensures { result ≡ stopping moved }
+{
     match moved {
         Ok(replies) => Ok(replies),
         Err(fault) => Err(stop_of(fault)),

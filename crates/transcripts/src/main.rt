@@ -1,17 +1,38 @@
 //! Runs each script that its arguments name, and prints the results: the script's name, its output, its error output,
-//! and the status.
+//! and the status. Arguments that don't end in `.sky` name tables of cases, of whole runs of the program and of its
+//! sources and sinks, which no script can show.
 #![tactic(auto)]
 
 mod ran;
+mod runs;
+mod streams;
+mod tables;
 
+use crate::ran::run_script;
+use crate::tables::RunTables;
 use anyhow::Context;
-use ran::run_script;
 use std::rt::{Env, Files};
-use std::{env, fs};
+use std::{env, fs, mem};
+use trials::run_table;
 
 fn main(rt: HostRuntime) -> anyhow::Result<()> {
-    for name in env::args(&rt)?.skip(1) {
-        show(&rt, name.as_str())?;
+    let mut tables = RunTables::new(rt.alloc());
+    let shown = show_all(&rt, &mut tables);
+    // The program ends after this, and then all memory is freed at once.
+    mem::forget(tables);
+    shown
+}
+
+fn show_all(
+    rt: &(impl Env + Files + Print + AllocGlobal),
+    tables: &mut RunTables,
+) -> anyhow::Result<()> {
+    for name in env::args(rt)?.skip(1) {
+        if name.as_str().ends_with(".sky") {
+            show(rt, name.as_str())?;
+        } else {
+            run_table(rt, tables, name.as_str())?;
+        }
     }
     Ok(())
 }

@@ -10,5 +10,5 @@ mod tables;
 mod words;
 
 pub use statements::{line, row_statement, schema};
-pub use tables::{Tables, run_tables};
+pub use tables::{Tables, run_table, run_tables};
 pub use words::{first_number, first_word, no_command, ok, shown};

@@ -16,19 +16,19 @@ pub fn run_tables<T: Tables>(
     tables: &mut T,
 ) -> anyhow::Result<()> {
     for name in env::args(rt)?.skip(1) {
-        let table = fs::read_to_string(rt, name.as_str()).context(name.as_str())?;
-        println!(rt; "== {name}")?;
-        run_table(rt, tables, name.as_str(), table.as_str())?;
+        run_table(rt, tables, name.as_str())?;
     }
     Ok(())
 }
 
-fn run_table<T: Tables>(
-    rt: &(impl Print + AllocGlobal),
+/// Runs the table in the file of this name.
+pub fn run_table<T: Tables>(
+    rt: &(impl Files + Print + AllocGlobal),
     tables: &mut T,
     name: &str,
-    table: &str,
 ) -> anyhow::Result<()> {
+    let table = fs::read_to_string(rt, name).context(name)?;
+    println!(rt; "== {name}")?;
     for row in table.lines() {
         if is_case(row) {
             let answer = tables.answer(rt.alloc(), name, row).context(row)?;

@@ -8,8 +8,8 @@ use Rattle.sky_model.specs.State.{Database}
 use Rattle.sky_model.specs.Outcome.{Checked, Outcome, ◌>>=◌, ◌>>◌, refused_if, does_marks}
 use Rattle.sky_model.specs.StepQueue.{newest_id}
 use Rattle.sky_model.specs.Stops.{Refuses}
-use Rattle.pgq_db.specs.declared.faults.JoinFault.{JoinFault}
-use Rattle.pgq_db.specs.declared.faults.JoinFault.TheVariants as fault
+use Rattle.londiste_calls.specs.declared.faults.JoinFault.{JoinFault}
+use Rattle.londiste_calls.specs.declared.faults.JoinFault.TheVariants as fault
 use Rattle.pgq_db.specs.Served.{JoinRefused}
 use Rattle.sky_model.specs.StepNode.{set_queue, has_joined, joins, joining, if_there, node_does}
 

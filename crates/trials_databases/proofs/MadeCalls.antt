@@ -10,8 +10,8 @@ use Rattle.sky_model.specs.StepNode.{applying, node_does}
 use Rattle.sky_model.specs.DatabaseCalls.{DatabaseCall, IsDatabaseCallInForm, served}
 use Rattle.sky_model.specs.DatabaseSteps.{DatabaseSteps, IsMade}
 use Rattle.sky_histories.proofs.MadeCopies.{made-after}
-use Rattle.pgq_db.specs.declared.faults.ApplyFault.{ApplyFault}
-use Rattle.pgq_db.specs.declared.faults.ApplyFault.TheVariants as fault
+use Rattle.londiste_calls.specs.declared.faults.ApplyFault.{ApplyFault}
+use Rattle.londiste_calls.specs.declared.faults.ApplyFault.TheVariants as fault
 use Rattle.pgq_db.specs.Applying.{ApplyRefused}
 
 -- after one more call, unless it failed, as a test says

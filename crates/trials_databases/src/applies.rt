@@ -1,6 +1,6 @@
 ghost use Rattle.std.specs.Prelude.{◌≡◌, true, OnOk, is_some};
 ghost use Rattle.sky_model.specs.StepApply.{may_apply, kept_snapshot};
-ghost use Rattle.pgq_db.specs.Applying.{pick_of};
+ghost use Rattle.londiste_calls.specs.Picks.{pick_of};
 ghost use Rattle.pgq_db.specs.Seen.{seen_database};
 
 use crate::replica::Replica;

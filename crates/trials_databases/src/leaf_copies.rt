@@ -1,9 +1,10 @@
-ghost use Rattle.std.specs.Prelude.{◌≡◌, true, IfOk, OnOk};
-ghost use Rattle.sky_model.specs.CopyMoves.{columns_for};
+ghost use Rattle.std.specs.Prelude.{◌≡◌, true, IfOk, OnOk, Some};
 ghost use Rattle.sky_model.specs.StepCopy.{all_fit};
-ghost use Rattle.sky_model.specs.StepNode.{may_copy};
+ghost use Rattle.sky_model.specs.StepNode.{table_number, may_copy};
+ghost use Rattle.pgq_db.specs.Copying.{MayCopy};
 ghost use Rattle.pgq_db.specs.Seen.{seen_database};
 
+use crate::nodes::number_of;
 use crate::replica::Replica;
 use anyhow::bail;
 use londiste_state::{Node, TableState};
@@ -24,7 +25,7 @@ pub fn answer(
     let (table, words) = first_word(words);
     let table = Text::from_str(alloc, table)?;
     match command {
-        "copy_of" => shown(alloc, Ok(db.db().copy_of(&table))),
+        "copy_of" => copy_of(alloc, db.db(), &table),
         "copy_begin" => copy_begin(alloc, db, &table),
         "copy_rows" => copy_rows(alloc, db, &table, words),
         "copy_end" => copy_end(alloc, db, &table, words),
@@ -33,32 +34,50 @@ pub fn answer(
     }
 }
 
+fn copy_of(alloc: Global, db: &Db, table: &Text) -> anyhow::Result<String> {
+    let number = number_of(db, table)?;
+    shown(alloc, Ok(db.copy_of(number)))
+}
+
 fn copy_begin(alloc: Global, db: &mut Replica, table: &Text) -> anyhow::Result<String> {
-    check_in_copy(db.db(), table)?;
-    if db.db().copy_of(table).is_some() {
+    let number = number_in_copy(db.db(), table)?;
+    if db.db().copy_of(number).is_some() {
         bail!("a copy runs");
     }
-    shown(alloc, Ok(db.copy_begin(table)))
+    shown(alloc, Ok(db.copy_begin(number)))
 }
 
 fn copy_rows(alloc: Global, db: &mut Replica, table: &Text, words: &str) -> anyhow::Result<String> {
-    check_in_copy(db.db(), table)?;
-    let rows = rows_for(alloc, db.db(), table, words)?;
-    shown(alloc, db.copy_rows(table, rows))
+    let number = number_in_copy(db.db(), table)?;
+    let rows = rows_in(alloc, db.db().schema(number), words)?;
+    shown(alloc, db.copy_rows(number, rows))
 }
 
 fn copy_end(alloc: Global, db: &mut Replica, table: &Text, words: &str) -> anyhow::Result<String> {
     let (snapshot, words) = first_word(words);
     let snapshot = Snapshot::parse(alloc, snapshot.as_bytes())?;
     let (tick, _) = first_number(words)?;
-    check_in_copy(db.db(), table)?;
-    shown(alloc, db.copy_end(table, &snapshot, u64::from(tick)))
+    let number = number_in_copy(db.db(), table)?;
+    shown(
+        alloc,
+        db.copy_end(table, number, &snapshot, u64::from(tick)),
+    )
 }
 
 fn copy_drop(alloc: Global, db: &mut Replica, table: &Text) -> anyhow::Result<String> {
-    check_in_copy(db.db(), table)?;
-    db.copy_drop(table)?;
+    let number = number_in_copy(db.db(), table)?;
+    db.copy_drop(number)?;
     ok(alloc)
+}
+
+// The number of a table of the leaf that is in the state for a copy.
+fn number_in_copy(db: &Db, table: &Text) -> anyhow::Result<u32>
+    ensures number { IfOk result (λ number. table_number (seen_database db.now) table.now ≡ Some number) }
+    ensures named { OnOk result (may_copy table.now (seen_database db.now).node ≡ true) }
+    ensures may { IfOk result (λ number. MayCopy (seen_database db.now) number) }
+{
+    check_in_copy(db, table)?;
+    number_of(db, table)
 }
 
 // Whether a table of the leaf is in the state for a copy.
@@ -74,16 +93,6 @@ fn check_in_copy(db: &Db, table: &Text) -> anyhow::Result<()>
     match table.state() {
         TableState::InCopy => Ok(()),
         _ => bail!("not in copy"),
-    }
-}
-
-// The rows for a table.
-fn rows_for(alloc: Global, db: &Db, table: &Text, words: &str) -> anyhow::Result<Vec<Row>>
-    ensures { IfOk result (λ rows. all_fit (columns_for (seen_database db.now) table.now) rows.items ≡ true) }
-{
-    match db.schema(table) {
-        Some(schema) => rows_in(alloc, schema, words),
-        None => bail!("no table"),
     }
 }
 

@@ -1,4 +1,4 @@
-use crate::nodes::check_table;
+use crate::nodes::number_of;
 use crate::replica::Replica;
 use crate::statements::statement;
 use anyhow::bail;
@@ -45,14 +45,14 @@ fn make_leaf(alloc: Global, db: &mut Replica, words: &str) -> anyhow::Result<Str
 // A table joins the leaf. That it leaves is tried by scripts.
 fn leaf_add(alloc: Global, db: &mut Replica, table: &str) -> anyhow::Result<String> {
     let table = Text::from_str(alloc, table)?;
-    check_table(db.db(), &table)?;
+    let number = number_of(db.db(), &table)?;
     let Some(Node::Leaf(leaf)) = db.db().node() else {
         return Err(no_command());
     };
     if leaf.has_table(&table) {
         bail!("in the leaf");
     }
-    shown(alloc, db.leaf_add(&table))
+    shown(alloc, db.leaf_add(&table, number))
 }
 
 // A table of the leaf goes to a state.
@@ -69,6 +69,7 @@ fn set_state(alloc: Global, db: &mut Replica, words: &str) -> anyhow::Result<Str
     if !TableState::allowed(&table.state(), &to) {
         bail!("not allowed");
     }
-    db.set_state(&name, to)?;
+    let number = number_of(db.db(), &name)?;
+    db.set_state(&name, number, to)?;
     ok(alloc)
 }

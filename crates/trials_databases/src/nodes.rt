@@ -1,4 +1,4 @@
-ghost use Rattle.std.specs.Prelude.{◌≡◌, true, OnOk, is_some};
+ghost use Rattle.std.specs.Prelude.{◌≡◌, Some, IfOk};
 ghost use Rattle.sky_model.specs.StepNode.{table_number};
 ghost use Rattle.pgq_db.specs.Seen.{seen_database};
 
@@ -8,7 +8,7 @@ use crate::{leaves, providers};
 use anyhow::bail;
 use londiste_state::Node;
 use pgq_db::Db;
-use sky_val::Text;
+use sky_val::{Schema, Text};
 use std::alloc::Global;
 use trials::{first_number, first_word, line, no_command, ok, shown};
 
@@ -44,7 +44,10 @@ fn answer(alloc: Global, db: &mut Db, command: &str, words: &str) -> anyhow::Res
         "node" => shown(alloc, Ok(db.node())),
         "schema" => {
             let table = Text::from_str(alloc, words)?;
-            shown(alloc, Ok(db.schema(&table)))
+            match db.table(&table) {
+                Some((_, schema)) => shown(alloc, Ok(Some(schema))),
+                None => shown(alloc, Ok(None::<&Schema>)),
+            }
         }
         "make_root" => make_root(alloc, db, words),
         "root_add" | "root_drop" => move_table(alloc, db, command, words),
@@ -80,14 +83,14 @@ fn move_table(alloc: Global, db: &mut Db, command: &str, words: &str) -> anyhow:
 }
 
 fn root_add(alloc: Global, db: &mut Db, table: &Text) -> anyhow::Result<String> {
-    check_table(db, table)?;
+    let number = number_of(db, table)?;
     let Some(Node::Root(root)) = db.node() else {
         return Err(no_command());
     };
     if root.has_table(table) {
         bail!("in the set");
     }
-    shown(alloc, Ok(db.root_add(table)))
+    shown(alloc, Ok(db.root_add(table, number)))
 }
 
 fn root_drop(alloc: Global, db: &mut Db, table: &Text) -> anyhow::Result<String> {
@@ -97,16 +100,17 @@ fn root_drop(alloc: Global, db: &mut Db, table: &Text) -> anyhow::Result<String>
     if !root.has_table(table) {
         bail!("not in the set");
     }
-    db.root_drop(table);
+    let number = number_of(db, table)?;
+    db.root_drop(table, number);
     ok(alloc)
 }
 
-/// Whether the table is in the database.
-pub fn check_table(db: &Db, table: &Text) -> anyhow::Result<()>
-    ensures { OnOk result (is_some (table_number (seen_database db.now) table.now) ≡ true) }
+/// The number of a table of the database.
+pub fn number_of(db: &Db, table: &Text) -> anyhow::Result<u32>
+    ensures { IfOk result (λ number. table_number (seen_database db.now) table.now ≡ Some number) }
 {
-    match db.schema(table) {
-        Some(_) => Ok(()),
+    match db.table(table) {
+        Some((number, _)) => Ok(number),
         None => bail!("no table"),
     }
 }

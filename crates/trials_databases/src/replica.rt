@@ -1,9 +1,10 @@
-ghost use Rattle.std.specs.Prelude.{◌≡◌, true, None, Err, is_some};
-ghost use Rattle.sky_model.specs.CopyMoves.{columns_for, copy_running};
+ghost use Rattle.std.specs.Prelude.{◌≡◌, true, None, Some, Err};
+ghost use Rattle.sky_model.specs.Copies.{copy_txid};
 ghost use Rattle.sky_model.specs.InForm.{IsDbInForm};
 ghost use Rattle.sky_model.specs.StepCopy.{all_fit};
 ghost use Rattle.sky_model.specs.StepNode.{table_number, may_copy, may_serve, adding, applying, moving};
-ghost use Rattle.pgq_db.specs.Applying.{pick_of};
+ghost use Rattle.londiste_calls.specs.Picks.{pick_of};
+ghost use Rattle.pgq_db.specs.Copying.{MayCopy};
 ghost use Rattle.pgq_db.specs.Seen.{seen_database};
 
 use londiste_state::TableState;
@@ -76,26 +77,27 @@ impl Replica {
     }
 
     /// Adds a table to the leaf.
-    pub fn leaf_add(&mut self, table: &Text) -> Result<Option<u64>, NoMemory>
-        requires there { is_some (table_number (seen_database self.old.db) table.now) ≡ true }
+    pub fn leaf_add(&mut self, table: &Text, number: u32) -> Result<Option<u64>, NoMemory>
+        requires number { table_number (seen_database self.old.db) table.now ≡ Some number }
         requires may { may_serve (adding table.now) (seen_database self.old.db).node ≡ true }
     {
         if self.has_failed {
             return Err(AllocError);
         }
-        let added = self.db.leaf_add(table);
+        let added = self.db.leaf_add(table, number);
         self.has_failed = added.is_err();
         added
     }
 
     /// Sets the state of a table.
-    pub fn set_state(&mut self, table: &Text, to: TableState) -> Result<(), NoMemory>
-        requires { may_serve (moving table.now to) (seen_database self.old.db).node ≡ true }
+    pub fn set_state(&mut self, table: &Text, number: u32, to: TableState) -> Result<(), NoMemory>
+        requires number { table_number (seen_database self.old.db) table.now ≡ Some number }
+        requires may { may_serve (moving table.now to) (seen_database self.old.db).node ≡ true }
     {
         if self.has_failed {
             return Err(AllocError);
         }
-        self.db.set_state(table, to);
+        self.db.set_state(table, number, to);
         Ok(())
     }
 
@@ -112,9 +114,9 @@ impl Replica {
     }
 
     /// Begins the copy of a table.
-    pub fn copy_begin(&mut self, table: &Text) -> Result<(), CopyFault>
-        requires may { may_copy table.now (seen_database self.old.db).node ≡ true }
-        requires idle { copy_running (seen_database self.old.db) table.now ≡ None }
+    pub fn copy_begin(&mut self, table: u32) -> Result<(), CopyFault>
+        requires may { MayCopy (seen_database self.old.db) table }
+        requires idle { copy_txid table (seen_database self.old.db).copies ≡ None }
     {
         if self.has_failed {
             return Err(CopyFault::NoMemory);
@@ -125,9 +127,9 @@ impl Replica {
     }
 
     /// Writes rows of a copy.
-    pub fn copy_rows(&mut self, table: &Text, rows: Vec<Row>) -> Result<(), NoMemory>
-        requires may { may_copy table.now (seen_database self.old.db).node ≡ true }
-        requires fit { all_fit (columns_for (seen_database self.old.db) table.now) rows.items ≡ true }
+    pub fn copy_rows(&mut self, table: u32, rows: Vec<Row>) -> Result<(), NoMemory>
+        requires may { MayCopy (seen_database self.old.db) table }
+        requires fit { all_fit ((seen_database self.old.db).part.columns table) rows.items ≡ true }
     {
         if self.has_failed {
             return Err(AllocError);
@@ -138,20 +140,27 @@ impl Replica {
     }
 
     /// Ends a copy.
-    pub fn copy_end(&mut self, table: &Text, snapshot: &Snapshot, tick: u64) -> Result<(), NoMemory>
-        requires { may_copy table.now (seen_database self.old.db).node ≡ true }
+    pub fn copy_end(
+        &mut self,
+        table: &Text,
+        number: u32,
+        snapshot: &Snapshot,
+        tick: u64,
+    ) -> Result<(), NoMemory>
+        requires number { table_number (seen_database self.old.db) table.now ≡ Some number }
+        requires may { may_copy table.now (seen_database self.old.db).node ≡ true }
     {
         if self.has_failed {
             return Err(AllocError);
         }
-        let ended = self.db.copy_end(table, snapshot, tick);
+        let ended = self.db.copy_end(table, number, snapshot, tick);
         self.has_failed = ended.is_err();
         ended
     }
 
     /// Gives a copy up.
-    pub fn copy_drop(&mut self, table: &Text) -> Result<(), NoMemory>
-        requires { may_copy table.now (seen_database self.old.db).node ≡ true }
+    pub fn copy_drop(&mut self, table: u32) -> Result<(), NoMemory>
+        requires { MayCopy (seen_database self.old.db) table }
     {
         if self.has_failed {
             return Err(AllocError);

@@ -1,7 +1,8 @@
 use Rattle.std.proofs.Common.{◌∙◌, [], ◌∷◌, ◌++◌, ap, refl, subst}
 use Rattle.sky_model.specs.BatchMoves.{events_of_batch}
 use Rattle.sky_model.specs.declared.reply.Reply.TheVariants.{Idle}
-use Rattle.pgq_db.specs.Applying.{pick_of, ApplyRefused}
+use Rattle.londiste_calls.specs.Picks.{pick_of}
+use Rattle.pgq_db.specs.Applying.{ApplyRefused}
 use Rattle.pgq_db.specs.Seen.{seen_database}
 use Rattle.londiste_batches.proofs.Batches.{stays-moves}
 use Rattle.londiste_batches.proofs.follow.apply.Goals as goal

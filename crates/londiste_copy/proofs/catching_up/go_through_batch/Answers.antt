@@ -5,10 +5,10 @@ use Rattle.londiste_copy.proofs.catching_up.go_through_batch.Goals as goal
 
 pub returns-clause-moves : goal.returns-clause-moves
 returns-clause-moves c =
-    through-moves (seen_database c.args.provider.now) (seen_database c.args.replica.now) c.args.table.now c.args.hand c.args.tick c.in_ok-copy.field-0 c.requires.tick c.in_ok-copy.ensures c.go_through.result
+    through-moves (seen_database c.args.provider.now) (seen_database c.args.replica.now) c.args.table.now.name.now c.args.hand c.args.tick c.in_ok-copy.field-0 c.requires.tick c.in_ok-copy.ensures c.go_through.result
     (seen_database c.go_through.new.provider) (seen_database c.go_through.new.replica) c.go_through.new.replies.items c.go_through.ensures.moves
 
 pub returns-clause-fault : goal.returns-clause-fault
 returns-clause-fault c =
-    through-refused (seen_database c.args.provider.now) (seen_database c.args.replica.now) c.args.table.now c.args.hand c.args.tick c.in_ok-copy.field-0 c.requires.tick c.in_ok-copy.ensures c.go_through.result
+    through-refused (seen_database c.args.provider.now) (seen_database c.args.replica.now) c.args.table.now.name.now c.args.hand c.args.tick c.in_ok-copy.field-0 c.requires.tick c.in_ok-copy.ensures c.go_through.result
     (seen_database c.go_through.new.provider) (seen_database c.go_through.new.replica) (Some c.args.hand) (Some c.args.hand) c.go_through.ensures.fault

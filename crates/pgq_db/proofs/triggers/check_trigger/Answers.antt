@@ -1,4 +1,4 @@
-use Rattle.std.proofs.Common.{◌<◌, rules, option_map, sym, subst, ◌∙◌}
+use Rattle.std.proofs.Common.{ℕ, List, ◌<◌, rules, option_map, sym, subst, ◌∙◌}
 use Rattle.std.specs.Prelude.{find, not}
 use Rattle.sky_model.specs.declared.reply.Refusal.TheVariants.{BadColumn}
 use Rattle.sky_model.specs.Outcome.{refused_by}
@@ -12,7 +12,8 @@ pub returns-in_err-check_ignored-clause-err : goal.returns-in_err-check_ignored-
 returns-in_err-check_ignored-clause-err c =
     let stop = c.in_err-check_ignored.field-0.0 in
     let stops =
-    bad-column (seen c.args.rows.now) c.args.queues.now.triggers c.args.table c.args.asked.now.name.now c.args.asked.now.ignored.now (sym c.has_trigger.ensures ∙ c.if-has_trigger.false)
+    bad-column (seen c.args.rows.now) c.args.queues.now.triggers c.args.table c.args.asked.now.name c.args.asked.now.ignored (sym c.has_trigger.ensures ∙ c.if-has_trigger.false)
     (subst (λ m. m < 8) c.trigger_count.ensures (subst (λ m. c.trigger_count.result < m) c.most.ensures c.if-trigger_count-most.false)) stop
-    (subst (λ columns. StopsAs stop (refused_by (option_map BadColumn (find (λ x. not (may_ignore columns x)) c.args.asked.now.ignored.now)))) c.requires c.in_err-check_ignored.ensures.err) in
+    (subst (λ columns. StopsAs stop (refused_by (option_map BadColumn (find (λ x. not (may_ignore columns x)) c.args.asked.now.ignored)))) c.requires
+    (subst (λ (names : List (List ℕ)). StopsAs stop (refused_by (option_map BadColumn (find (λ x. not (may_ignore c.args.schema.now x)) names)))) c.as_slice.ensures c.in_err-check_ignored.ensures.err)) in
     search (rules, stops)

@@ -3,4 +3,4 @@ use Rattle.pgq_db.proofs.triggers.trigger_into.Given as goal
 
 -- the names so far
 abbrev pub invariant-loop-column : goal.invariant-loop-column
-invariant-loop-column l = l.names.items ≡ take l.column-index l.asked.ignored.now
+invariant-loop-column l = l.names.items ≡ take l.column-index l.ignored

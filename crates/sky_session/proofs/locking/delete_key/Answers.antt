@@ -11,9 +11,9 @@ returns-in_err-find_row g c =
 
 pub returns-in_err-txid : goal.returns-in_err-txid
 returns-in_err-txid g c =
-    let finds : IsFree c.args.state.now c.args.who c.args.key.table c.args.key.key c.in-Free.place c.in-Free.old.now = subst (Finds c.args.state.now c.args.who c.args.key.table c.args.key.key) c.in-Free.is c.in_ok-find_row.ensures.ok in
+    let finds : IsFree c.args.state.now c.args.who c.args.key.table c.args.key.key c.in-Free.places c.in-Free.old.now = subst (Finds c.args.state.now c.args.who c.args.key.table c.args.key.key) c.in-Free.is c.in_ok-find_row.ensures.ok in
     change-untold g.G.WriteGate.rule c.args.gate.now c.tell_write.new.gate c.args.state.now c.args.step.now (record c.args.step.now { effects = c.tell_write.new.effects }) c.args.who c.args.key.table c.args.key.key
-    c.in-Free.place c.in-Free.old.now Deletion (λ row. Ok None) None c.from_residual-in_err-txid.result c.in_err-txid.field-0.0 c.from_residual-in_err-txid.ensures.1 finds refl c.in_err-txid.ensures.err
+    c.in-Free.places c.in-Free.old.now Deletion (λ row. Ok None) None c.from_residual-in_err-txid.result c.in_err-txid.field-0.0 c.from_residual-in_err-txid.ensures.1 finds refl c.in_err-txid.ensures.err
     c.in_err-txid.ensures.same.0 refl c.in_err-txid.ensures.same.1
 
 pub returns-in_err-write_key : goal.returns-in_err-write_key
@@ -22,7 +22,7 @@ returns-in_err-write_key g c =
 
 pub returns : goal.returns
 returns g c =
-    let finds : IsFree c.args.state.now c.args.who c.args.key.table c.args.key.key c.in-Free.place c.in-Free.old.now = subst (Finds c.args.state.now c.args.who c.args.key.table c.args.key.key) c.in-Free.is c.in_ok-find_row.ensures.ok in
+    let finds : IsFree c.args.state.now c.args.who c.args.key.table c.args.key.key c.in-Free.places c.in-Free.old.now = subst (Finds c.args.state.now c.args.who c.args.key.table c.args.key.key) c.in-Free.is c.in_ok-find_row.ensures.ok in
     changed g.G.WriteGate.rule c.args.gate.now c.tell_write.new.gate c.args.state.now c.write_key.new.state c.args.step.now c.write_key.new.step c.args.who c.in_ok-txid.txid c.args.key.table c.args.key.key
-    c.in-Free.place c.in-Free.old.now Deletion (λ row. Ok None) None finds refl c.in_ok-txid.ensures.does c.in_ok-txid.ensures.passed c.in_ok-write_key.ensures.replied
+    c.in-Free.places c.in-Free.old.now Deletion (λ row. Ok None) None finds refl c.in_ok-txid.ensures.does c.in_ok-txid.ensures.passed c.in_ok-write_key.ensures.replied
     (c.in_ok-write_key.ensures.told (Some c.in-Free.old.now) c.args.step.now.effects c.in_ok-txid.ensures.told) (c.in_ok-write_key.ensures.marks (Some c.in-Free.old.now))

@@ -6,9 +6,17 @@ use Rattle.sky_model.specs.State.{RowPart}
 use Rattle.sky_model.specs.OwnTransaction.{commit_of}
 use Rattle.sky_session.specs.Effects.{with_effects}
 use Rattle.sky_state.specs.Seen.{seen}
+use Rattle.sky_state.specs.declared.places.Places.{Places}
 use Rattle.sky_session.proofs.Steps.{part-written}
-use Rattle.sky_session.proofs.WrittenLemmas.{holder-begun, owns-written, in_block}
+use Rattle.sky_session.proofs.WrittenLemmas.{holder-begun, places-kept, owns-written, in_block}
 use Rattle.sky_session.proofs.own_transaction.write_own.Goals as goal
+
+pub wrote_alone-requires-clause-found : goal.wrote_alone-requires-clause-found
+wrote_alone-requires-clause-found c = ap (λ (p : Places). p.row) c.requires.found
+
+pub wrote-requires-clause-found : goal.wrote-requires-clause-found
+wrote-requires-clause-found c =
+    c.requires.found ∙ places-kept c.args.state.now c.begin_own.new.state c.args.key.table c.args.key.key c.begin_own.ensures.stay c.begin_own.ensures.locks
 
 pub wrote-requires-clause-free : goal.wrote-requires-clause-free
 wrote-requires-clause-free c =

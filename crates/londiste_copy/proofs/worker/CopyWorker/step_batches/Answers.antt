@@ -13,7 +13,7 @@ pub returns-then-not-progress-clause-moves : goal.returns-then-not-progress-clau
 returns-then-not-progress-clause-moves c =
     let p = seen_database c.args.provider.now in
     let r = seen_database c.args.replica.now in
-    let table = c.args.table.now in
+    let table = c.args.table.now.name.now in
     let t = the_table table r.node in
     awaits-copy p r table c.args.self.now _ _ refl
     (c.in_ok-add_reply.ensures ∙ ap (λ replies. replies ++ AwaitsTable c.in_ok-copy.field-0 ∷ []) c.requires.nothing ∙ ap (λ name. AwaitsTable name ∷ []) c.in_ok-copy.ensures)
@@ -22,13 +22,13 @@ returns-then-not-progress-clause-moves c =
     (sym (ap Progress.is_copied c.requires.progress) ∙ c.if-not-progress.true)
 
 pub follow-requires-clause-may : goal.follow-requires-clause-may
-follow-requires-clause-may c = may-apply-to c.args.table.now (seen_database c.args.replica.now).node (sym (ap Progress.is_copied c.requires.progress) ∙ c.if-not-progress.false)
+follow-requires-clause-may c = may-apply-to c.args.table.now.name.now (seen_database c.args.replica.now).node (sym (ap Progress.is_copied c.requires.progress) ∙ c.if-not-progress.false)
 
 pub returns-clause-moves : goal.returns-clause-moves
 returns-clause-moves c =
     let p = seen_database c.args.provider.now in
     let r = seen_database c.args.replica.now in
-    let table = c.args.table.now in
+    let table = c.args.table.now.name.now in
     let t = the_table table r.node in
     batch-moves p (seen_database c.follow.new.provider) r (seen_database c.follow.new.replica) table c.args.self.now (option_map hand_of c.of_batch.result) c.batch_in-hand.result c.in_ok-hand.hand
     (without_batch c.args.progress.state p r t) c.follow.new.replies.items

@@ -1,14 +1,27 @@
 use Rattle.std.proofs.Common.{rules, ◌∙◌, sym, ap, subst, IfOk, None}
 use Rattle.std.specs.Prelude.{IfErr}
 use Rattle.londiste_state.specs.declared.state.TableState.TheVariants.{InCopy, DoSync}
+use Rattle.londiste_state.specs.Nodes.{is_among}
+use Rattle.sky_model.specs.Nodes.{leaf_tables}
 use Rattle.sky_model.specs.StepNode.{may_move}
 use Rattle.sky_model.specs.WorkerMoves.{moves_to}
 use Rattle.sky_model.specs.ReplayMoves.{empty_handed_move, is_handed_over, is_met}
 use Rattle.pgq_db.specs.Seen.{seen_database}
 use Rattle.londiste_batches.specs.Moved.{MovesBy, MoveRefused}
 use Rattle.londiste_replay.proofs.Going.{none-found, one-leaf, goes-met, goes-copy, takes-as}
-use Rattle.londiste_replay.proofs.TableNames.{may-hand_over, may-copy_next}
+use Rattle.londiste_replay.proofs.TableNames.{has-first, has-next, may-hand_over, may-copy_next}
 use Rattle.londiste_replay.proofs.worker.ReplayWorker.step_empty_handed.Goals as goal
+
+pub leaf_table-number-requires-clause-among : goal.leaf_table-number-requires-clause-among
+leaf_table-number-requires-clause-among g c =
+    (λ i. is_among (c.in_ok-table.ensures i) (leaf_tables (seen_database c.args.replica.now).node))
+    ∙ has-first (seen_database c.args.replica.now) c.requires.0 c.leaf_in-leaf.result.now (sym c.node.ensures ∙ c.leaf_in-leaf.ensures) (is_met c.leaf_in-leaf.result.now.tick) c.in-Some-first_in.table.now
+    (sym (c.in-Some-first_in.ensures (is_met c.leaf_in-leaf.result.now.tick) (λ state b post. search (rules, post))))
+
+pub leaf_table-number-requires-in-Some-next_to_copy-clause-among : goal.leaf_table-number-requires-in-Some-next_to_copy-clause-among
+leaf_table-number-requires-in-Some-next_to_copy-clause-among g c =
+    (λ i. is_among (c.in_ok-table-2.ensures i) (leaf_tables (seen_database c.args.replica.now).node))
+    ∙ has-next (seen_database c.args.replica.now) c.requires.0 c.leaf_in-leaf.result.now (sym c.node.ensures ∙ c.leaf_in-leaf.ensures) c.in-Some-next_to_copy.table.now (sym c.in-Some-next_to_copy.ensures)
 
 pub move_table-requires-clause-may : goal.move_table-requires-clause-may
 move_table-requires-clause-may g c =

@@ -1,4 +1,4 @@
-use Rattle.std.proofs.Common.{◌≡◌, ℕ, List, [], ◌∷◌, rules, subst}
+use Rattle.std.proofs.Common.{◌≡◌, [], ◌∷◌, rules, subst}
 use Rattle.sky_model.specs.declared.reply.Reply.TheVariants.{Done}
 use Rattle.sky_model.specs.History.{queued, traced}
 use Rattle.sky_model.specs.Outcome.{does_marks}
@@ -14,12 +14,10 @@ use Rattle.pgq_db.proofs.db.Db.add_trigger.Goals as goal
 
 pub returns-in_err-trigger : goal.returns-in_err-trigger
 returns-in_err-trigger c =
-    let v : DbView = record { rows = c.self.inside.rows; queues = c.self.inside.queues; node = c.self.inside.node } in
     let stop = c.in_err-trigger.field-0.0 in
     let stops =
-    stops-there stop (seen_database c.args.self.now) c.args.replies.now (add_trigger (seen_database c.args.self.now) c.args.name.now c.args.table.now c.args.queue.now c.args.backup c.args.ignored.now)
-    (subst (λ (w : DbView). StopsAs stop (add_trigger (seen_database w) c.args.name.now c.args.table.now c.args.queue.now c.args.backup c.args.ignored.now)) c.self.view_is
-    (subst (λ (names : List (List ℕ)). StopsAs stop (add_trigger (seen_database v) c.args.name.now c.args.table.now c.args.queue.now c.args.backup names)) c.as_slice.ensures c.in_err-trigger.ensures.err)) in
+    stops-there stop (seen_database c.args.self.now) c.args.replies.now (add_trigger (seen_database c.args.self.now) c.args.asked.now)
+    (subst (λ (w : DbView). StopsAs stop (add_trigger (seen_database w) c.args.asked.now)) c.self.view_is c.in_err-trigger.ensures.err) in
     search (rules, stops)
 
 pub invariant_of-self : goal.invariant_of-self
@@ -39,11 +37,8 @@ invariant_of-self-2 c = λ e.
 
 pub returns : goal.returns
 returns c =
-    let v : DbView = record { rows = c.self.inside.rows; queues = c.self.inside.queues; node = c.self.inside.node } in
     let t = c.in_ok-trigger.trigger in
     let adds =
-    subst (λ (w : DbView). add_trigger (seen_database w) c.args.name.now c.args.table.now c.args.queue.now c.args.backup c.args.ignored.now ≡ does_marks Done (queued (traced t.table t.name t.trigger) ∷ [])) c.self.view_is
-    (subst (λ (names : List (List ℕ)). add_trigger (seen_database v) c.args.name.now c.args.table.now c.args.queue.now c.args.backup names ≡ does_marks Done (queued (traced t.table t.name t.trigger) ∷ [])) c.as_slice.ensures
-    c.in_ok-trigger.ensures.adds) in
+    subst (λ (w : DbView). add_trigger (seen_database w) c.args.asked.now ≡ does_marks Done (queued (traced t.table t.name t.trigger) ∷ [])) c.self.view_is c.in_ok-trigger.ensures.adds in
     let mark = marked-as _ _ c.trace.new.self (λ _. traced t.table t.name t.trigger) c.self.view_is c.in_ok-trace.ensures.ok in
     does-mark _ _ _ _ c.args.who Done (traced t.table t.name t.trigger) _ adds mark c.in_ok-push.ensures.ok tt

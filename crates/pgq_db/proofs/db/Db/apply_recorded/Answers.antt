@@ -2,9 +2,9 @@ use Rattle.std.proofs.Common.{[], ◌∷◌}
 use Rattle.sky_model.specs.History.{of_worker, began}
 use Rattle.sky_model.specs.StepNode.{applying}
 use Rattle.sky_state.specs.Seen.{seen}
-use Rattle.pgq_db.specs.Applying.{pick_of}
+use Rattle.londiste_calls.specs.Picks.{pick_of}
 use Rattle.pgq_db.specs.Seen.{seen_database}
-use Rattle.pgq_db.proofs.Agreeing.{agree-then, agree-same}
+use Rattle.pgq_db.proofs.Agreeing.{agree-then, agree-marked, agree-same}
 use Rattle.pgq_db.proofs.ApplySteps.{begun-all, apply-refused, apply-serves, apply-answers, apply-bad, works-recorded}
 use Rattle.pgq_db.proofs.Databases.{err-and}
 use Rattle.pgq_db.proofs.NodeSteps.{serves-steps}
@@ -22,15 +22,15 @@ pub invariant_of-self : goal.invariant_of-self
 invariant_of-self c = λ e. agree-same (seen c.self.inside.rows) (seen c.begin_worker.new.self) c.self.inside.queues c.in_err-txid.ensures.same (c.self.invariant e)
 
 pub invariant_of-self-in_err-work : goal.invariant_of-self-in_err-work
-invariant_of-self-in_err-work c = λ e. c.apply_picked.ensures.agree c.self.inside.queues
+invariant_of-self-in_err-work c = λ e. agree-marked (seen c.begin_worker.new.self) (seen c.apply_picked.new.rows) c.self.inside.queues c.apply_picked.ensures.marked
     (agree-then (seen c.self.inside.rows) (seen c.begin_worker.new.self) (began of_worker c.in_ok-txid.txid ∷ []) c.self.inside.queues c.in_ok-txid.ensures.mark (c.self.invariant e))
 
 pub invariant_of-self-in-Some : goal.invariant_of-self-in-Some
-invariant_of-self-in-Some c = λ e. c.apply_picked.ensures.agree c.self.inside.queues
+invariant_of-self-in-Some c = λ e. agree-marked (seen c.begin_worker.new.self) (seen c.apply_picked.new.rows) c.self.inside.queues c.apply_picked.ensures.marked
     (agree-then (seen c.self.inside.rows) (seen c.begin_worker.new.self) (began of_worker c.in_ok-txid.txid ∷ []) c.self.inside.queues c.in_ok-txid.ensures.mark (c.self.invariant e))
 
 pub invariant_of-self-in-None : goal.invariant_of-self-in-None
-invariant_of-self-in-None c = λ e. c.apply_picked.ensures.agree c.self.inside.queues
+invariant_of-self-in-None c = λ e. agree-marked (seen c.begin_worker.new.self) (seen c.apply_picked.new.rows) c.self.inside.queues c.apply_picked.ensures.marked
     (agree-then (seen c.self.inside.rows) (seen c.begin_worker.new.self) (began of_worker c.in_ok-txid.txid ∷ []) c.self.inside.queues c.in_ok-txid.ensures.mark (c.self.invariant e))
 
 pub roll_back_work-requires : goal.roll_back_work-requires

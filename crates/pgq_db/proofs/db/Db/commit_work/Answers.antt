@@ -2,7 +2,7 @@ use Rattle.std.proofs.Common.{◌≡◌, [], ◌∷◌, true, sym, subst}
 use Rattle.sky_txid.specs.Ids.{contains}
 use Rattle.sky_model.specs.History.{of_worker, ended}
 use Rattle.sky_state.specs.Seen.{seen}
-use Rattle.pgq_db.specs.Applying.{pick_of}
+use Rattle.londiste_calls.specs.Picks.{pick_of}
 use Rattle.pgq_db.specs.Views.{DbView}
 use Rattle.pgq_db.proofs.Agreeing.{agree-then}
 use Rattle.pgq_db.proofs.ApplySteps.{committed-work}

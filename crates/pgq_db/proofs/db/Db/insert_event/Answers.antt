@@ -12,8 +12,8 @@ use Rattle.pgq_db.proofs.db.Db.insert_event.Goals as goal
 
 pub returns : goal.returns
 returns c =
-    let whole : PlainEvent → Event = λ e. made_event e.ev_id e.ev_time e.ev_txid e.ev_type e.ev_data c.args.extra.now in
-    gives-event _ _ _ _ c.args.now _ c.args.who _ _ _ c.args.extra.now c.in_ok-queue.queue c.seq-seq.result c.in_ok-txid.txid (whole c.in_ok-event.event) _ _
+    let whole : PlainEvent → Event = λ e. made_event e.ev_id e.ev_time e.ev_txid e.ev_type e.ev_data c.args.inserted.now.extra in
+    gives-event _ _ _ _ c.args.now _ c.args.who c.args.inserted.now c.in_ok-queue.queue c.seq-seq.result c.in_ok-txid.txid (whole c.in_ok-event.event) _ _
     c.in_ok-queue.ensures.ok (sym c.is_reserved.ensures ∙ c.if-is_reserved.false) c.in_ok-txid.ensures.ok (c.seq-seq.ensures ∙ ap (λ (q : Queue). q.seq) c.queue.ensures ∙ ap (λ (v : DbView). (queue_at v.queues c.in_ok-queue.queue).seq) c.self.view_is) (omega arith)
     (to_z-of_z w64 c.args.now c.ranges.now) (ap whole c.in_ok-event.ensures) c.in_ok-take_txid.ensures.marks
     (marked-as _ _ c.raise.new.self (λ _. raised c.in_ok-queue.queue (c.seq-seq.result + 1)) c.self-2.view_is c.raise.ensures.mark) c.in_ok-put.ensures.mark c.in_ok-push.ensures.ok

@@ -1,40 +1,37 @@
 use Rattle.std.proofs.Common.{[], ◌∷◌, Some, true, ap, ◌∙◌}
-use Rattle.sky_names.proofs.PlaceLemmas.{place_of_within}
 use Rattle.sky_model.specs.History.{tabled, read_only, leaf_added}
 use Rattle.sky_model.specs.Nodes.{after_node}
 use Rattle.sky_model.specs.StepNode.{adding}
 use Rattle.sky_state.specs.Seen.{seen}
 use Rattle.pgq_db.specs.Seen.{seen_database}
 use Rattle.pgq_db.proofs.Agreeing.{agree-then}
-use Rattle.pgq_db.proofs.NodeSteps.{serves-steps, steps-unless, table-not, adding-busy, adding-does}
+use Rattle.pgq_db.proofs.Databases.{table-low}
+use Rattle.pgq_db.proofs.NodeSteps.{serves-steps, steps-unless, adding-busy, adding-does}
 use Rattle.pgq_db.proofs.db.Db.leaf_add.Goals as goal
 
-pub unreachable-requires : goal.unreachable-requires
-unreachable-requires c = table-not _ _ c.args.table.now c.self.view_is c.in_default.ensures c.requires.there
+pub returns-in-Some-clause-serves : goal.returns-in-Some-clause-serves
+returns-in-Some-clause-serves c =
+    adding-busy _ _ c.args.table.now c.args.number c.self.view_is c.requires.may c.requires.number c.in-Some.txid c.in-Some.ensures
 
-pub returns-in-Some-least_writer-clause-serves : goal.returns-in-Some-least_writer-clause-serves
-returns-in-Some-least_writer-clause-serves c =
-    adding-busy _ _ c.args.table.now c.in-Some.number c.self.view_is c.requires.may c.in-Some.ensures.0 c.in-Some-least_writer.txid c.in-Some-least_writer.ensures
-
-pub returns-in-Some-least_writer-clause-steps : goal.returns-in-Some-least_writer-clause-steps
-returns-in-Some-least_writer-clause-steps c =
-    steps-unless (seen_database c.args.self.now) _ (adding c.args.table.now) (Some c.in-Some-least_writer.txid)
-    (adding-busy _ _ c.args.table.now c.in-Some.number c.self.view_is c.requires.may c.in-Some.ensures.0 c.in-Some-least_writer.txid c.in-Some-least_writer.ensures)
+pub returns-in-Some-clause-steps : goal.returns-in-Some-clause-steps
+returns-in-Some-clause-steps c =
+    steps-unless (seen_database c.args.self.now) _ (adding c.args.table.now) (Some c.in-Some.txid)
+    (adding-busy _ _ c.args.table.now c.args.number c.self.view_is c.requires.may c.requires.number c.in-Some.txid c.in-Some.ensures)
 
 pub set_read_only-requires : goal.set_read_only-requires
-set_read_only-requires c = place_of_within c.args.table.now (seen c.self.inside.rows).tables c.in-Some.number c.in-Some.ensures.0
+set_read_only-requires c = table-low _ _ c.args.table.now c.args.number c.self.view_is c.requires.number
 
 pub invariant_of-self-2 : goal.invariant_of-self-2
 invariant_of-self-2 c = λ e.
-    agree-then (seen c.self.inside.rows) (seen c.set_read_only.new.self) (tabled (read_only c.in-Some.number true) ∷ []) c.self.inside.queues c.set_read_only.ensures.mark (c.self.invariant e)
+    agree-then (seen c.self.inside.rows) (seen c.set_read_only.new.self) (tabled (read_only c.args.number true) ∷ []) c.self.inside.queues c.set_read_only.ensures.mark (c.self.invariant e)
 
 pub returns-clause-serves : goal.returns-clause-serves
 returns-clause-serves c =
-    adding-does _ _ c.args.table.now c.in-Some.number c.self.view_is c.requires.may c.in-Some.ensures.0 c.set_read_only.new.self c.add_leaf_table.new.node c.in_default-least_writer.ensures c.set_read_only.ensures.mark
+    adding-does _ _ c.args.table.now c.args.number c.self.view_is c.requires.may c.requires.number c.set_read_only.new.self c.add_leaf_table.new.node c.in_default.ensures c.set_read_only.ensures.mark
     (c.in_ok-add_leaf_table.ensures.ok ∙ ap (λ n. after_node (leaf_added n) c.self.inside.node.own) c.in_ok-name.ensures)
 
 pub returns-clause-steps : goal.returns-clause-steps
 returns-clause-steps c =
     serves-steps (seen_database c.args.self.now) _ (adding c.args.table.now)
-    (adding-does _ _ c.args.table.now c.in-Some.number c.self.view_is c.requires.may c.in-Some.ensures.0 c.set_read_only.new.self c.add_leaf_table.new.node c.in_default-least_writer.ensures c.set_read_only.ensures.mark
+    (adding-does _ _ c.args.table.now c.args.number c.self.view_is c.requires.may c.requires.number c.set_read_only.new.self c.add_leaf_table.new.node c.in_default.ensures c.set_read_only.ensures.mark
     (c.in_ok-add_leaf_table.ensures.ok ∙ ap (λ n. after_node (leaf_added n) c.self.inside.node.own) c.in_ok-name.ensures))

@@ -5,33 +5,26 @@ use Rattle.sky_state.specs.Seen.{seen}
 use Rattle.pgq_db.specs.Seen.{seen_database}
 use Rattle.pgq_db.proofs.Agreeing.{agree-then}
 use Rattle.pgq_db.proofs.CopySteps.{low-still, runs-now}
-use Rattle.pgq_db.proofs.NodeSteps.{serves-steps, removing-nothing, removing-does}
+use Rattle.pgq_db.proofs.NodeSteps.{serves-steps, removing-does}
 use Rattle.pgq_db.proofs.db.Db.leaf_drop.Goals as goal
 
-pub returns-in_default-clause-serves : goal.returns-in_default-clause-serves
-returns-in_default-clause-serves c = removing-nothing _ _ c.args.table.now c.self.view_is c.in_default.ensures c.requires.may
-
-pub returns-in_default-clause-steps : goal.returns-in_default-clause-steps
-returns-in_default-clause-steps c =
-    serves-steps (seen_database c.args.self.now) _ (removing c.args.table.now) (removing-nothing _ _ c.args.table.now c.self.view_is c.in_default.ensures c.requires.may)
-
 pub give_up_copy-requires : goal.give_up_copy-requires
-give_up_copy-requires c = runs-now (seen_database c.args.self.now) c.requires.made c.in-Some.number
+give_up_copy-requires c = runs-now (seen_database c.args.self.now) c.requires.made c.args.number
 
 pub set_read_only-requires : goal.set_read_only-requires
-set_read_only-requires c = low-still _ _ _ _ c.args.table.now c.in-Some.number c.self.view_is c.in-Some.ensures.0 c.self-2.view_is (c.give_up_copy.ensures c.args.table.now)
+set_read_only-requires c = low-still c.args.self.now _ _ c.args.table.now c.args.number c.requires.number c.self.view_is (c.give_up_copy.ensures c.args.table.now)
 
 pub invariant_of-self : goal.invariant_of-self
 invariant_of-self c = λ e.
-    agree-then (seen c.self-2.inside.rows) (seen c.set_read_only.new.self) (tabled (read_only c.in-Some.number false) ∷ []) c.self-2.inside.queues c.set_read_only.ensures.mark (c.self-2.invariant e)
+    agree-then (seen c.self.inside.rows) (seen c.set_read_only.new.self) (tabled (read_only c.args.number false) ∷ []) c.self.inside.queues c.set_read_only.ensures.mark (c.self.invariant e)
 
 pub returns-clause-serves : goal.returns-clause-serves
 returns-clause-serves c =
-    removing-does _ _ c.args.table.now c.in-Some.number c.self.view_is c.requires.may c.in-Some.ensures.0 _ _ c.self-2.view_is (c.give_up_copy.ensures c.args.table.now) c.set_read_only.new.self c.remove_leaf_table.new.node
+    removing-does c.args.self.now c.args.table.now c.args.number c.requires.may c.requires.number _ _ c.self.view_is (c.give_up_copy.ensures c.args.table.now) c.set_read_only.new.self c.remove_leaf_table.new.node
     c.set_read_only.ensures.mark c.remove_leaf_table.ensures
 
 pub returns-clause-steps : goal.returns-clause-steps
 returns-clause-steps c =
     serves-steps (seen_database c.args.self.now) _ (removing c.args.table.now)
-    (removing-does _ _ c.args.table.now c.in-Some.number c.self.view_is c.requires.may c.in-Some.ensures.0 _ _ c.self-2.view_is (c.give_up_copy.ensures c.args.table.now) c.set_read_only.new.self c.remove_leaf_table.new.node
+    (removing-does c.args.self.now c.args.table.now c.args.number c.requires.may c.requires.number _ _ c.self.view_is (c.give_up_copy.ensures c.args.table.now) c.set_read_only.new.self c.remove_leaf_table.new.node
     c.set_read_only.ensures.mark c.remove_leaf_table.ensures)

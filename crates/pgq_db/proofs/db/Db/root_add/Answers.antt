@@ -10,10 +10,10 @@ use Rattle.pgq_queues.specs.Seen.{seen_with}
 use Rattle.pgq_db.specs.Views.{DbView}
 use Rattle.pgq_db.specs.Seen.{seen_database}
 use Rattle.pgq_db.specs.Served.{RootRefused}
-use Rattle.pgq_db.proofs.Databases.{table-there}
+use Rattle.pgq_db.proofs.Databases.{table-there, table-low}
 use Rattle.pgq_db.proofs.Tables.{is-table}
 use Rattle.pgq_db.proofs.Agreeing.{agree-traced}
-use Rattle.pgq_db.proofs.NodeSteps.{set_added-back, back-as, serves-by, serves-steps, steps-unless, listing-nowhere, table-not, list-full, list-busy, list-does, set_added-as}
+use Rattle.pgq_db.proofs.NodeSteps.{set_added-back, back-as, serves-by, serves-steps, steps-unless, listing-nowhere, list-full, list-busy, list-does, set_added-as}
 use Rattle.pgq_db.proofs.db.Db.root_add.Goals as goal
 
 pub returns-in_default-clause-serves : goal.returns-in_default-clause-serves
@@ -23,15 +23,15 @@ pub returns-in_default-clause-steps : goal.returns-in_default-clause-steps
 returns-in_default-clause-steps c =
     serves-steps (seen_database c.args.self.now) _ (listing c.args.table.now) (listing-nowhere (seen_database c.args.self.now) c.args.table.now c.requires.may (sym c.in_default.ensures.queue))
 
-pub unreachable-requires : goal.unreachable-requires
-unreachable-requires c = table-not _ _ c.args.table.now c.self.view_is c.in_default-table.ensures c.requires.there
+pub schema-schema-requires : goal.schema-schema-requires
+schema-schema-requires c = table-low _ _ c.args.table.now c.args.number c.self.view_is c.requires.number
 
 pub returns-then-trigger_count-most-clause-fault : goal.returns-then-trigger_count-most-clause-fault
 returns-then-trigger_count-most-clause-fault c =
-    let number = c.in-Some-table.number in
+    let number = c.args.number in
     let many : 8 ≤ c.trigger_count.result = omega (arith, c.most.ensures, c.if-trigger_count-most.true) in
     record {
-      refused = list-full (seen_database c.args.self.now) c.in-Some.queue c.args.table.now number c.requires.may (sym c.in-Some.ensures.queue) (table-there _ _ c.args.table.now number c.self.view_is c.in-Some-table.ensures.0) c.trigger_count.result
+      refused = list-full (seen_database c.args.self.now) c.in-Some.queue c.args.table.now number c.requires.may (sym c.in-Some.ensures.queue) c.requires.number c.trigger_count.result
           (c.trigger_count.ensures ∙ ap (λ (v : DbView). length (triggers_of number v.queues.triggers)) c.self.view_is) many;
       same = refl;
     }
@@ -40,12 +40,11 @@ pub returns-in-Some-least_writer-clause-serves : goal.returns-in-Some-least_writ
 returns-in-Some-least_writer-clause-serves c =
     let d = seen_database c.args.self.now in
     let name = c.args.table.now in
-    let number = c.in-Some-table.number in
-    let there = table-there _ _ name number c.self.view_is c.in-Some-table.ensures.0 in
+    let number = c.args.number in
     let count = c.trigger_count.ensures ∙ ap (λ (v : DbView). length (triggers_of number v.queues.triggers)) c.self.view_is in
     let few : c.trigger_count.result < 8 = omega (arith, c.most.ensures, c.if-trigger_count-most.false) in
     record {
-      refused = list-busy d c.in-Some.queue name number c.requires.may (sym c.in-Some.ensures.queue) there c.trigger_count.result c.in-Some-least_writer.txid count few
+      refused = list-busy d c.in-Some.queue name number c.requires.may (sym c.in-Some.ensures.queue) c.requires.number c.trigger_count.result c.in-Some-least_writer.txid count few
           (c.in-Some-least_writer.ensures ∙ ap (λ (v : DbView). least_writer (seen v.rows) number) c.self.view_is);
       same = refl;
     }
@@ -54,38 +53,38 @@ pub returns-in-Some-least_writer-clause-steps : goal.returns-in-Some-least_write
 returns-in-Some-least_writer-clause-steps c =
     let d = seen_database c.args.self.now in
     let name = c.args.table.now in
-    let number = c.in-Some-table.number in
-    let there = table-there _ _ name number c.self.view_is c.in-Some-table.ensures.0 in
+    let number = c.args.number in
     let count = c.trigger_count.ensures ∙ ap (λ (v : DbView). length (triggers_of number v.queues.triggers)) c.self.view_is in
     let few : c.trigger_count.result < 8 = omega (arith, c.most.ensures, c.if-trigger_count-most.false) in
     steps-unless d d (listing name) (Some c.in-Some-least_writer.txid) (record {
-      refused = list-busy d c.in-Some.queue name number c.requires.may (sym c.in-Some.ensures.queue) there c.trigger_count.result c.in-Some-least_writer.txid count few
+      refused = list-busy d c.in-Some.queue name number c.requires.may (sym c.in-Some.ensures.queue) c.requires.number c.trigger_count.result c.in-Some-least_writer.txid count few
           (c.in-Some-least_writer.ensures ∙ ap (λ (v : DbView). least_writer (seen v.rows) number) c.self.view_is);
       same = refl;
     })
 
 pub invariant_of-self-in-Err : goal.invariant_of-self-in-Err
 invariant_of-self-in-Err c = λ e.
-    let at = c.in-Some-table.ensures.0 ∙ ap Some (sym (ap TableTrigger.table c.set_trigger-trigger.ensures)) in
+    let there = table-there _ _ c.args.table.now c.args.number c.self.view_is c.requires.number in
+    let at = there ∙ ap Some (sym (ap TableTrigger.table c.set_trigger-trigger.ensures)) in
     agree-traced (seen c.self.inside.rows) c.self.inside.queues c.trace.new.self c.trace.ensures.rounds
-    (c.trace.ensures.tables (seen c.self.inside.rows) (is-table (seen c.self.inside.rows) c.args.table.now c.set_trigger-trigger.result.table _ _ at c.in-Some-table.ensures.0 c.in-Some-table.ensures.1) (c.self.invariant e).tables) (c.self.invariant e)
+    (c.trace.ensures.tables (seen c.self.inside.rows) (is-table (seen c.self.inside.rows) c.args.table.now c.set_trigger-trigger.result.table _ _ at there c.schema-schema.ensures) (c.self.invariant e).tables) (c.self.invariant e)
 
 pub invariant_of-self-in_default-trace : goal.invariant_of-self-in_default-trace
 invariant_of-self-in_default-trace c = λ e.
-    let at = c.in-Some-table.ensures.0 ∙ ap Some (sym (ap TableTrigger.table c.set_trigger-trigger.ensures)) in
+    let there = table-there _ _ c.args.table.now c.args.number c.self.view_is c.requires.number in
+    let at = there ∙ ap Some (sym (ap TableTrigger.table c.set_trigger-trigger.ensures)) in
     agree-traced (seen c.self.inside.rows) c.self.inside.queues c.trace.new.self c.trace.ensures.rounds
-    (c.trace.ensures.tables (seen c.self.inside.rows) (is-table (seen c.self.inside.rows) c.args.table.now c.set_trigger-trigger.result.table _ _ at c.in-Some-table.ensures.0 c.in-Some-table.ensures.1) (c.self.invariant e).tables) (c.self.invariant e)
+    (c.trace.ensures.tables (seen c.self.inside.rows) (is-table (seen c.self.inside.rows) c.args.table.now c.set_trigger-trigger.result.table _ _ at there c.schema-schema.ensures) (c.self.invariant e).tables) (c.self.invariant e)
 
 pub returns-clause-serves : goal.returns-clause-serves
 returns-clause-serves c =
     let d = seen_database c.args.self.now in
     let name = c.args.table.now in
-    let number = c.in-Some-table.number in
-    let there = table-there _ _ name number c.self.view_is c.in-Some-table.ensures.0 in
+    let number = c.args.number in
     let count = c.trigger_count.ensures ∙ ap (λ (v : DbView). length (triggers_of number v.queues.triggers)) c.self.view_is in
     let few : c.trigger_count.result < 8 = omega (arith, c.most.ensures, c.if-trigger_count-most.false) in
     serves-by d _ (listing name) _
-    (list-does d c.in-Some.queue name number c.requires.may (sym c.in-Some.ensures.queue) there c.trigger_count.result count few
+    (list-does d c.in-Some.queue name number c.requires.may (sym c.in-Some.ensures.queue) c.requires.number c.trigger_count.result count few
     (c.in_default-least_writer.ensures ∙ ap (λ (v : DbView). least_writer (seen v.rows) number) c.self.view_is))
     (set_added-as _ _ c.trace.new.self c.add_root_table.new.node c.in-Some.queue number name c.self.view_is
     (λ beside. c.in_default-trace.ensures.ok beside ∙ ap (λ (t : TableTrigger). after_mark (seen_with beside c.self.inside.queues) (queued (traced t.table t.name t.trigger))) c.set_trigger-trigger.ensures)
@@ -95,13 +94,12 @@ pub returns-clause-steps : goal.returns-clause-steps
 returns-clause-steps c =
     let d = seen_database c.args.self.now in
     let name = c.args.table.now in
-    let number = c.in-Some-table.number in
-    let there = table-there _ _ name number c.self.view_is c.in-Some-table.ensures.0 in
+    let number = c.args.number in
     let count = c.trigger_count.ensures ∙ ap (λ (v : DbView). length (triggers_of number v.queues.triggers)) c.self.view_is in
     let few : c.trigger_count.result < 8 = omega (arith, c.most.ensures, c.if-trigger_count-most.false) in
     serves-steps d _ (listing name)
     (serves-by d _ (listing name) _
-    (list-does d c.in-Some.queue name number c.requires.may (sym c.in-Some.ensures.queue) there c.trigger_count.result count few
+    (list-does d c.in-Some.queue name number c.requires.may (sym c.in-Some.ensures.queue) c.requires.number c.trigger_count.result count few
     (c.in_default-least_writer.ensures ∙ ap (λ (v : DbView). least_writer (seen v.rows) number) c.self.view_is))
     (set_added-as _ _ c.trace.new.self c.add_root_table.new.node c.in-Some.queue number name c.self.view_is
     (λ beside. c.in_default-trace.ensures.ok beside ∙ ap (λ (t : TableTrigger). after_mark (seen_with beside c.self.inside.queues) (queued (traced t.table t.name t.trigger))) c.set_trigger-trigger.ensures)

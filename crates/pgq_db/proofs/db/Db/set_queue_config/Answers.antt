@@ -3,5 +3,5 @@ use Rattle.pgq_db.proofs.db.Db.set_queue_config.Goals as goal
 
 pub returns : goal.returns
 returns c = record {
-  ran = gives-config _ _ c.args.who c.args.name.now c.args.param.now c.args.value.now c.in_ok-queue.queue _ _ c.in_ok-queue.ensures.ok c.in_ok-configure.ensures.mark c.in_ok-push.ensures.ok;
+  ran = gives-config _ _ c.args.who c.args.setting.now c.in_ok-queue.queue _ _ c.in_ok-queue.ensures.ok c.in_ok-configure.ensures.mark c.in_ok-push.ensures.ok;
 }

@@ -63,4 +63,4 @@ invariant_of-self c =
 pub returns : goal.returns
 returns c =
     let waiting = ap waiting_in (c.loop-arrival.invariant.2 ∙ c.pack.ensures) ∙ waiting-packed c.self.inside.entries in
-    (λ i. record { held = held_in (c.loop-arrival.invariant.3 i); waiting = waiting i; listed = c.loop-arrival.invariant.4 i }) ∙ c.self.view_is
+    (λ i. record { held = held_in (c.loop-arrival.invariant.3 i); waiting = waiting i; listed = c.loop-arrival.invariant.4 i; places = (c.loop-arrival.invariant.3 i).places }) ∙ c.self.view_is

@@ -1,20 +1,20 @@
 use Rattle.std.proofs.Common.{sym, ◌∙◌, ap, None, option_map}
 use Rattle.londiste_copy.specs.Hands.{hand_of}
 use Rattle.sky_world.specs.Hands.{hand_at}
-use Rattle.sky_world.proofs.HandsAt.{hand-none, hand-of, hand-stored, put-back}
+use Rattle.sky_world.proofs.HandsAt.{is-place, hand-there, hand-set, hand-none, put-back}
 use Rattle.sky_world.proofs.hands.Hands.take.Goals as goal
 
-pub returns-in_err-at-clause-hand : goal.returns-in_err-at-clause-hand
-returns-in_err-at-clause-hand c = ap (option_map hand_of) c.from_residual.ensures ∙ sym (hand-none c.args.database c.args.table.now c.args.self.now (sym c.in_err-at.ensures))
+pub returns-in_err-place-clause-hand : goal.returns-in_err-place-clause-hand
+returns-in_err-place-clause-hand c = ap (option_map hand_of) c.from_residual.ensures ∙ sym (hand-none c.args.database c.args.table.now c.args.self.now (sym c.in_err-place.ensures))
 
-pub returns-in_err-at-clause-nothing : goal.returns-in_err-at-clause-nothing
-returns-in_err-at-clause-nothing c =
-    sym (put-back c.args.database c.args.table.now None (hand_at c.args.self.now) (hand-none c.args.database c.args.table.now c.args.self.now (sym c.in_err-at.ensures)))
+pub returns-in_err-place-clause-nothing : goal.returns-in_err-place-clause-nothing
+returns-in_err-place-clause-nothing c =
+    sym (put-back c.args.database c.args.table.now None (hand_at c.args.self.now) (hand-none c.args.database c.args.table.now c.args.self.now (sym c.in_err-place.ensures)))
 
 pub returns-clause-hand : goal.returns-clause-hand
 returns-clause-hand c =
-    ap (option_map hand_of) c.take.ensures.value ∙ sym (hand-of c.args.database c.args.table.now _ c.args.self.now c.in_ok-at.at _ _ c.self.view_is (sym c.in_ok-at.ensures) c.index_mut.ensures.value c.behind-self.view_is)
+    let at = is-place c.args.database c.args.table.now c.args.self.now c.in_ok-place.place (sym c.in_ok-place.ensures) in c.take_at.ensures.hand ∙ sym (hand-there c.args.database c.args.table.now c.args.self.now c.in_ok-place.place at)
 
 pub returns-clause-nothing : goal.returns-clause-nothing
 returns-clause-nothing c =
-    hand-stored c.args.database c.args.table.now None (option_map hand_of c.take.new.self) _ c.args.self.now c.in_ok-at.at _ _ c.self.view_is (sym c.in_ok-at.ensures) c.index_mut.ensures.value c.behind-self.view_is (ap (option_map hand_of) c.take.ensures.after)
+    let at = is-place c.args.database c.args.table.now c.args.self.now c.in_ok-place.place (sym c.in_ok-place.ensures) in ap hand_at c.take_at.ensures.nothing ∙ hand-set c.args.database c.args.table.now None c.args.self.now c.in_ok-place.place at

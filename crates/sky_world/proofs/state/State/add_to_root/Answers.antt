@@ -2,7 +2,7 @@ use Rattle.std.proofs.Common.{ℕ, Option, subst}
 use Rattle.sky_model.specs.declared.reply.Refusal.TheVariants.{TableBusy, TooMany}
 use Rattle.sky_model.specs.declared.reply.Limit.TheVariants.{Triggers}
 use Rattle.sky_model.specs.StepNode.{listing}
-use Rattle.pgq_db.specs.declared.faults.RootFault.{RootFault}
+use Rattle.londiste_calls.specs.declared.faults.RootFault.{RootFault}
 use Rattle.pgq_db.specs.Seen.{seen_database}
 use Rattle.pgq_db.specs.Served.{ServesUnlessBusy, RootRefused}
 use Rattle.sky_world.proofs.ServedNodes.{done-there, undone-there, ran-as}

@@ -18,7 +18,6 @@ invariant_of-self-2 c = record {
   homes_within = homes-push _ c.self.inside.sessions.values _ (ap (λ (n : NamedView (Option ℕ)). n.values) c.in_ok-add.ensures.added) c.self.invariant.homes_within;
   started = c.self.invariant.started;
   nodes_within = c.self.invariant.nodes_within;
-  empty = c.self.invariant.empty;
 }
 
 pub returns-clause-fact : goal.returns-clause-fact

@@ -13,7 +13,7 @@ use Rattle.sky_world.proofs.state.State.copy_step.Goals as goal
 pub move_copy-requires-clause-same : goal.move_copy-requires-clause-same
 move_copy-requires-clause-same c =
     same-table ((seen_state c.args.self.now).database c.in_ok-provider.provider) ((seen_state c.args.self.now).database c.in_ok-database.database) c.args.table.now c.in_ok-database.leaf.now c.in_ok-database.ensures.there
-    c.in_ok-database.ensures.among c.in_ok-provider.ensures.alike
+    c.in_ok-database.ensures.among (c.in_ok-provider.from, c.in_ok-provider.to) c.in_ok-provider.ensures.alike
 
 pub returns-in_err-database-clause-err : goal.returns-in_err-database-clause-err
 returns-in_err-database-clause-err c =

@@ -8,7 +8,6 @@ invariant_of-self c = record {
   homes_within = homes-set _ _ c.args.who (Some c.args.database) c.self.view_is c.self.invariant.homes_within c.requires.database;
   started = c.self.invariant.started;
   nodes_within = c.self.invariant.nodes_within;
-  empty = c.self.invariant.empty;
 }
 
 pub returns-clause-fact : goal.returns-clause-fact

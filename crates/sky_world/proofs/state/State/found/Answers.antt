@@ -1,4 +1,4 @@
-use Rattle.std.proofs.Common.{◌≤◌, ◌∷◌, [], ap, length, length-append, option_and_then, slice_get, subst, sym, arith, ◌∙◌}
+use Rattle.std.proofs.Common.{◌≤◌, ◌∷◌, [], ap, length, length-append, subst, sym, arith, ◌∙◌}
 use Rattle.sky_names.specs.Places.{place_of}
 use Rattle.sky_names.specs.Named.{NamedView}
 use Rattle.pgq_db.specs.Views.{DbView}
@@ -10,8 +10,7 @@ use Rattle.sky_world.proofs.state.State.found.Goals as goal
 
 pub add-requires-clause-new : goal.add-requires-clause-new
 add-requires-clause-new c =
-    ap (option_and_then (slice_get c.self.inside.databases.values))
-    (ap (λ name. place_of name c.self.inside.databases.names) c.in_ok-copied.ensures ∙ ap (λ (v : StateView). place_of c.args.name.now v.databases.names) c.self.view_is ∙ c.requires.new)
+    ap (λ name. place_of name c.self.inside.databases.names) c.in_ok-copied.ensures ∙ ap (λ (v : StateView). place_of c.args.name.now v.databases.names) c.self.view_is ∙ c.requires.new
 
 pub invariant_of-self-2 : goal.invariant_of-self-2
 invariant_of-self-2 c =
@@ -21,7 +20,6 @@ invariant_of-self-2 c =
       homes_within = homes-more _ _ c.self.inside.sessions.values more c.self.invariant.homes_within;
       started = c.self.invariant.started;
       nodes_within = nodes-more _ _ c.self.inside.nodes.items more c.self.invariant.nodes_within;
-      empty = c.self.invariant.empty;
     }
 
 pub returns-clause-fact : goal.returns-clause-fact

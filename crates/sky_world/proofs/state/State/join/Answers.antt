@@ -3,7 +3,7 @@ use Rattle.sky_model.specs.declared.reply.Refusal.TheVariants.{ConsumerExists, I
 use Rattle.sky_model.specs.declared.reply.Limit.TheVariants.{Consumers}
 use Rattle.sky_model.specs.declared.stop.Stop.TheVariants as halt
 use Rattle.sky_model.specs.StepNode.{joining}
-use Rattle.pgq_db.specs.declared.faults.JoinFault.{JoinFault}
+use Rattle.londiste_calls.specs.declared.faults.JoinFault.{JoinFault}
 use Rattle.pgq_db.specs.Seen.{seen_database}
 use Rattle.pgq_db.specs.Served.{JoinRefused}
 use Rattle.sky_world.proofs.ServedNodes.{joined-there, refused-there, joined-as}

@@ -1,35 +1,21 @@
-use Rattle.std.proofs.Common.{◌∙◌, ap}
-use Rattle.pgq_db.specs.Seen.{seen_database}
-use Rattle.sky_world.proofs.WorkerSteps.{went-as, copy-tried, spare-back, tried-ok, tried-err}
+use Rattle.std.proofs.Common.{◌∙◌}
+use Rattle.sky_world.proofs.WorkerSteps.{lent-as, copy-tried, tried-ok, tried-err}
 use Rattle.sky_world.proofs.state.State.move_copy.Goals as goal
-
--- what the second exchange gives back is the spare database
-pub invariant_of-self : goal.invariant_of-self
-invariant_of-self c =
-    let stores = c.self.inside.databases.values in
-    let was = c.self.invariant in record {
-      time = was.time;
-      homes_within = was.homes_within;
-      started = was.started;
-      nodes_within = was.nodes_within;
-      empty = ap seen_database c.swap-2.ensures.x_after
-          ∙ spare-back stores c.args.provider c.args.database c.swap.new.y c.step-moved.new.replica c.get_mut-2.result.now c.get_mut.ensures.within c.requires.apart c.get_mut-2.ensures.value (ap seen_database c.swap.ensures.y_after ∙ was.empty);
-    }
 
 pub returns-clause-ok : goal.returns-clause-ok
 returns-clause-ok c =
-    let went = went-as c.self.inside.databases.values c.args.provider c.args.database c.swap.new.y c.get_mut.result.now c.swap.new.x c.get_mut-to.result.now c.get_mut.ensures.within c.get_mut-to.ensures.within c.requires.apart
-    c.get_mut.ensures.value c.swap.ensures.x_after c.get_mut-to.ensures.value (ap seen_database c.swap.ensures.y_after ∙ c.self.invariant.empty) in
-    tried-ok (copy-tried _ c.args.self.now c.args.provider c.args.database c.args.table.now c.swap.new.y c.swap.new.x c.step-moved.new.provider c.swap-2.new.y c.get_mut-to.result.now c.step-moved.new.replica c.with_hand-worker.result
-    c.step-moved.new.self _ c.take-hand.new.self c.set-kept.new.self (λ replies. replies.items) c.step-moved.result c.if_kept.result c.set-kept.result c.self.view_is c.requires.whole went
-    (c.with_hand-worker.ensures ∙ c.take-hand.ensures.hand) c.take-hand.ensures.nothing c.into_hand.ensures c.set-kept.ensures.ok c.if_kept.ensures.kept c.if_kept.ensures.lost
-    c.swap-2.ensures.y_after c.step-moved.ensures.moves c.step-moved.ensures.fault)
+    let lent = lent-as _ c.args.self.now c.stores_mut.result.now c.args.provider c.args.database _ _ c.self.view_is c.stores_mut.ensures.stores c.stores_mut.ensures.as_many c.requires.provider c.requires.database c.requires.apart
+    c.two_of-from.ensures.first c.two_of-from.ensures.second in
+    tried-ok (copy-tried _ c.args.self.now c.stores_mut.result.now c.args.provider c.args.database c.args.table.now.name.now c.two_of-from.result.0.now c.step-moved.new.provider c.two_of-from.result.1.now c.step-moved.new.replica
+    c.with_hand-worker.result c.step-moved.new.self _ c.place_for.new.self c.take_at-hand.new.self c.put_at.new.self c.in_ok-place.place (λ replies. replies.items) c.step-moved.result c.stopping.result c.self.view_is c.requires.whole lent
+    c.place_for.ensures.same c.in_ok-place.ensures.place (c.with_hand-worker.ensures ∙ c.take_at-hand.ensures.hand) c.take_at-hand.ensures.nothing c.into_hand.ensures c.put_at.ensures c.stopping.ensures
+    c.step-moved.ensures.moves c.step-moved.ensures.fault)
 
 pub returns-clause-err : goal.returns-clause-err
 returns-clause-err c =
-    let went = went-as c.self.inside.databases.values c.args.provider c.args.database c.swap.new.y c.get_mut.result.now c.swap.new.x c.get_mut-to.result.now c.get_mut.ensures.within c.get_mut-to.ensures.within c.requires.apart
-    c.get_mut.ensures.value c.swap.ensures.x_after c.get_mut-to.ensures.value (ap seen_database c.swap.ensures.y_after ∙ c.self.invariant.empty) in
-    tried-err (copy-tried _ c.args.self.now c.args.provider c.args.database c.args.table.now c.swap.new.y c.swap.new.x c.step-moved.new.provider c.swap-2.new.y c.get_mut-to.result.now c.step-moved.new.replica c.with_hand-worker.result
-    c.step-moved.new.self _ c.take-hand.new.self c.set-kept.new.self (λ replies. replies.items) c.step-moved.result c.if_kept.result c.set-kept.result c.self.view_is c.requires.whole went
-    (c.with_hand-worker.ensures ∙ c.take-hand.ensures.hand) c.take-hand.ensures.nothing c.into_hand.ensures c.set-kept.ensures.ok c.if_kept.ensures.kept c.if_kept.ensures.lost
-    c.swap-2.ensures.y_after c.step-moved.ensures.moves c.step-moved.ensures.fault)
+    let lent = lent-as _ c.args.self.now c.stores_mut.result.now c.args.provider c.args.database _ _ c.self.view_is c.stores_mut.ensures.stores c.stores_mut.ensures.as_many c.requires.provider c.requires.database c.requires.apart
+    c.two_of-from.ensures.first c.two_of-from.ensures.second in
+    tried-err (copy-tried _ c.args.self.now c.stores_mut.result.now c.args.provider c.args.database c.args.table.now.name.now c.two_of-from.result.0.now c.step-moved.new.provider c.two_of-from.result.1.now c.step-moved.new.replica
+    c.with_hand-worker.result c.step-moved.new.self _ c.place_for.new.self c.take_at-hand.new.self c.put_at.new.self c.in_ok-place.place (λ replies. replies.items) c.step-moved.result c.stopping.result c.self.view_is c.requires.whole lent
+    c.place_for.ensures.same c.in_ok-place.ensures.place (c.with_hand-worker.ensures ∙ c.take_at-hand.ensures.hand) c.take_at-hand.ensures.nothing c.into_hand.ensures c.put_at.ensures c.stopping.ensures
+    c.step-moved.ensures.moves c.step-moved.ensures.fault)

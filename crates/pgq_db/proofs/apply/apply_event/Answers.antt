@@ -1,9 +1,0 @@
-use Rattle.std.proofs.Common.{sym, ap, ◌∙◌}
-use Rattle.std.specs.Option.{option_copied}
-use Rattle.sky_val.specs.declared.event.Event.{Event}
-use Rattle.sky_state.specs.Seen.{seen}
-use Rattle.pgq_db.proofs.ApplySteps.{makes-unnamed}
-use Rattle.pgq_db.proofs.apply.apply_event.Goals as goal
-
-pub returns-in-None-clause-made : goal.returns-in-None-clause-made
-returns-in-None-clause-made c = makes-unnamed (seen c.args.rows.now) c.args.txid c.args.event.now (sym (ap Event.ev_extra1 c.event.view_is) ∙ ap option_copied c.in-None.is)

@@ -1,0 +1,38 @@
+-- What the row part of a database runs in one call.
+use Rattle.std.specs.Prelude.{◌≡◌, ℕ}
+use Rattle.sky_model.specs.declared.stmt.RowStmt.{RowStmt}
+use Rattle.sky_model.specs.declared.stmt.RowStmt.TheVariants.{Commit}
+use Rattle.sky_model.specs.Calls.{row_turn}
+use Rattle.sky_model.specs.InForm.{IsRowInForm}
+use Rattle.sky_model.specs.Reader.{PartReader}
+use Rattle.sky_model.specs.Rooms.{Room}
+use Rattle.sky_model.specs.RowCalls.{RowCall, row_stepped, row_settled}
+use Rattle.sky_model.specs.Settling.{Turn, settling}
+use Rattle.sky_model.specs.State.{RowPart}
+use Rattle.sky_session.specs.Committing.{plan_of}
+use Rattle.pgq_db.specs.declared.row_run.RowRun.{RowRun}
+use Rattle.pgq_db.specs.declared.row_run.RowRun.TheVariants as run
+
+-- it may be run
+abbrev pub MayRun : RowRun → RowPart → Type 0
+MayRun (run.Statement who stmt) part = IsRowInForm stmt.now
+MayRun (run.Commit who plan) part = plan ≡ plan_of part who
+MayRun run.Ready part = Unit {0}
+
+-- it is what is run for a statement of a session
+abbrev pub IsRunFor : RowRun → ℕ → RowStmt → Type 0
+IsRunFor (run.Statement v own) who stmt = (v ≡ who) × (own.now ≡ stmt)
+IsRunFor (run.Commit v plan) who stmt = (v ≡ who) × (Commit ≡ stmt)
+IsRunFor run.Ready who stmt = ⊥
+
+-- what it does, and then those that it unblocks
+abbrev pub run_turn : {P : Type 0} → PartReader P → P → RowRun → Turn
+run_turn r p (run.Statement who stmt) = row_turn r p who stmt.now
+run_turn r p (run.Commit who plan) = row_turn r p who Commit
+run_turn r p run.Ready = settling r p
+
+-- the call of the row part that runs it
+abbrev pub run_call : Room → RowRun → RowCall
+run_call room (run.Statement who stmt) = row_stepped room who stmt.now
+run_call room (run.Commit who plan) = row_stepped room who Commit
+run_call room run.Ready = row_settled room

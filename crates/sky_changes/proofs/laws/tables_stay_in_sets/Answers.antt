@@ -1,5 +1,0 @@
-use Rattle.sky_changes.proofs.StayingListed.{tables_stay_in_sets}
-use Rattle.sky_changes.proofs.laws.tables_stay_in_sets.Goals as goal
-
-pub returns : goal.returns
-returns c = tables_stay_in_sets

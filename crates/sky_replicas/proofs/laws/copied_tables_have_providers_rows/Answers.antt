@@ -1,5 +1,0 @@
-use Rattle.sky_replicas.proofs.KeptCalls.{copied_tables_have_providers_rows}
-use Rattle.sky_replicas.proofs.laws.copied_tables_have_providers_rows.Goals as goal
-
-pub returns : goal.returns
-returns c = copied_tables_have_providers_rows

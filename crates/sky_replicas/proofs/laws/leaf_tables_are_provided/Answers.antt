@@ -1,5 +1,0 @@
-use Rattle.sky_replicas.proofs.LeafTables.{leaf_tables_are_provided}
-use Rattle.sky_replicas.proofs.laws.leaf_tables_are_provided.Goals as goal
-
-pub returns : goal.returns
-returns c = leaf_tables_are_provided

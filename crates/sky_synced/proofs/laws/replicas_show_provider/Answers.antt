@@ -1,5 +1,0 @@
-use Rattle.sky_synced.proofs.SyncedLaws.{replicas_show_provider}
-use Rattle.sky_synced.proofs.laws.replicas_show_provider.Goals as goal
-
-pub returns : goal.returns
-returns c = replicas_show_provider
