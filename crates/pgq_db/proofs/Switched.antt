@@ -1,5 +1,5 @@
 -- The switches of event tables that a `commit` makes come first, and it does all else as it does after them.
-use Rattle.std.proofs.Common.{◌≡◌, ℕ, ℤ, List, [], ◌∷◌, ◌++◌, Option, Some, None, Ok, Err, is_ok, append_assoc, refl, sym, ◌∙◌, ap, if◌then◌else◌}
+use Rattle.std.proofs.Common.{◌≡◌, ◌≢◌, ℕ, ℤ, List, [], ◌∷◌, ◌++◌, Option, Some, None, Ok, Err, is_ok, append_assoc, refl, sym, ◌∙◌, ap, if◌then◌else◌}
 use Rattle.sky_keys.specs.Waits.{is_waiting}
 use Rattle.sky_model.specs.declared.stmt.RowStmt.{RowStmt}
 use Rattle.sky_model.specs.declared.stmt.RowStmt.TheVariants.{Commit}
@@ -24,9 +24,6 @@ use Rattle.sky_histories.proofs.DatabaseStanding.{after_marks-append, behind-all
 use Rattle.sky_histories.proofs.StatementMarks.{SwitchesNone, none-first}
 use Rattle.sky_model.specs.declared.reply.Reply.{Reply}
 use Rattle.pgq_db.specs.Gives.{Adds}
-use Rattle.pgq_db.specs.declared.row_run.RowRun.{RowRun}
-use Rattle.pgq_db.specs.declared.row_run.RowRun.TheVariants as run
-use Rattle.pgq_db.specs.RowRuns.{IsRunFor, run_turn}
 use Rattle.pgq_db.specs.Switches.{first_switches}
 
 -- ---- they change queues alone
@@ -113,6 +110,11 @@ first-by : (P : RowStmt → Type 0) → P Commit → ((stmt : RowStmt) → Switc
 first-by P commits other Commit = commits
 first-by P commits other stmt = other stmt (λ d now who. refl) (λ d now who. refl)
 
+-- no switch comes before another statement
+pub none-before : (d : Database) (now : ℤ) (who : ℕ) (stmt : RowStmt) → stmt ≢ Commit → d ≡ after_marks d (first_switches d now who stmt)
+none-before d now who = first-by (λ stmt. stmt ≢ Commit → d ≡ after_marks d (first_switches d now who stmt))
+    (λ other. absurd (other refl)) (λ stmt none nothing other. ap (after_marks d) (sym (nothing d now who)))
+
 -- a statement on rows, in a whole database
 pub turn-first : (d : Database) (now : ℤ) (who : ℕ) (stmt : RowStmt) → database_turn database_by_itself d now who (Row stmt)
     ≡ turn_after (first_switches d now who stmt) (row_turn (within_part database_by_itself now) (after_marks d (first_switches d now who stmt)) who stmt)
@@ -141,9 +143,3 @@ module _ (d mid : Database) (now : ℤ) (who : ℕ) (stmt : RowStmt) (first : mi
         ∙ sym (after_marks-append d (first_switches d now who stmt) (row_turn (within_part database_by_itself now) (after_marks d (first_switches d now who stmt)) who stmt).marks)
         ∙ ap (λ (t : Turn). after_marks d t.marks) (sym (turn-first d now who stmt));
   }
-
--- what is run for a statement does what the statement does
-pub run-is : {P : Type 0} (r : PartReader P) (p : P) (what : RowRun) (who : ℕ) (stmt : RowStmt) → IsRunFor what who stmt → run_turn r p what ≡ row_turn r p who stmt
-run-is r p (run.Statement v own) who stmt is = ap (λ w. row_turn r p w own.now) is.0 ∙ ap (row_turn r p who) is.1
-run-is r p (run.Commit v plan) who stmt is = ap (λ w. row_turn r p w Commit) is.0 ∙ ap (row_turn r p who) is.1
-run-is r p run.Ready who stmt is = absurd is

@@ -1,6 +1,5 @@
 -- What the row part of a database runs in one call.
-use Rattle.std.specs.Prelude.{◌≡◌, ℕ}
-use Rattle.sky_model.specs.declared.stmt.RowStmt.{RowStmt}
+use Rattle.std.specs.Prelude.{◌≡◌}
 use Rattle.sky_model.specs.declared.stmt.RowStmt.TheVariants.{Commit}
 use Rattle.sky_model.specs.Calls.{row_turn}
 use Rattle.sky_model.specs.InForm.{IsRowInForm}
@@ -18,12 +17,6 @@ abbrev pub MayRun : RowRun → RowPart → Type 0
 MayRun (run.Statement who stmt) part = IsRowInForm stmt.now
 MayRun (run.Commit who plan) part = plan ≡ plan_of part who
 MayRun run.Ready part = Unit {0}
-
--- it is what is run for a statement of a session
-abbrev pub IsRunFor : RowRun → ℕ → RowStmt → Type 0
-IsRunFor (run.Statement v own) who stmt = (v ≡ who) × (own.now ≡ stmt)
-IsRunFor (run.Commit v plan) who stmt = (v ≡ who) × (Commit ≡ stmt)
-IsRunFor run.Ready who stmt = ⊥
 
 -- what it does, and then those that it unblocks
 abbrev pub run_turn : {P : Type 0} → PartReader P → P → RowRun → Turn

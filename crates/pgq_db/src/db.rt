@@ -13,6 +13,7 @@ ghost use Rattle.sky_model.specs.Printed.{HaveMoments};
 ghost use Rattle.sky_model.specs.OwnTransaction.{txid_for, begin_of, commit_of};
 ghost use Rattle.sky_model.specs.Reader.{database_by_itself, within_part};
 ghost use Rattle.sky_model.specs.declared.stmt.DbStmt.TheVariants.{Row};
+ghost use Rattle.sky_model.specs.declared.stmt.RowStmt.TheVariants.{Commit};
 ghost use Rattle.sky_model.specs.Sessions.{outside};
 ghost use Rattle.sky_model.specs.Settling.{ready, settling, with_settling};
 ghost use Rattle.sky_model.specs.Calls.{database_turn};
@@ -29,7 +30,7 @@ ghost use Rattle.pgq_db.specs.Looks.{ReadsNone};
 ghost use Rattle.pgq_db.specs.Configured.{refusal_for, configured_as, Configures};
 
 use crate::node_part::NodePart;
-use crate::rotation::run_for;
+use crate::rotation::planned_commit;
 use crate::row_run::RowRun;
 use pgq_queues::Queues;
 use pgq_sub::Sub;
@@ -186,8 +187,7 @@ impl Db {
         self.settle(now, replies)
     }
 
-    /// Runs a statement on rows, and those that it unblocks. Events record their writes. The switches of event tables
-    /// that a `commit` makes are made before it.
+    /// Runs a statement on rows, and those that it unblocks. Events record their writes.
     pub(crate) fn step_rows(
         &mut self,
         now: i64,
@@ -202,8 +202,30 @@ impl Db {
         ensures rests { OnOk result (ready (seen_database self.new).part ≡ None) }
         ensures moments { OnOk result (HaveMoments (database_turn database_by_itself (seen_database self.old) now who (Row stmt.now)).answers) }
     {
-        let run = run_for(&mut self.queues, &self.rows, now, who, stmt);
-        self.run_rows(now, run, replies)
+        match stmt {
+            RowStmt::Commit => self.step_commit(now, who, replies),
+            _ => self.run_rows(now, RowRun::Statement(who, stmt), replies),
+        }
+    }
+
+    /// Makes a session's `commit`, after the switches of event tables that its transaction has pending, and runs the
+    /// statements that it unblocks.
+    // Never inlined, so that no other statement has room for a plan, which is as large as a refusal.
+    #[inline(never)]
+    fn step_commit(
+        &mut self,
+        now: i64,
+        who: SessionId,
+        replies: &mut Replies,
+    ) -> Result<(), NoMemory>
+        requires { IsTime now }
+        ensures adds { OnOk result (Adds (seen_database self.old) (seen_database self.new) replies.old replies.new
+            (database_turn database_by_itself (seen_database self.old) now who (Row Commit))) }
+        ensures rests { OnOk result (ready (seen_database self.new).part ≡ None) }
+        ensures moments { OnOk result (HaveMoments (database_turn database_by_itself (seen_database self.old) now who (Row Commit)).answers) }
+    {
+        let plan = planned_commit(&mut self.queues, &self.rows, now, who);
+        self.run_rows(now, RowRun::Commit(who, plan), replies)
     }
 
     /// Runs the statements that may resume. Events record their writes.
