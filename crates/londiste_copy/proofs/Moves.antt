@@ -9,7 +9,7 @@ use Rattle.sky_keys.specs.Versions.{rows_read, above}
 use Rattle.londiste_state.specs.Nodes.{is_among}
 use Rattle.londiste_state.specs.declared.state.TableState.TheVariants.{CatchingUp}
 use Rattle.sky_model.specs.declared.reply.Reply.{Reply}
-use Rattle.sky_model.specs.declared.reply.Reply.TheVariants.{AwaitsTable, Done, Null, RowsCopied, TableMoved}
+use Rattle.sky_model.specs.declared.reply.Reply.TheVariants.{Done, Null, RowsCopied, TableMoved}
 use Rattle.sky_model.specs.Copies.{copy_txid}
 use Rattle.sky_model.specs.Rows.{Write}
 use Rattle.sky_model.specs.Nodes.{leaf_tables}
@@ -181,27 +181,6 @@ same-begun p r m n name from to hand same begun = record {
   here = ap (place_of name) begun.tables ∙ same.here;
   columns = ap (λ (x : RowPart). option_map x.columns (place_of name x.tables)) begun.rows ∙ same.columns ∙ sym begun.columns;
 }
-
--- one that is in hand goes on
-pub moves-on : (p p_new r r_new : Database) (name : List ℕ) (before : Option CopyHand) (hand : CopyHand) (replies : List Reply) (now : Option CopyHand) → before ≡ Some hand → is_some (held_snapshot p hand.hold) ≡ true
-    → IfSome (held_snapshot p hand.hold) (λ s. MovesAs (next_piece p name s hand) p p_new r r_new replies now) → MovesBy (continues p name before (under_way p before)) p p_new r r_new replies now
-moves-on p p_new r r_new name before hand replies now was held piece =
-    subst (λ o. MovesBy (continues p name o (under_way p o)) p p_new r r_new replies now) (sym was) (of (held_snapshot p hand.hold) held piece)
-  where
-    of : (o : Option SnapshotView) → is_some o ≡ true → IfSome o (λ s. MovesAs (next_piece p name s hand) p p_new r r_new replies now)
-        → MovesBy (continues p name (Some hand) (option_map (λ snapshot. (hand, snapshot)) o)) p p_new r r_new replies now
-    of None held piece = absurd (cc)
-    of (Some s) held piece = record { move = next_piece p name s hand; is = refl; moved = piece }
-
--- one that isn't is waited for
-pub moves-not : (p r : Database) (name : List ℕ) (before now : Option CopyHand) (replies : List Reply) → under_way p before ≡ None → now ≡ before → replies ≡ AwaitsTable name ∷ []
-    → MovesBy (continues p name before (under_way p before)) p p r r replies now
-moves-not p r name before now replies none same printed =
-    subst (λ o. MovesBy (continues p name before o) p p r r replies now) (sym none) (record {
-      move = _;
-      is = refl;
-      moved = record { provider = serves-none p; replica = serves-none r; printed = printed; in_hand = same };
-    })
 
 -- by whether a copy runs
 pub goes-first : (p r : Database) (name : List ℕ) (hand : Option CopyHand) (running : Option ℕ) → is_some running ≡ false → starts_or_continues p r name hand running ≡ starts_copy p r name

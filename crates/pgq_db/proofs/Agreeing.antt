@@ -16,7 +16,7 @@ use Rattle.sky_model.specs.SessionMarks.{sight_marks, Enters}
 use Rattle.sky_model.specs.Settling.{Turn}
 use Rattle.sky_histories.proofs.Telling.{SameTold}
 use Rattle.pgq_queues.specs.Views.{QueuesView}
-use Rattle.pgq_queues.specs.Seen.{seen_with, no_queues}
+use Rattle.pgq_queues.specs.Seen.{seen_with}
 use Rattle.pgq_queues.specs.Traced.{AreTables, KeepsRest}
 use Rattle.pgq_queues.specs.EventRule.{event_rule}
 use Rattle.londiste_apply.specs.Writing.{Marked}
@@ -55,9 +55,6 @@ left-few p t left = by (nat_le (2 ^ 62) p.next) refl left
     by false is e = grind (arith, nat_tests)
 
 -- ---- rows and queues
-
-pub agree-none : (p : RowPart) (q : QueuesView) → q ≡ no_queues → Agree p q
-agree-none p q is = subst (Agree p) (sym is) (record { tables = λ n. refl; given = omega arith; few = omega arith })
 
 -- queues that keep the rest
 pub agree-stay : (p : RowPart) (old new : QueuesView) → KeepsRest old new → Agree p old → Agree p new

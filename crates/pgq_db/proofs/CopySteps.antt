@@ -1,5 +1,5 @@
 -- What the calls of copies and of holds give.
-use Rattle.std.proofs.Common.{◌≡◌, ℕ, ◌<◌, ◌^◌, List, [], ◌∷◌, ◌++◌, Bool, true, false, not, ◌==◌, ◌||◌, ◌&&◌, nat_le, cond, Option, Some, None, IfSome, IsSome, Result, ◌↔◌, Ok, Err, IfOk, OnOk, OnErr, option_map, option_and_then, unwrap_or, is_ok, is_some, map, take, length, refl, sym, ◌∙◌, ap, subst, arith, if◌then◌else◌, ◌⊎◌, inl, inr}
+use Rattle.std.proofs.Common.{◌≡◌, ℕ, ◌<◌, ◌^◌, List, [], ◌∷◌, ◌++◌, Bool, true, false, not, ◌==◌, ◌||◌, ◌&&◌, nat_le, cond, Option, Some, None, IfSome, Result, ◌↔◌, Ok, Err, IfOk, OnOk, OnErr, option_map, unwrap_or, is_ok, map, take, length, refl, sym, ◌∙◌, ap, subst, arith, if◌then◌else◌, ◌⊎◌, inl, inr}
 use Rattle.std.specs.List.{list_any}
 use Rattle.std.specs.Ordering.{eq_by_cmp}
 use Rattle.std.proofs.lemmas.Bool.Decides.{nat_tests}
@@ -12,7 +12,7 @@ use Rattle.sky_val.specs.Schemas.{key_of}
 use Rattle.sky_txid.specs.Ids.{contains}
 use Rattle.sky_txid.specs.Snapshot.{SnapshotView}
 use Rattle.sky_keys.specs.declared.version.Version.{Version}
-use Rattle.sky_keys.specs.Versions.{with_version, version_of, is_other, newest_from, versions_at, written, rows_read, above}
+use Rattle.sky_keys.specs.Versions.{with_version, version_of, versions_at, written, rows_read, above}
 use Rattle.sky_keys.proofs.EntryLemmas.{versions_at-written}
 use Rattle.sky_keys.proofs.VersionLemmas.{OnlyLast}
 use Rattle.sky_names.specs.Places.{place_of}
@@ -28,7 +28,7 @@ use Rattle.sky_model.specs.Copies.{Copy, copies, is_copied_by, copy_txid, withou
 use Rattle.sky_model.specs.State.{RowPart, after_part, after_part_marks, Database, after_mark, after_marks}
 use Rattle.sky_model.specs.ShownRows.{snapshot_now}
 use Rattle.sky_model.specs.OwnTransaction.{next_id}
-use Rattle.sky_model.specs.Outcome.{Outcome, Checked, ◌>>=◌, ◌>>◌, refused_if, answers, does_marks, reply_of, marks_of}
+use Rattle.sky_model.specs.Outcome.{◌>>=◌, ◌>>◌, refused_if, answers, does_marks, reply_of, marks_of}
 use Rattle.sky_model.specs.CopyMoves.{rows_from, rows_of}
 use Rattle.sky_model.specs.StepCopy.{copy_write, copy_writes, deletions, insertions, rows_now, begins_copy, all_fit, copies_rows, ends_copy, given_up}
 use Rattle.sky_model.specs.StepNode.{beginning_copy, copying_rows, ending_copy, giving_up_copy, holding, letting_go, if_there, table_number, may_copy, may_serve, node_does}
@@ -54,7 +54,6 @@ use Rattle.pgq_db.specs.Agreeing.{Agree}
 use Rattle.pgq_db.specs.Views.{DbView}
 use Rattle.pgq_db.specs.Seen.{with_node, seen_database}
 use Rattle.londiste_calls.specs.declared.faults.CopyFault.{CopyFault}
-use Rattle.londiste_calls.specs.declared.faults.CopyFault.TheVariants as copy
 use Rattle.pgq_db.specs.Served.{Serves, CopyRefused}
 use Rattle.londiste_calls.specs.Faults.{copy_fault_of}
 use Rattle.pgq_db.specs.Copying.{MayCopy, none_after, is_own_last, MayWrite, deletion, under_key, insertion}
@@ -396,9 +395,6 @@ held-rows v now name table same number snapshot o held after most rows read =
 
 -- ---- what the calls return
 
-pub memory-out : (fault : CopyFault) (old new : Database) (table : List ℕ) → fault ≡ copy.NoMemory → CopyRefused fault old new table
-memory-out fault old new table is = subst (λ f. CopyRefused f old new table) (sym is) tt
-
 module _ {E : Type 0} (v now : DbView) (same : v ≡ now) where
   pub hold-serves : (r : Result ℕ E) (holds : List Hold) (snapshot : SnapshotView) → IfOk r (λ number. number ≡ least_free (map Hold.number v.node.holds)) → IfOk r (λ number. holds ≡ v.node.holds ++ record { number = number; snapshot = snapshot } ∷ [])
       → snapshot ≡ snapshot_now (seen v.rows) → OnOk r (Serves (seen_database now) (seen_database (record v { node = record v.node { holds = holds } })) holding)
@@ -419,10 +415,6 @@ module _ {E : Type 0} (v now : DbView) (same : v ≡ now) where
   rows-serve (Ok u) name table number may rows fit t runs columns of_table keyed read left is =
       rows-does v now name table same number rows (may-named (seen_database now) table may name number) fit t runs columns of_table keyed read left is
   rows-serve (Err e) name table number may rows fit t runs columns of_table keyed read left is = tt
-
-pub held-not : (o : Option SnapshotView) → None ≡ o → is_some o ≡ true → ⊥
-held-not None none held = absurd (cc)
-held-not (Some s) none held = absurd (cc)
 
 pub held-rows-if : {V E : Type 0} (items : V → List (List Val)) (r : Result V E) (v now : DbView) (name : List ℕ) (table : ℕ) → v ≡ now → table_number (seen_database now) name ≡ Some table → (snapshot : SnapshotView) (o : Option SnapshotView)
     → o ≡ Some snapshot → (after : Option (List Val)) (most : ℕ) → IfOk r (λ rows. items rows ≡ take most (map (λ e. e.1) (rows_read snapshot None (above after ((seen v.rows).versions table)))))

@@ -35,9 +35,6 @@ pub record IsLeft (end : List NamedQueue → Database → Database) (old cur : D
   pub ends : end old.queues old ≡ end (drop place cur.queues) cur
   pub stays : StaysAs old cur
 
-pub left-first : (end : List NamedQueue → Database → Database) (d : Database) → IsLeft end d d 0
-left-first end d = record { ends = refl; stays = record { queues = refl; made = refl } }
-
 -- there are as many queues as before
 pub left-count : (end : List NamedQueue → Database → Database) (old cur : Database) (place : ℕ) → IsLeft end old cur place → length cur.queues ≡ length old.queues
 left-count end old cur place left = ap length left.stays.queues
@@ -91,9 +88,6 @@ pub ticks-left : (now : ℤ) (old cur next : Database) (place queue : ℕ) → p
     → next ≡ ticked_at now queue cur → IsLeft (ticks_end now) old next (place + 1)
 ticks-left now = left-next (ticks_end now) (ticked_at now) (ticks-next now) (tick-stays now)
 
-pub ticks-done : (now : ℤ) (old cur : Database) (place : ℕ) → length cur.queues ≤ place → IsLeft (ticks_end now) old cur place → cur ≡ ticks_end now old.queues old
-ticks-done now = left-none (ticks_end now) (λ d. refl)
-
 -- ---- rotation
 
 -- the database after the first step of a queue's rotation
@@ -123,9 +117,6 @@ steps-next now d q queues =
 pub steps-left : (now : ℤ) (old cur next : Database) (place queue : ℕ) → place < length cur.queues → queue ≡ (get_or cur.queues place unnamed).number → IsLeft (steps_end now) old cur place
     → next ≡ rotated_at now queue cur → IsLeft (steps_end now) old next (place + 1)
 steps-left now = left-next (steps_end now) (rotated_at now) (steps-next now) (rotate-stays now)
-
-pub steps-done : (now : ℤ) (old cur : Database) (place : ℕ) → length cur.queues ≤ place → IsLeft (steps_end now) old cur place → cur ≡ steps_end now old.queues old
-steps-done now = left-none (steps_end now) (λ d. refl)
 
 -- and then the second steps
 pub rotated-all : (d e s : Database) (now : ℤ) → e ≡ steps_end now d.queues d → s ≡ after_marks e (marks_of (maint_rotate_step2 e)) → s ≡ after_marks d (daemon_does database_by_itself d Maintain now).marks
@@ -161,9 +152,6 @@ pub record IsRetrying (old cur : Database) (now : ℤ) : Type 0 where
   pub left : ℕ
   pub ends : retries_end now (length old.retries) old ≡ retries_end now left cur
   pub enough : length cur.retries ≤ left
-
-pub retrying-first : (d : Database) (now : ℤ) → IsRetrying d d now
-retrying-first d now = record { left = length d.retries; ends = refl; enough = omega arith }
 
 -- fewer wait after a call that moves as many as it may
 pub retrying-fewer : (cur next : Database) (now : ℤ) → true ≡ moves_most now cur → next ≡ after_call now cur → length next.retries < length cur.retries

@@ -1,5 +1,5 @@
 -- What a database shows, after what the code changed in it.
-use Rattle.std.proofs.Common.{Err, ◌≡◌, ℕ, ℤ, ◌+◌, ◌<◌, ◌≤◌, ◌^◌, List, [], ◌∷◌, ◌++◌, Bool, true, false, nat_le, Option, Some, None, Result, Ok, IfOk, OnOk, is_some, length, append_assoc, option_map, refl, sym, ◌∙◌, ap, subst, arith, if◌then◌else◌, ◌↔◌, ◌==◌}
+use Rattle.std.proofs.Common.{Err, ◌≡◌, ℕ, ℤ, ◌+◌, ◌<◌, ◌≤◌, ◌^◌, List, [], ◌∷◌, ◌++◌, Bool, true, false, nat_le, Option, Some, None, Result, Ok, IfOk, OnOk, length, append_assoc, option_map, refl, sym, ◌∙◌, ap, subst, arith, if◌then◌else◌, ◌↔◌, ◌==◌}
 use Rattle.std.proofs.lemmas.Bool.Decides.{nat_tests}
 use Rattle.sky_val.specs.declared.event.Event.{Event}
 use Rattle.sky_txid.specs.Snapshot.{SnapshotView}
@@ -10,22 +10,20 @@ use Rattle.sky_model.specs.StepNode.{table_number}
 use Rattle.sky_model.specs.declared.reply.Reply.{Reply}
 use Rattle.std.specs.Prelude.{not, ◌&&◌}
 use Rattle.sky_model.specs.declared.reply.Reply.TheVariants.{Number, Refused}
-use Rattle.sky_model.specs.declared.reply.Limit.TheVariants.{Queues}
 use Rattle.sky_model.specs.declared.reply.Refusal.{Refusal}
-use Rattle.sky_model.specs.declared.reply.Refusal.TheVariants.{HasConsumers, HasTriggers, QueueBusy, ReservedType, SetQueue, TooMany, EventIdsSpent, IdsSpent}
+use Rattle.sky_model.specs.declared.reply.Refusal.TheVariants.{HasConsumers, HasTriggers, QueueBusy, ReservedType, SetQueue, EventIdsSpent, IdsSpent}
 use Rattle.sky_model.specs.declared.stmt.DbStmt.{DbStmt}
 use Rattle.sky_model.specs.declared.stmt.Where.{Where}
-use Rattle.sky_model.specs.History.{Mark, sight_taken, block_failed, queued, QueueMark, made, raised, put, dropped}
-use Rattle.sky_model.specs.Sessions.{Block, outside, inside}
-use Rattle.sky_model.specs.Queues.{queue_number}
+use Rattle.sky_model.specs.History.{Mark, sight_taken, queued, QueueMark, made, raised, put, dropped}
+use Rattle.sky_model.specs.Sessions.{Block, outside}
 use Rattle.sky_model.specs.Nodes.{is_set_queue}
 use Rattle.sky_model.specs.Triggers.{TableTrigger}
 use Rattle.sky_model.specs.Printed.{ReplyHasMoments}
 use Rattle.sky_model.specs.State.{RowPart, after_part_marks, Database, after_mark, after_marks}
 use Rattle.sky_model.specs.ShownRows.{snapshot_now}
-use Rattle.sky_model.specs.Outcome.{Outcome, Checked, ◌>>=◌, ◌>>◌, refused_if, refused_by, answers, does_marks, reply_of, end_of, aborts, abort, or_refused}
+use Rattle.sky_model.specs.Outcome.{Outcome, Checked, ◌>>=◌, ◌>>◌, refused_if, refused_by, answers, does_marks, reply_of, or_refused}
 use Rattle.sky_model.specs.OwnTransaction.{txid_for, begin_of, commit_of, in_own}
-use Rattle.sky_model.specs.StepQueue.{create_queue, drop_queue, first_trigger_into, shown_name, least_producer, insert_event, tells_of_rows, queue_called, next_event_id, made_event}
+use Rattle.sky_model.specs.StepQueue.{drop_queue, first_trigger_into, shown_name, least_producer, insert_event, tells_of_rows, queue_called, next_event_id, made_event}
 use Rattle.sky_model.specs.Allowed.{where_of}
 use Rattle.sky_model.specs.Made.{Making, takes_sight, runs, looking, runs_if}
 use Rattle.sky_model.specs.Reader.{database_by_itself, within_part, shown_by}
@@ -34,8 +32,7 @@ use Rattle.sky_model.specs.Calls.{form, making, statement}
 use Rattle.sky_model.specs.DatabaseCalls as call
 use Rattle.sky_model.specs.DatabaseSteps.{DatabaseSteps}
 use Rattle.sky_histories.proofs.DatabaseStanding.{after_marks-append, behind-all, database_enter_from_exact}
-use Rattle.sky_model.specs.SessionMarks.{look_of, failure, Enters, entry, entry_place}
-use Rattle.sky_state.specs.Views.{RowStateView}
+use Rattle.sky_model.specs.SessionMarks.{look_of, Enters, entry, entry_place}
 use Rattle.sky_state.specs.Seen.{seen}
 use Rattle.pgq_queues.specs.Views.{QueuesView}
 use Rattle.pgq_queues.specs.Seen.{seen_with, Beside}
@@ -44,7 +41,6 @@ use Rattle.pgq_db.specs.Seen.{with_node, seen_database}
 use Rattle.pgq_db.specs.Gives.{Gives, Adds, Answers, Does}
 use Rattle.sky_model.specs.Stops.{Refuses, Stops}
 use Rattle.sky_model.specs.declared.stop.Stop.{Stop}
-use Rattle.sky_model.specs.declared.stop.Stop.TheVariants as stops
 use Rattle.pgq_tick.specs.declared.ticks.TickFault.{TickFault}
 use Rattle.pgq_tick.specs.declared.ticks.TickFault.TheVariants as tick
 use Rattle.pgq_tick.specs.Faults.{stop_of}
@@ -79,10 +75,6 @@ tick-stops r tick.NoMemory stop old new n m is same spent kept to = subst (λ s.
 -- and where there is none it is as it was
 pub unmarked-as : (v now : DbView) (queues : QueuesView) → v ≡ now → ((beside : Beside) → seen_with beside queues ≡ seen_with beside v.queues) → seen_database (record v { queues = queues }) ≡ seen_database now
 unmarked-as v now queues same is = is (with_node v.node (seen v.rows)) ∙ ap seen_database same
-
-pub none-from : (found : Option ℕ) (place : Option ℕ) → found ≡ place → is_some found ≡ false → place ≡ None
-none-from None place is e = sym is
-none-from (Some n) place is e = cc
 
 -- what a session writes may come after the marks of its transaction
 event-written : (d : Database) (who t : ℕ) (o : Option ℕ) (b : Block) (q id : ℕ) (event : Event)
@@ -155,24 +147,6 @@ made-queue d s1 s2 now time who t name copied same at m1 m2 =
     ∙ ap (λ n. after_marks d (in_own who t (d.part.session who) [] ++ queued (made n t time) ∷ [])) same
     ∙ ap (λ x. after_marks d (in_own who t (d.part.session who) [] ++ queued (made name t x) ∷ [])) at
 
--- what a queue that is made gives
-pub gives-queue : (d s : Database) (now : ℤ) (who t : ℕ) (name : List ℕ) (before after : List (ℕ × Reply)) → queue_number name d.queues ≡ None → length d.queues < 64 → txid_for d.part who ≡ Ok t
-    → s ≡ after_marks d (in_own who t (d.part.session who) [] ++ queued (made name t now) ∷ [])
-    → after ≡ before ++ (who, Number 1) ∷ [] → Runs d s before after who (create_queue d now who name)
-gives-queue d s now who t name before after new room txid is pushed = subst (Runs d s before after who) (sym whole) (record { accepted = refl; replied = pushed; changed = is }, tt)
-  where
-    few : nat_le 64 (length d.queues) ≡ false
-    few = grind (arith, nat_tests)
-
-    result : ℕ → Checked Outcome
-    result x = does_marks (Number 1) (in_own who x (d.part.session who) [] ++ queued (made name x now) ∷ [])
-
-    whole : create_queue d now who name ≡ result t
-    whole =
-        ap (λ found. if is_some found then answers (Number 0) else (refused_if (nat_le 64 (length d.queues)) (TooMany Queues) >> (txid_for d.part who >>= result))) new
-        ∙ ap (λ b. refused_if b (TooMany Queues) >> (txid_for d.part who >>= result)) few
-        ∙ ap (λ c. c >>= result) txid
-
 -- ---- a queue that is dropped, and why one isn't
 
 module _ (d : Database) (name : List ℕ) (q : ℕ) (found : queue_called name d ≡ Ok q) (unset : is_set_queue name d.node ≡ false) where
@@ -190,11 +164,6 @@ module _ (d : Database) (name : List ℕ) (q : ℕ) (found : queue_called name d
       ap (λ c. c >>= (λ n. refused_if (is_set_queue name d.node) SetQueue >> of_number n)) found ∙ ap (λ x. refused_if x SetQueue >> of_number q) unset
       ∙ ap (λ x. refused_if (not x) (HasConsumers (length (d.queue q).members)) >> untested) is
 
-  pub drop-consumers : (n : ℕ) → n ≡ length (d.queue q).members → 0 < n → drop_queue d name ≡ Err (HasConsumers n)
-  drop-consumers n is some =
-      let no : (length (d.queue q).members == 0) ≡ false = grind (arith, nat_tests) in
-      tested false no ∙ ap (λ m. Err (HasConsumers m)) (sym is)
-
   unused : length (d.queue q).members ≡ 0 → drop_queue d name ≡ untested
   unused none = let yes : (length (d.queue q).members == 0) ≡ true = grind (arith, nat_tests) in tested true yes
 
@@ -207,28 +176,6 @@ module _ (d : Database) (name : List ℕ) (q : ℕ) (found : queue_called name d
   untold : length (d.queue q).members ≡ 0 → first_trigger_into q d.triggers ≡ None → drop_queue d name ≡ (refused_by (option_map QueueBusy (least_producer d q)) >> does_marks (Number 1) (queued (dropped q) ∷ []))
   untold none is =
       unused none ∙ ap (λ o. refused_by (option_map (λ x. HasTriggers (shown_name x)) o) >> (refused_by (option_map QueueBusy (least_producer d q)) >> does_marks (Number 1) (queued (dropped q) ∷ []))) is
-
-  pub drop-busy : (t : ℕ) → length (d.queue q).members ≡ 0 → first_trigger_into q d.triggers ≡ None → Some t ≡ least_producer d q → drop_queue d name ≡ Err (QueueBusy t)
-  drop-busy t none is busy = untold none is ∙ ap (λ o. refused_by (option_map QueueBusy o) >> does_marks (Number 1) (queued (dropped q) ∷ [])) (sym busy)
-
-  pub gives-drop : (s : Database) (who : ℕ) (before after : List (ℕ × Reply)) → length (d.queue q).members ≡ 0 → first_trigger_into q d.triggers ≡ None → None ≡ least_producer d q
-      → s ≡ after_mark d (queued (dropped q)) → after ≡ before ++ (who, Number 1) ∷ [] → Runs d s before after who (drop_queue d name)
-  gives-drop s who before after none is idle changed pushed =
-      subst (Runs d s before after who) (sym (untold none is ∙ ap (λ o. refused_by (option_map QueueBusy o) >> does_marks (Number 1) (queued (dropped q) ∷ [])) (sym idle)))
-      (record { accepted = refl; replied = pushed; changed = changed }, tt)
-
--- a database whose row part alone has changed
-pub part-as : (v now : DbView) (rows : RowStateView) (part : RowPart) → v ≡ now → seen rows ≡ part → seen_database (record v { rows = rows }) ≡ record (seen_database now) { part = part }
-part-as v now rows part same is = (λ i. record (seen_database v) { part = is i }) ∙ ap (λ (w : DbView). record (seen_database w) { part = part }) same
-
--- a refusal that aborts leaves what a block does that is aborted
-pub abort-failure : (who : ℕ) (txid : Option ℕ) (b : Block) (refusal : Refusal) → aborts refusal ≡ true → abort who b txid refusal ≡ failure who txid b
-abort-failure who txid inside refusal is = ap (λ b. if b then end_of false who txid ++ block_failed who ∷ [] else []) is
-abort-failure who txid _ refusal is = refl
-
-pub abort-nothing : (who : ℕ) (txid : Option ℕ) (b : Block) (refusal : Refusal) → aborts refusal ≡ false → abort who b txid refusal ≡ []
-abort-nothing who txid inside refusal is = ap (λ b. if b then end_of false who txid ++ block_failed who ∷ [] else []) is
-abort-nothing who txid _ refusal is = refl
 
 -- what a statement answers that came in
 pub answers-entered : (d s1 s2 : Database) (time now : ℤ) (who : ℕ) (stmt : DbStmt) (place : Where) (before after : List (ℕ × Reply)) → time ≡ now → place ≡ where_of stmt
@@ -353,8 +300,3 @@ table-there v now table n same number = subst (λ (w : DbView). place_of table (
 
 pub table-low : (v now : DbView) (table : List ℕ) (n : ℕ) → v ≡ now → table_number (seen_database now) table ≡ Some n → n < length (seen v.rows).tables
 table-low v now table n same number = place_of_within table (seen v.rows).tables n (table-there v now table n same number)
-
--- what is found in the queues is so in the database
-
-pub queue-known : (v now : DbView) (queue : List ℕ) (q : ℕ) → v ≡ now → ((beside : Beside) → queue_called queue (seen_with beside v.queues) ≡ Ok q) → queue_called queue (seen_database now) ≡ Ok q
-queue-known v now queue q same known = subst (λ (w : DbView). queue_called queue (seen_database w) ≡ Ok q) same (known (with_node v.node (seen v.rows)))

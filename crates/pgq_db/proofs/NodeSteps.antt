@@ -1,5 +1,5 @@
 -- What calls for nodes give.
-use Rattle.std.proofs.Common.{◌≡◌, ℕ, ◌+◌, ◌<◌, ◌≤◌, ◌^◌, List, [], ◌∷◌, ◌++◌, Bool, true, false, nat_le, Option, Some, None, Result, Ok, Err, IfOk, OnOk, is_ok, is_some, is_none, not, ◌||◌, cond, bytes_eq, length, option_map, All, refl, sym, ◌∙◌, ap, subst, arith}
+use Rattle.std.proofs.Common.{◌≡◌, ℕ, ◌+◌, ◌<◌, ◌≤◌, ◌^◌, List, [], ◌∷◌, ◌++◌, Bool, true, false, nat_le, Option, Some, None, Result, Ok, Err, OnOk, is_ok, is_some, is_none, not, ◌||◌, cond, bytes_eq, length, option_map, All, refl, sym, ◌∙◌, ap, subst, arith}
 use Rattle.std.proofs.lemmas.Bool.Decides.{nat_tests}
 use Rattle.std.proofs.lemmas.List.Elements.{All-head, All-tail}
 use Rattle.sky_names.specs.Places.{place_of}
@@ -17,7 +17,7 @@ use Rattle.sky_model.specs.Copies.{copy_txid}
 use Rattle.sky_model.specs.State.{after_part, Database, after_mark, after_marks}
 use Rattle.sky_model.specs.StepCopy.{given_up}
 use Rattle.sky_model.specs.ShownRows.{least_writer}
-use Rattle.sky_model.specs.Outcome.{Outcome, Checked, ◌>>=◌, ◌>>◌, refused_if, refused_by, answers, does_marks, marks_of}
+use Rattle.sky_model.specs.Outcome.{Outcome, ◌>>=◌, ◌>>◌, refused_if, refused_by, answers, does_marks, marks_of}
 use Rattle.sky_model.specs.StepQueue.{newest_id}
 use Rattle.sky_model.specs.StepConsumer.{registers}
 use Rattle.sky_model.specs.StepNode.{set_queue, set_trigger, joins, lists, unlists, adds, removes, moves_table, NodeCall, joining, making_leaf, adding, removing, moving, listing, unlisting, if_there, table_number, may_serve, call_form, node_does}
@@ -26,7 +26,6 @@ use Rattle.sky_model.specs.DatabaseCalls.{served, database_part}
 use Rattle.sky_model.specs.DatabaseSteps.{DatabaseSteps, IsMade}
 use Rattle.sky_model.specs.Promises.{after_all}
 use Rattle.sky_model.proofs.Cases.{by_test}
-use Rattle.sky_model.specs.Stops.{Refuses}
 use Rattle.sky_histories.proofs.DatabaseStanding.{database_steps_from_exact, after_marks-append}
 use Rattle.sky_histories.proofs.Histories.{legal_calls}
 use Rattle.sky_histories.proofs.NodeDeeds.{is-served}
@@ -43,9 +42,6 @@ use Rattle.pgq_db.specs.Served.{set_consumers, Serves, ServesUnlessBusy}
 pub serves-by : (old new : Database) (call : NodeCall) (o : Outcome) → node_does old call ≡ Ok o → new ≡ after_marks old o.marks → Serves old new call
 serves-by old new call o does changed = record { accepted = ap is_ok does; changed = changed ∙ ap (λ c. after_marks old (marks_of c)) (sym does) }
 
-pub refuses-by : (old new : Database) (call : NodeCall) (c : Checked Outcome) → node_does old call ≡ c → new ≡ old → (refusal : _) → c ≡ Err refusal → Refuses old new refusal (node_does old call)
-refuses-by old new call c does same refusal is = record { refused = does ∙ is; same = same }
-
 -- so its promise is kept
 pub serves-steps : (old new : Database) (call : NodeCall) → Serves old new call → DatabaseSteps old new (served call) (quietly (node_does old call))
 serves-steps old new call serves = database_steps_from_exact old new (served call) serves.changed
@@ -58,11 +54,6 @@ pub steps-unless : (old new : Database) (call : NodeCall) (busy : Option ℕ) �
 steps-unless old new call None serves = serves-steps old new call serves
 steps-unless old new call (Some txid) refuses =
     database_steps_from_exact old new (served call) (refuses.same ∙ ap (λ c. after_marks old (marks_of c)) (sym refuses.refused))
-
-pub steps-unless-if : {E : Type 0} → (r : Result (Option ℕ) E) (old new : Database) (call : NodeCall) → IfOk r (λ busy. ServesUnlessBusy busy old new call)
-    → OnOk r (DatabaseSteps old new (served call) (quietly (node_does old call)))
-steps-unless-if (Ok busy) old new call serves = steps-unless old new call busy serves
-steps-unless-if (Err e) old new call serves = tt
 
 -- nothing, if what it is about isn't there
 pub served-nothing : (d : Database) (call : NodeCall) → may_serve call d.node ≡ true → call_form d call ≡ answers Null → Serves d d call

@@ -31,9 +31,6 @@ nothing-there o none there = absurd (cc)
 
 -- ---- the set's queue
 
-pub queue-there : (d : Database) (q : ℕ) (o : Option ℕ) → set_queue d ≡ o → is_some (set_queue d) ≡ true → is_some o ≡ true
-queue-there d q o set some = ap is_some (sym set) ∙ some
-
 pub full-as : (v now : DbView) (q : ℕ) (queue : Queue) (consumer : List ℕ) → v ≡ now → set_queue (seen_database now) ≡ Some q → queue ≡ queue_at v.queues q
     → (nat_le 256 (length queue.members) && not (is_some (queue.sub consumer))) ≡ is_full (seen_database now) consumer
 full-as v now q queue consumer same set there =

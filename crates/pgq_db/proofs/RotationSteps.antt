@@ -1,19 +1,13 @@
 -- What the statements on rotation give.
-use Rattle.std.proofs.Common.{◌≡◌, ℕ, ℤ, List, [], ◌∷◌, ◌++◌, Bool, true, false, not, ◌==◌, Option, Some, None, Ok, Err, length, refl, sym, ◌∙◌, ap, subst, arith, if◌then◌else◌, IsTrue, ◌↔◌}
-use Rattle.std.specs.Prelude.{◌≢◌, option_map, is_some}
-use Rattle.std.specs.Option.{option_or}
+use Rattle.std.proofs.Common.{◌≡◌, ℕ, ℤ, List, [], ◌∷◌, ◌++◌, Bool, true, false, not, ◌==◌, Option, Some, None, Ok, length, refl, sym, ◌∙◌, ap, subst, if◌then◌else◌, IsTrue, ◌↔◌}
+use Rattle.std.specs.Prelude.{◌≢◌, is_some}
 use Rattle.std.proofs.lemmas.Bool.{eq-eqb}
 use Rattle.pgq_tables.specs.Tables.{with_pending}
-use Rattle.sky_model.specs.declared.reply.HeldBack.{HeldBack}
-use Rattle.sky_model.specs.declared.reply.HeldBack.TheVariants.{Pending}
 use Rattle.sky_model.specs.declared.reply.Reply.{Reply}
 use Rattle.sky_model.specs.declared.reply.Reply.TheVariants.{Number}
-use Rattle.sky_model.specs.declared.reply.Reply.TheVariants as reply
-use Rattle.sky_model.specs.declared.reply.Refusal.{Refusal}
 use Rattle.sky_model.specs.History.{of_worker, began, ended, queued, switching, switched, second_step}
-use Rattle.sky_model.specs.Outcome.{Outcome, Checked, ◌>>=◌, answers, does_marks, reply_of, marks_of}
+use Rattle.sky_model.specs.Outcome.{Outcome, Checked, ◌>>=◌, does_marks, marks_of}
 use Rattle.sky_model.specs.OwnTransaction.{next_id, txid_for, begin_of, commit_of, in_own}
-use Rattle.sky_model.specs.Printed.{ReplyHasMoments}
 use Rattle.sky_model.specs.Queues.{NamedQueue}
 use Rattle.sky_model.specs.Sessions.{Block, outside, inside, failed}
 use Rattle.sky_model.specs.State.{RowPart, after_part_marks, Queue, Database, with_tables, after_mark, after_marks}
@@ -26,14 +20,6 @@ use Rattle.pgq_db.proofs.Databases.{Runs}
 pub absent : {A : Type 0} (o : Option A) → is_some o ≡ false → None ≡ o
 absent None none = refl
 absent (Some x) none = absurd (cc)
-
--- if nothing does, none is pending
-pub none-pending : (now : ℤ) (q : Queue) → None ≡ held_back now q → q.event_tables.pending ≡ None
-none-pending now q none = of q.event_tables.pending _ none
-  where
-    of : (o : Option ℕ) (rest : Option HeldBack) → None ≡ option_or (option_map Pending o) rest → o ≡ None
-    of None rest none = refl
-    of (Some t) rest none = absurd (cc)
 
 -- one that is begun is
 pub now-pending : (d e : Database) (q t : ℕ) → e ≡ after_mark d (queued (switching q t)) → is_some (e.queue q).event_tables.pending ≡ true
@@ -65,21 +51,11 @@ module _ (d : Database) (now : ℤ) (who : ℕ) (name : List ℕ) (q : ℕ) (fou
   known : maint_rotate_step1 d now who name ≡ rotates d now who q (held_back now (d.queue q))
   known = ap (λ c. c >>= (λ n. rotates d now who n (held_back now (d.queue n)))) found
 
-  -- something holds it back
-  pub gives-held : (why : HeldBack) (before after : List (ℕ × Reply)) → Some why ≡ held_back now (d.queue q) → ReplyHasMoments (reply.HeldBack why) → after ≡ before ++ (who, reply.HeldBack why) ∷ []
-      → Runs d d before after who (maint_rotate_step1 d now who name)
-  gives-held why before after held printed pushed =
-      subst (Runs d d before after who) (sym (known ∙ ap (rotates d now who q) (sym held))) (record { accepted = refl; replied = pushed; changed = refl }, printed)
-
   abbrev does : ℕ → Checked Outcome
   does t = does_marks (Number 1) (in_own who t (d.part.session who) (switch_of q t now (d.part.session who).block))
 
   free : None ≡ held_back now (d.queue q) → maint_rotate_step1 d now who name ≡ (txid_for d.part who >>= does)
   free none = known ∙ ap (rotates d now who q) (sym none)
-
-  -- there is no id for it
-  pub switch-spent : (refusal : Refusal) → None ≡ held_back now (d.queue q) → txid_for d.part who ≡ Err refusal → maint_rotate_step1 d now who name ≡ Err refusal
-  switch-spent refusal none spent = free none ∙ ap (λ c. c >>= does) spent
 
   pub gives-switch : (s1 s2 : Database) (t : ℕ) (before after : List (ℕ × Reply)) → None ≡ held_back now (d.queue q) → txid_for d.part who ≡ Ok t
       → s1 ≡ after_marks d (begin_of who t (d.part.session who).txid ++ commit_of who t (d.part.session who).block) → s2 ≡ after_marks s1 (switch_of q t now (d.part.session who).block)
@@ -107,14 +83,6 @@ switched-alone d s part now q t none left changed is =
     ∙ ap (λ c. after_marks d (marks_of (c >>= does_alone now q))) (sym left)
     ∙ ap (λ why. after_marks d (marks_of (rotates_alone d now q why))) none
 
-pub held-alone : (d : Database) (now : ℤ) (q : ℕ) (o : Option HeldBack) → o ≡ held_back now (d.queue q) → is_some o ≡ true → d ≡ after_marks d (marks_of (rotates_by_itself d now q))
-held-alone d now q None held some = absurd (cc)
-held-alone d now q (Some why) held some = ap (λ o. after_marks d (marks_of (rotates_alone d now q o))) held
-
--- or there is no id for it
-pub alone-spent : (d : Database) (now : ℤ) (q : ℕ) (refusal : Refusal) → None ≡ held_back now (d.queue q) → next_id d.part ≡ Err refusal → rotates_by_itself d now q ≡ Err refusal
-alone-spent d now q refusal none spent = ap (rotates_alone d now q) (sym none) ∙ ap (λ c. c >>= does_alone now q) spent
-
 -- ---- the second step
 
 -- marks of queues may come after the end of a transaction that commits
@@ -129,22 +97,9 @@ some-lack : (d : Database) (n : ℕ) (queues : List NamedQueue) → n ≡ length
 some-lack d n [] is some = absurd (some is)
 some-lack d n (q ∷ queues) is some = refl
 
-none-lack : (d : Database) (n : ℕ) (queues : List NamedQueue) → n ≡ length queues → n ≡ 0 → ends_switches d queues ≡ answers (Number 0)
-none-lack d n [] is none = refl
-none-lack d n (q ∷ queues) is none = absurd (omega (arith, is, none))
-
 module _ (d : Database) (n : ℕ) (count : n ≡ length (lack_second_step d)) where
-  pub none-lacks : n ≡ 0 → maint_rotate_step2 d ≡ answers (Number 0)
-  none-lacks none = none-lack d n (lack_second_step d) count none
-
   steps-by : (t : ℕ) → (n ≡ 0 → ⊥) → next_id d.part ≡ Ok t → maint_rotate_step2 d ≡ does_steps (lack_second_step d) t
   steps-by t some left = some-lack d n (lack_second_step d) count some ∙ ap (λ c. c >>= does_steps (lack_second_step d)) left
-
-  pub steps-spent : (refusal : Refusal) → (n ≡ 0 → ⊥) → next_id d.part ≡ Err refusal → maint_rotate_step2 d ≡ Err refusal
-  steps-spent refusal some spent = some-lack d n (lack_second_step d) count some ∙ ap (λ c. c >>= does_steps (lack_second_step d)) spent
-
-  pub steps-count : (t : ℕ) → (n ≡ 0 → ⊥) → next_id d.part ≡ Ok t → reply_of (maint_rotate_step2 d) ≡ Number n
-  steps-count t some left = ap reply_of (steps-by t some left) ∙ ap Number (sym count)
 
   pub steps-made : (s : Database) (part : RowPart) (t : ℕ) → (n ≡ 0 → ⊥) → next_id d.part ≡ Ok t → part ≡ after_part_marks d.part (began of_worker t ∷ ended of_worker t true ∷ [])
       → s ≡ after_marks (record d { part = part }) (second_steps t (lack_second_step d)) → s ≡ after_marks d (marks_of (maint_rotate_step2 d))

@@ -13,7 +13,7 @@ use Rattle.sky_model.proofs.Splitting.{IsUnbroken}
 use Rattle.sky_model.proofs.Scripts.{StopsHere, transcript_from-unbroken, said-fits, said-too_late, stops_at_line, stops_unended, stops_too_long}
 use Rattle.sky_lines.specs.declared.reader.LineFault.{LineFault}
 use Rattle.sky_lines.specs.declared.reader.LineFault.TheVariants as faults
-use Rattle.sky_lines.specs.Reader.{Reader, TakesLine, EndsLines, StartsTooLong, IsTruncated, EndsTooLate, StartsBad, Kept}
+use Rattle.sky_lines.specs.Reader.{Reader, TakesLine, StartsTooLong, IsTruncated, EndsTooLate, StartsBad, Kept}
 use Rattle.sky_run.specs.declared.end.End.{End}
 use Rattle.sky_run.specs.declared.end.End.TheVariants.{Whole, Bad, Read, Write, NoMemory}
 use Rattle.sky_run.specs.Running.{GoesOn, said_in}
@@ -29,24 +29,6 @@ prints_all left g same = sym (ap transcript (g.bytes_are ∙ ap (λ l. g.read ++
 is_bad_all : {world : World} {n taken : ℕ} {pending gathered : List ℕ} {source first held : Option (List ℕ)} {bytes : List ℕ} (left : List ℕ)
     → (g : GoesOn world n taken pending gathered source first held bytes) → g.left ≡ left → bad_line bytes ≡ bad_line_from n taken (pending ++ left)
 is_bad_all left g same = ap bad_line (g.bytes_are ∙ ap (λ l. g.read ++ l) same) ∙ g.is_bad left
-
--- nothing is left
-pub Ends-whole : {world : World} {n taken : ℕ} {pending gathered : List ℕ} {source first held : Option (List ℕ)} {bytes : List ℕ} (after : Option (List ℕ)) (left : List ℕ)
-    → GoesOn world n taken pending gathered source first held bytes → source ≡ Some left → pending ++ left ≡ [] → after ≡ Some [] → Ends Whole after first held gathered bytes
-Ends-whole {n = n} {taken = taken} {gathered = gathered} after left g told nothing at_end =
-    let same : g.left ≡ left = cc (g.told, told) in
-    let whole = ap (λ u. (g.sent ++ gathered) ++ transcript_from (past_of g.calls) taken u) (sym nothing) ∙ prints_all left g same in
-    record {
-      sent = g.sent;
-      rest = [];
-      appends = g.appends;
-      begins = whole;
-      why = record {
-        at_end = at_end;
-        none_bad = is_bad_all left g same ∙ ap (λ u. bad_line_from n taken u) nothing;
-        printed = sym (append-nil (g.sent ++ gathered)) ∙ whole;
-      };
-    }
 
 -- what is left starts with a bad line
 pub Ends-bad : {world : World} {n taken : ℕ} {pending gathered : List ℕ} {source first held : Option (List ℕ)} {bytes : List ℕ} (after : Option (List ℕ)) (left : List ℕ) (cause : Cause)
@@ -138,11 +120,6 @@ Ends-cut NoMemory new_after new_held e prefix is_cut = part NoMemory new_after n
 pub GoesOn-cut : {world : World} {n taken : ℕ} {pending gathered : List ℕ} {source first held : Option (List ℕ)} {bytes : List ℕ} (cut : End) (after new_held : Option (List ℕ))
     → AppendsPrefix held new_held gathered → IsCut cut → GoesOn world n taken pending gathered source first held bytes → Ends cut after first new_held [] bytes
 GoesOn-cut cut after new_held prefix is_cut g = Ends-cut cut after new_held (Ends-no_memory after g) prefix is_cut
-
--- the reader reached the end
-pub GoesOn-end : {world : World} {n : ℕ} {gathered : List ℕ} {source first held : Option (List ℕ)} {bytes : List ℕ} (old new : Reader) (after : Option (List ℕ))
-    → ((left : List ℕ) → source ≡ Some left → EndsLines old new left after) → GoesOn world n old.taken old.pending gathered source first held bytes → Ends Whole after first held gathered bytes
-GoesOn-end old new after ended g = let ends = ended g.left g.told in Ends-whole after g.left g g.told ends.nothing_left ends.after_is
 
 -- a line is bad by what it says
 pub GoesOn-bad_line : {world : World} {n : ℕ} {gathered : List ℕ} {source first held : Option (List ℕ)} {bytes : List ℕ} (end : End) (old new : Reader) (after : Option (List ℕ)) (line : List ℕ)

@@ -1,6 +1,6 @@
 -- What a line says, by the result of parsing it.
 use Rattle.std.proofs.Common.{◌≡◌, ℕ, List, Bool, true, false, Result, Ok, Err, refl, ap, ◌∙◌, if◌then◌else◌}
-use Rattle.std.specs.Prelude.{OnOk, OnErr, IfErr, IfOk}
+use Rattle.std.specs.Prelude.{OnOk, OnErr, IfErr}
 use Rattle.std.specs.Str.{IsUtf8, is_utf8}
 use Rattle.std.proofs.lemmas.Bool.{false_from_ne_true}
 use Rattle.std.proofs.lemmas.Str.{IsUtf8-from_is_utf8, is_utf8-from_IsUtf8}
@@ -49,12 +49,6 @@ IsAnswer-run who NoMemory says is = tt
 -- a session's line is in form
 pub run_in_form : (line who : List ℕ) (says : Result Stmt ℕ) → line_of line ≡ run_of who says → (stmt : Stmt) → says ≡ Ok stmt → IsLineInForm (Run who stmt)
 run_in_form line who says is stmt so = lines_are_in_form line (Run who stmt) (is ∙ ap (run_of who) so)
-
--- and so is what was read of its statement
-pub read_in_form : (who : List ℕ) (r : Result Stmt LineCause) (says : Result Stmt ℕ) → IsAnswer r says → ((stmt : Stmt) → says ≡ Ok stmt → IsLineInForm (Run who stmt))
-    → IfOk r (λ stmt. IsLineInForm (Run who stmt))
-read_in_form who (Ok stmt) says is in_form = in_form stmt is
-read_in_form who (Err cause) says is in_form = tt
 
 -- a line that isn't text says so
 pub said_in-not_utf8 : (line : List ℕ) → ¬ (IsUtf8 line) → said_in line ≡ bad causes.NotUtf8

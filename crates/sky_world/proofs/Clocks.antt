@@ -61,22 +61,6 @@ pub record IsWorking (start cur : StateView) (moment : ℤ) (d : ℕ) : Type 0 w
   pub databases : cur.databases.names ≡ start.databases.names
   pub whole : IsWhole cur
 
-pub working-first : (start cur : StateView) (moment : ℤ) → cur ≡ record start { now = moment } → IsWhole start → IsWorking start cur moment 0
-working-first start cur moment stands whole = record {
-  same = ap (λ n. after_facts stood (daemons_work by_world n 0 stood).facts) all
-      ∙ ap (λ (w : StateView). after_facts (seen_state w) (daemons_work by_world (length start.databases.names - 0) 0 (seen_state w)).facts) (sym stands);
-  now = ap (λ (w : StateView). w.now) stands;
-  sessions = ap (λ (w : StateView). w.sessions.names) stands;
-  databases = ap (λ (w : StateView). w.databases.names) stands;
-  whole = subst IsWhole (sym stands) whole;
-}
-  where
-    stood : World
-    stood = after_fact (seen_state start) (clock_at moment)
-
-    all : length start.databases.names ≡ length start.databases.names - 0
-    all = omega arith
-
 pub working-next : (start cur new : StateView) (moment : ℤ) (d : ℕ) → d < length start.databases.names → IsWorking start cur moment d → Works cur new (daemon_works by_world d (seen_state cur))
     → IsWorking start new moment (d + 1)
 working-next start cur new moment d lt working works = record {
@@ -99,12 +83,6 @@ working-next start cur new moment d lt working works = record {
     one : length start.databases.names - d ≡ suc left
     one = omega (arith, lt)
 
-pub working-last : (start cur : StateView) (moment : ℤ) (d : ℕ) → length start.databases.names ≤ d → IsWorking start cur moment d
-    → seen_state cur ≡ after_facts (seen_state start) (at_moment by_world moment (seen_state start)).facts
-working-last start cur moment d le working =
-    let none : 0 ≡ length start.databases.names - d = omega (arith, le) in
-    ap (λ n. after_facts (seen_state cur) (daemons_work by_world n d (seen_state cur)).facts) none ∙ sym working.same
-
 -- ---- from moment to moment
 
 -- the world once the clock is at a moment
@@ -119,16 +97,6 @@ pub record IsGoing (start cur : StateView) (last : ℤ) : Type 0 where
   pub same : whole_way start last ≡ way last left (seen_state cur)
   pub sessions : cur.sessions.names ≡ start.sessions.names
   pub whole : IsWhole cur
-
-pub going-first : (start cur : StateView) (last : ℤ) → cur ≡ start → start.now ≤ℤ last → IsWhole start → IsGoing start cur last
-going-first start cur last is later whole = subst (λ v. IsGoing start v last) (sym is) (record {
-  left = unsigned_abs (last -ℤ start.now);
-  enough = omega arith;
-  earlier = later;
-  same = refl;
-  sessions = refl;
-  whole = whole;
-})
 
 pub going-next : (start cur new : StateView) (last moment passed : ℤ) → IsGoing start cur last → Some moment ≡ next_due cur.now (seen_state cur).daemons (length cur.databases.names) → cur.now <ℤ moment → passed ≡ moment → moment ≤ℤ last
     → seen_state new ≡ after_facts (seen_state cur) (at_moment by_world passed (seen_state cur)).facts → new.now ≡ passed → new.sessions.names ≡ cur.sessions.names → IsWhole new

@@ -1,6 +1,5 @@
 -- What the world shows after the code switched a daemon on or off, or did a part of its work.
-use Rattle.std.proofs.Common.{◌≡◌, ℕ, ◌<◌, List, [], ◌∷◌, Bool, true, false, Option, Some, None, is_some, map, length, append-nil, get_or, refl, sym, ◌∙◌, ap, subst, arith, cond, nat_cmp, if◌then◌else◌, IfSome, ℤ, pos, ◌≤ℤ◌}
-use Rattle.std.proofs.lemmas.Int.{ints}
+use Rattle.std.proofs.Common.{◌≡◌, ℕ, ◌<◌, List, [], ◌∷◌, Bool, true, false, Option, Some, None, is_some, map, length, append-nil, get_or, refl, sym, ◌∙◌, ap, subst, cond, nat_cmp, if◌then◌else◌, ℤ}
 use Rattle.std.specs.BTreeMap.{is_at}
 use Rattle.std.specs.Map.{lookup}
 use Rattle.sky_names.specs.Named.{with_value}
@@ -20,30 +19,12 @@ use Rattle.pgq_db.specs.Views.{DbView}
 use Rattle.pgq_db.specs.Seen.{seen_database}
 use Rattle.sky_world.specs.Views.{StateView}
 use Rattle.sky_world.specs.Seen.{seen_state}
-use Rattle.sky_world.specs.Daemons.{StartedBy}
 use Rattle.sky_world.specs.Whole.{IsWhole}
 use Rattle.sky_world.specs.Works.{Works}
 use Rattle.sky_world.specs.Nodes.{Happened}
 use Rattle.sky_world.proofs.Worlds.{after_facts-append, entries-updated, store-there, store-changed}
 
 -- ---- the daemons that are on
-
--- a daemon that was started by a moment was started by a later one
-pub started-later : (now later : ℤ) (daemons : List (ℕ × ℤ)) → now ≤ℤ later → StartedBy now daemons → StartedBy later daemons
-started-later now later daemons le all d = by (lookup (is_at (nat_cmp d)) daemons) (all d)
-  where
-    by : (o : Option ℤ) → IfSome o (λ start. (pos 0 ≤ℤ start) × (start ≤ℤ now)) → IfSome o (λ start. (pos 0 ≤ℤ start) × (start ≤ℤ later))
-    by None known = tt
-    by (Some start) known = (known.0, omega (arith, ints, known.1, le))
-
--- with one that was started at a moment, or is off
-pub started-updated : (now : ℤ) (old new : List (ℕ × ℤ)) (d : ℕ) (o : Option ℤ) → ((q : ℕ) → lookup (is_at (nat_cmp q)) new ≡ cond (is_at (nat_cmp d) q) o (lookup (is_at (nat_cmp q)) old))
-    → IfSome o (λ start. (pos 0 ≤ℤ start) × (start ≤ℤ now)) → StartedBy now old → StartedBy now new
-started-updated now old new d o updates here all q = subst (λ x. IfSome x (λ start. (pos 0 ≤ℤ start) × (start ≤ℤ now))) (sym (updates q)) (by (is_at (nat_cmp d) q))
-  where
-    by : (b : Bool) → IfSome (cond b o (lookup (is_at (nat_cmp q)) old)) (λ start. (pos 0 ≤ℤ start) × (start ≤ℤ now))
-    by true = here
-    by false = all q
 
 -- one is on, from now on
 pub daemon-started : (v now : StateView) (entries : List (ℕ × ℤ)) (d : ℕ) (t : ℤ) (there : Bool) → v ≡ now → IsWhole now

@@ -1,5 +1,5 @@
 -- What the workers of leaves have in hand, after what keeps it has changed.
-use Rattle.std.proofs.Common.{◌≡◌, ℕ, zero, suc, ◌<◌, ◌≤◌, ◌==◌, Bool, true, false, ◌&&◌, List, [], ◌∷◌, ◌++◌, length, get_or, slice_set, bytes_eq, cond, nat_cmp, find, position, Option, Some, None, option_and_then, refl, sym, ◌∙◌, ap, subst, arith, if◌then◌else◌}
+use Rattle.std.proofs.Common.{◌≡◌, ℕ, zero, suc, ◌<◌, ◌≤◌, ◌==◌, Bool, true, false, ◌&&◌, List, [], ◌∷◌, ◌++◌, length, get_or, slice_set, bytes_eq, find, position, Option, Some, None, option_and_then, refl, sym, ◌∙◌, ap, subst, arith, if◌then◌else◌}
 use Rattle.std.proofs.lemmas.Bool.Decides.{nat_tests}
 use Rattle.std.proofs.lemmas.Grind.{common_steps}
 use Rattle.std.proofs.lemmas.List.Quantifiers.{position-Some}
@@ -7,8 +7,6 @@ use Rattle.std.proofs.lemmas.List.Sums.{fails_before_first}
 use Rattle.std.proofs.lemmas.List.{get_or-set_same, get_or_append_left, length-append, set-set}
 use Rattle.std.proofs.Math.Seq.{get_or-append_seam}
 use Rattle.std.specs.List.{position_or_len}
-use Rattle.std.specs.BTreeMap.{is_at}
-use Rattle.std.specs.Map.{lookup}
 use Rattle.sky_names.proofs.PlaceLemmas.{bytes_eq_refl, same_name}
 use Rattle.sky_model.specs.Hands.{BatchHand, Hand}
 use Rattle.sky_model.specs.State.{changed_at, changed_for}
@@ -20,7 +18,6 @@ use Rattle.sky_world.specs.Views.{StateView}
 use Rattle.sky_world.specs.Seen.{seen_state}
 use Rattle.sky_world.specs.Whole.{IsWhole}
 use Rattle.sky_world.specs.Nodes.{Happened}
-use Rattle.sky_world.proofs.Worlds.{entries-updated}
 
 -- whether a table of a database is this one
 abbrev is_it : (d : ℕ) → (t : List ℕ) → (e : ℕ) → (n : List ℕ) → Bool
@@ -192,10 +189,6 @@ hand-moved d t hand placed taken put place is took puts =
         ∙ set-set placed place left (record left { hand = hand })
 
 -- ---- the batches of leaves
-
-pub batch-set : (d : ℕ) (batch : Option BatchHand) (old new : List (ℕ × BatchHand)) → ((q : ℕ) → lookup (is_at (nat_cmp q)) new ≡ cond (is_at (nat_cmp d) q) batch (lookup (is_at (nat_cmp q)) old))
-    → batch_at new ≡ changed_at d (λ _. batch) (batch_at old)
-batch-set d batch old new updates = entries-updated old new d batch updates
 
 -- what is put there again changes nothing
 pub batch-back : (d : ℕ) (batch : Option BatchHand) (f : ℕ → Option BatchHand) → f d ≡ batch → changed_at d (λ _. batch) f ≡ f

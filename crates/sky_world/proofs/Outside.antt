@@ -6,16 +6,15 @@ use Rattle.sky_model.specs.declared.stmt.WorldStmt.TheVariants.{PgqdOn, PgqdOff}
 use Rattle.sky_model.specs.declared.reply.Reply.{Reply}
 use Rattle.sky_model.specs.declared.reply.Reply.TheVariants.{Done, Refused}
 use Rattle.sky_model.specs.declared.reply.Refusal.{Refusal}
-use Rattle.sky_model.specs.declared.reply.Refusal.TheVariants.{NotOpen}
 use Rattle.sky_model.specs.History.{Fact, daemon_off}
 use Rattle.sky_model.specs.World.{World, after_facts}
 use Rattle.sky_model.specs.Printed.{ReplyHasMoments, HaveMoments}
-use Rattle.sky_model.specs.Outcome.{Checked, refused_by, aborts}
+use Rattle.sky_model.specs.Outcome.{Checked, aborts}
 use Rattle.sky_model.specs.Reader.{within_database, by_world, Deed, answers_with}
 use Rattle.sky_model.specs.Settling.{Turn, with_rest}
 use Rattle.sky_model.specs.Clock.{deed_in}
 use Rattle.sky_model.specs.WorkersOfWorld.{node_form}
-use Rattle.sky_model.specs.Calls.{allowed_outside, fails_if, refused_in, if_allowed, if_outside, world_does, node_stmt_does, on_unless, world_stmt_does}
+use Rattle.sky_model.specs.Calls.{fails_if, refused_in, if_allowed, if_outside, world_does, node_stmt_does, on_unless, world_stmt_does}
 use Rattle.sky_world.specs.Views.{StateView}
 use Rattle.sky_world.specs.Seen.{seen_state}
 use Rattle.sky_world.specs.Whole.{IsWhole}
@@ -85,24 +84,9 @@ refused-aborts old new d who refusal kind before mid after lt is so added adds =
 
 -- ---- whether it is refused
 
--- a session that has no database open
-pub not-open : (v : StateView) (who : ℕ) (home : Option ℕ) (before after : List (ℕ × Reply)) → IsWhole v → who < length v.sessions.names → home ≡ (seen_state v).homes who → None ≡ home
-    → after ≡ before ++ (who, Refused NotOpen) ∷ [] → (deed : ℕ → Deed) → AddsDeed v v before after (if_outside by_world (seen_state v) who deed ((seen_state v).homes who))
-not-open v who home before after whole lt is none added deed =
-    subst (λ h. AddsDeed v v before after (if_outside by_world (seen_state v) who deed h)) (none ∙ is) (answers-alone v v who (Refused NotOpen) [] before after lt tt refl refl whole added)
-
 -- what it does then, by whether it is allowed
 abbrev if_may : World → ℕ → ℕ → Deed → Checked (Unit {0}) → Deed
 if_may w who d deed may = if_allowed by_world w who d may deed
-
--- one that may not make it
-pub outside-refused : (old s new : StateView) (who d : ℕ) (home : Option ℕ) (found : Option Refusal) (refusal : Refusal) (before after : List (ℕ × Reply)) → home ≡ (seen_state old).homes who → Some d ≡ home
-    → allowed_outside ((seen_state old).database d) who ≡ refused_by found → found ≡ Some refusal → Stays old s → AddsDeed s new before after (refused_in by_world (seen_state s) who d refusal)
-    → (deed : ℕ → Deed) → AddsDeed old new before after (if_outside by_world (seen_state old) who deed ((seen_state old).homes who))
-outside-refused old s new who d home found refusal before after is there may refused stays adds deed =
-    subst (λ h. AddsDeed old new before after (if_outside by_world (seen_state old) who deed h)) (there ∙ is)
-    (subst (λ m. AddsDeed old new before after (if_may (seen_state old) who d (deed d) m)) (sym (may ∙ ap refused_by refused))
-    (adds-after old s new (λ w. refused_in by_world w who d refusal) before after stays adds))
 
 -- one that may
 pub outside-done : (old s new : StateView) (who d : ℕ) (deed : World → ℕ → Deed) (before mid after : List (ℕ × Reply)) → IsOutside old s who d → mid ≡ before → AddsDeed s new mid after (deed (seen_state s) d)

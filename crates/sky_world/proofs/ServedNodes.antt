@@ -6,28 +6,28 @@ use Rattle.sky_val.specs.declared.column.Column.{Column}
 use Rattle.std.proofs.lemmas.List.Elements.{All-nil, All-cons, All-head, All-tail, All-from_recursion}
 use Rattle.sky_names.specs.Places.{place_of}
 use Rattle.sky_names.specs.Named.{with_value}
-use Rattle.londiste_state.specs.Nodes.{Root, Leaf, of_root, of_leaf, is_among, tables_of}
+use Rattle.londiste_state.specs.Nodes.{Leaf, of_leaf, is_among, tables_of}
 use Rattle.sky_model.specs.Printed.{HaveMoments, ReplyHasMoments}
 use Rattle.sky_model.specs.declared.reply.Reply.{Reply}
 use Rattle.sky_model.specs.declared.reply.Reply.TheVariants.{Done, Refused}
 use Rattle.sky_model.specs.declared.reply.Refusal.{Refusal}
-use Rattle.sky_model.specs.declared.reply.Refusal.TheVariants.{AlreadyInSet, NoNode, NoTable, NotInSet, NotProvider, SchemaDiffers, TableInUse}
+use Rattle.sky_model.specs.declared.reply.Refusal.TheVariants.{AlreadyInSet, NoNode, NoTable, NotInSet, NotProvider, SchemaDiffers}
 use Rattle.sky_model.specs.declared.stop.Stop.{Stop}
 use Rattle.sky_model.specs.declared.stop.Stop.TheVariants as halt
 use Rattle.sky_model.specs.declared.stop.Stop.TheVariants.{NoMemory}
-use Rattle.sky_model.specs.History.{Mark, Fact, within, noded, leaf_made, node_made, in_hand}
+use Rattle.sky_model.specs.History.{Mark, Fact, within, noded, leaf_made, node_made}
 use Rattle.sky_model.specs.State.{Database, after_marks}
 use Rattle.sky_model.specs.World.{World, after_facts}
-use Rattle.sky_model.specs.Outcome.{Outcome, Checked, ◌>>=◌, ◌>>◌, refused_if, refused_by, found_or, marks_of}
-use Rattle.sky_model.specs.Stops.{Refuses, StopsAs}
+use Rattle.sky_model.specs.Outcome.{Outcome, Checked, ◌>>=◌, ◌>>◌, refused_if, found_or, marks_of}
+use Rattle.sky_model.specs.Stops.{StopsAs}
 use Rattle.sky_model.specs.SessionMarks.{Enters, entry_place}
 use Rattle.sky_model.specs.StepQueue.{newest_id}
 use Rattle.sky_model.specs.StepRows.{table_called}
-use Rattle.sky_model.specs.StepNode.{makes_root, set_queue, set_queue_of, joins, lists, unlists, adds, NodeCall, joining, making_root, making_leaf, adding, listing, unlisting, if_there, table_number, may_serve, node_does}
-use Rattle.sky_model.specs.NodesOfWorld.{WorldOutcome, Located, node_called, done_in, root_of, leaf_of, provides, are_columns, columns_called, adds_to, add_table, first_user}
-use Rattle.sky_model.specs.WorkersOfWorld.{call_facts, moves, source, leaves_leaf, removes_from, remove_table}
-use Rattle.sky_model.specs.Calls.{allowed_outside, world_does}
-use Rattle.sky_histories.proofs.NodeDeeds.{called-there, is-served, may-list, may-add, may-unlist}
+use Rattle.sky_model.specs.StepNode.{makes_root, set_queue, set_queue_of, joins, adds, NodeCall, joining, making_root, making_leaf, adding, if_there, table_number, may_serve, node_does}
+use Rattle.sky_model.specs.NodesOfWorld.{WorldOutcome, Located, node_called, done_in, root_of, leaf_of, provides, are_columns, columns_called, adds_to, add_table}
+use Rattle.sky_model.specs.WorkersOfWorld.{call_facts}
+use Rattle.sky_model.specs.Calls.{world_does}
+use Rattle.sky_histories.proofs.NodeDeeds.{called-there, is-served, may-add}
 use Rattle.pgq_db.specs.Views.{DbView}
 use Rattle.pgq_db.specs.Seen.{seen_database}
 use Rattle.pgq_db.specs.Served.{Serves}
@@ -38,7 +38,6 @@ use Rattle.sky_world.specs.Adds.{AddsDeed}
 use Rattle.sky_world.specs.Nodes.{Stays, Happened, Does, DoesAll, Stopped, Ran, as_list, StopsLike, set_tick, Joins, Joined, leaf_from, provided_as}
 use Rattle.sky_world.proofs.Whole.{whole-same, whole-served, whole-with}
 use Rattle.sky_world.proofs.Worlds.{after_facts-within, after_facts-append, store-there, store-changed}
-use Rattle.sky_world.proofs.Outside.{answers-alone}
 
 -- a table whose columns are found by its name is there
 pub columns-found : (d e : Database) (name : List ℕ) (table : ℕ) (columns : List Column) → table_number d name ≡ Some table → columns ≡ d.part.columns table → d ≡ e → Some columns ≡ columns_called name e
@@ -124,16 +123,6 @@ pub entered-same : (old new : Database) (who : ℕ) (refusal : Option Refusal) �
 entered-same old new who None enters but = but ∙ (λ i. record old { part = enters.1 i })
 entered-same old new who (Some refusal) enters but = but ∙ (λ i. record old { part = enters.1 i })
 
-pub entered-allowed : (old new : Database) (who : ℕ) (refusal : Option Refusal) → Enters old.part new.part who (entry_place true) refusal → allowed_outside old who ≡ refused_by refusal
-entered-allowed old new who None enters = enters.0
-entered-allowed old new who (Some refusal) enters = enters.0
-
--- in a database
-pub allowed-there : (v now : StateView) (d who : ℕ) (old new : DbView) (refusal : Option Refusal) → v ≡ now → d < length v.databases.values → old ≡ get_or v.databases.values d old
-    → Enters (seen_database old).part (seen_database new).part who (entry_place true) refusal → allowed_outside ((seen_state now).database d) who ≡ refused_by refusal
-allowed-there v now d who old new refusal same lt at enters =
-    ap (λ x. allowed_outside x who) (sym (shown-there v now d old same lt at)) ∙ entered-allowed (seen_database old) (seen_database new) who refusal enters
-
 pub entered-stays : {E : Type 0} → (v now : StateView) (d who : ℕ) (old new : DbView) (result : Result (Option Refusal) E) → v ≡ now → d < length v.databases.values → old ≡ get_or v.databases.values d old → IsWhole now
     → IfOk result (λ refusal. Enters (seen_database old).part (seen_database new).part who (entry_place true) refusal)
     → seen_database new ≡ record (seen_database old) { part = (seen_database new).part }
@@ -188,13 +177,6 @@ pub stops-alone : (old s : StateView) (ran : Result Reply Stop) (stop : Stop) (c
 stops-alone old s ran NoMemory checked does is = tt
 stops-alone old s ran (halt.Refused refusal) checked does is = subst (λ r. Ran old s r checked) is does
 
--- or its refusal
-pub form-refused : (old s : StateView) (who : ℕ) (refusal : Refusal) (checked : Checked WorldOutcome) (before after : List (ℕ × Reply)) → who < length old.sessions.names → checked ≡ Err refusal → Stays old s
-    → after ≡ before ++ (who, Refused refusal) ∷ [] → AddsDeed old s before after (world_does who checked)
-form-refused old s who refusal checked before after lt refused stays added =
-    subst (λ c. AddsDeed old s before after (world_does who c)) (sym refused)
-    (answers-alone old s who (Refused refusal) [] before after lt tt stays.shown (ap (λ (w : World). w.sessions) stays.shown) stays.whole added)
-
 -- ---- `create_root`
 
 -- a database without a node gets a root
@@ -228,18 +210,6 @@ root-there v now new d was is name queue moment t same lt at bare whole time ser
     by : (c : Checked Outcome) → is_ok c ≡ true → root_of d c ≡ Ok (record { replies = Done ∷ []; facts = map (within d) (marks_of c) ++ node_made d ∷ [] })
     by (Ok outcome) ok = refl
     by (Err refusal) ok = absurd (cc)
-
--- it is refused there
-pub root-refused : (v now : StateView) (d : ℕ) (was is : DbView) (name queue : List ℕ) (moment t : ℤ) (refusal : Refusal) → v ≡ now → d < length v.databases.values → was ≡ get_or v.databases.values d was
-    → ((seen_state now).database d).node ≡ None → IsWhole now → t ≡ moment → Refuses (seen_database was) (seen_database is) refusal (node_does (seen_database was) (making_root name queue t))
-    → (root_of d (makes_root ((seen_state now).database d) moment name queue) ≡ Err refusal) × Stays now (record v { databases = with_value v.databases d is })
-root-refused v now d was is name queue moment t refusal same lt at bare whole time refuses =
-    let both : (node_does ((seen_state now).database d) call ≡ Err refusal) × Stays now (record v { databases = with_value v.databases d is })
-    = refused-there v now d was is call refusal same lt at whole refuses.refused refuses.same in
-    (ap (root_of d) (sym (is-served ((seen_state now).database d) call (ap (may_serve call) bare) ∙ ap (λ m. makes_root ((seen_state now).database d) m name queue) time) ∙ both.0), both.1)
-  where
-    call : NodeCall
-    call = making_root name queue t
 
 -- ---- `create_leaf`
 
@@ -312,20 +282,6 @@ leaf-made old s new d from tick name provider checked is joins made = record {
     rest : List Fact
     rest = within d (noded (leaf_made name provider tick)) ∷ node_made d ∷ []
 
--- its consumer may not join
-pub leaf-refused : (old s : StateView) (d from : ℕ) (name provider : List ℕ) (stop : Stop) (checked : Checked WorldOutcome) → checked ≡ leaf_from (seen_state old) d name provider from
-    → is_some (set_queue ((seen_state old).database from)) ≡ true → Joined old s from (Err stop) name → Ran old s (Err stop) checked
-leaf-refused old s d from name provider NoMemory checked is provides joined = tt
-leaf-refused old s d from name provider (halt.Refused refusal) checked is provides joined = (is ∙ by (set_queue ((seen_state old).database from)) provides joined.0, joined.1)
-  where
-    w : World
-    w = seen_state old
-
-    by : (o : Option ℕ) → is_some o ≡ true → if_there o (λ q. joins (w.database from) q name) ≡ Err refusal
-        → (found_or o (NotProvider provider) >>= (λ q. leaf_of d from name provider (newest_id ((w.database from).queue q)) (joins (w.database from) q name))) ≡ Err refusal
-    by None there refused = absurd (cc)
-    by (Some q) there refused = ap (leaf_of d from name provider (newest_id ((w.database from).queue q))) refused
-
 -- ---- a check that changes nothing
 
 -- what stops it stops the statement
@@ -346,41 +302,12 @@ halts-then v (Err e) stop check rest checked whole is errs stops = stops-then v 
 
 -- ---- `add_table` and `remove_table`
 
--- the database of a node doesn't have the table
-no-number : (w : World) (d : ℕ) (table : List ℕ) → columns_called table (w.database d) ≡ None → place_of table (w.database d).part.tables ≡ None
-no-number w d table none = by (place_of table (w.database d).part.tables) none
-  where
-    by : (o : Option ℕ) → option_map (w.database d).part.columns o ≡ None → o ≡ None
-    by None e = refl
-    by (Some t) e = absurd (cc)
-
-pub add-no_table : (w : World) (name table : List ℕ) (n : Located) → node_called w name ≡ Some n → columns_called table (w.database n.database) ≡ None → add_table w name table ≡ Err (NoTable table)
-add-no_table w name table n there none =
-    ap (λ o. found_or o (NoNode name) >>= (λ m. table_called table (w.database m.database).part >>= (λ t. refused_if (is_among table (tables_of m.node)) (AlreadyInSet table) >> adds_to w m.database t table m.node))) there
-    ∙ ap (λ o. found_or o (NoTable table) >>= (λ t. refused_if (is_among table (tables_of n.node)) (AlreadyInSet table) >> adds_to w n.database t table n.node)) (no-number w n.database table none)
-
 -- the table isn't in the node: it may join
 add-goes : (w : World) (name table : List ℕ) (n : Located) → node_called w name ≡ Some n → is_among table (tables_of n.node) ≡ false
     → add_table w name table ≡ (found_or (place_of table (w.database n.database).part.tables) (NoTable table) >>= (λ t. adds_to w n.database t table n.node))
 add-goes w name table n there new =
     ap (λ o. found_or o (NoNode name) >>= (λ m. table_called table (w.database m.database).part >>= (λ t. refused_if (is_among table (tables_of m.node)) (AlreadyInSet table) >> adds_to w m.database t table m.node))) there
     ∙ ap (λ b. found_or (place_of table (w.database n.database).part.tables) (NoTable table) >>= (λ t. refused_if b (AlreadyInSet table) >> adds_to w n.database t table n.node)) new
-
-pub add-to_root : (w : World) (name table : List ℕ) (d : ℕ) (r : Root) (columns : List Column) → node_called w name ≡ Some (record { database = d; node = of_root r }) → Some columns ≡ columns_called table (w.database d)
-    → is_among table (tables_of (of_root r)) ≡ false
-    → add_table w name table ≡ (found_or (set_queue (w.database d)) (NotProvider r.name) >>= (λ queue. done_in d Done (node_does (w.database d) (listing table))))
-add-to_root w name table d r columns there has new =
-    add-goes w name table (record { database = d; node = of_root r }) there new
-    ∙ by (place_of table (w.database d).part.tables) (set_queue (w.database d)) has
-    ∙ ap (λ c. found_or (set_queue (w.database d)) (NotProvider r.name) >>= (λ queue. done_in d Done c))
-    (sym (is-served (w.database d) (listing table) (may-list (w.database d).node r table (called-there w name (record { database = d; node = of_root r }) there) new)))
-  where
-    by : (o q : Option ℕ) → Some columns ≡ option_map (w.database d).part.columns o
-        → (found_or o (NoTable table) >>= (λ t. found_or q (NotProvider r.name) >>= (λ queue. done_in d Done (lists (w.database d) queue t table))))
-        ≡ (found_or q (NotProvider r.name) >>= (λ queue. done_in d Done (if_there q (λ k. if_there o (λ t. lists (w.database d) k t table)))))
-    by None q e = absurd (cc)
-    by (Some t) None e = refl
-    by (Some t) (Some queue) e = refl
 
 pub add-to_leaf : (w : World) (name table : List ℕ) (d : ℕ) (l : Leaf) (columns : List Column) → node_called w name ≡ Some (record { database = d; node = of_leaf l }) → Some columns ≡ columns_called table (w.database d)
     → is_among table (tables_of (of_leaf l)) ≡ false
@@ -407,19 +334,6 @@ add-to_leaf w name table d l columns there has new =
         ap (λ cs. refused_if (not (are_columns cs (columns_called table (w.database q)))) (SchemaDiffers table) >> done_in d Done (adds (w.database d) t table)) same
         ∙ tested (not (are_columns columns (columns_called table (w.database q)))) (done_in d Done (adds (w.database d) t table))
 
--- the table is in the node: it may leave
-remove-goes : (w : World) (name table : List ℕ) (n : Located) → node_called w name ≡ Some n → is_among table (tables_of n.node) ≡ true
-    → remove_table w name table ≡ (found_or (place_of table (w.database n.database).part.tables) (NoTable table) >>= (λ t. removes_from w n.database t table n.node))
-remove-goes w name table n there has =
-    ap (λ o. found_or o (NoNode name) >>= (λ m. refused_if (not (is_among table (tables_of m.node))) (NotInSet table) >> (table_called table (w.database m.database).part >>= (λ t. removes_from w m.database t table m.node)))) there
-    ∙ ap (λ b. refused_if (not b) (NotInSet table) >> (found_or (place_of table (w.database n.database).part.tables) (NoTable table) >>= (λ t. removes_from w n.database t table n.node))) has
-
-pub remove-no_table : (w : World) (name table : List ℕ) (n : Located) → node_called w name ≡ Some n → is_among table (tables_of n.node) ≡ true → columns_called table (w.database n.database) ≡ None
-    → remove_table w name table ≡ Err (NoTable table)
-remove-no_table w name table n there has none =
-    remove-goes w name table n there has
-    ∙ ap (λ o. found_or o (NoTable table) >>= (λ t. removes_from w n.database t table n.node)) (no-number w n.database table none)
-
 -- a table that has columns has a number
 numbered : {A : Type 0} (w : World) (d : ℕ) (table : List ℕ) (next : ℕ → Checked A) (same : Checked A) → is_some (columns_called table (w.database d)) ≡ true → ((t : ℕ) → place_of table (w.database d).part.tables ≡ Some t → next t ≡ same)
     → (found_or (place_of table (w.database d).part.tables) (NoTable table) >>= next) ≡ same
@@ -428,24 +342,3 @@ numbered w d table next same has each = by (place_of table (w.database d).part.t
     by : (o : Option ℕ) → is_some (option_map (w.database d).part.columns o) ≡ true → ((t : ℕ) → o ≡ Some t → next t ≡ same) → (found_or o (NoTable table) >>= next) ≡ same
     by None e goes = absurd (cc)
     by (Some t) e goes = goes t refl
-
-pub remove-from_root : (w : World) (name table : List ℕ) (d : ℕ) (r : Root) → node_called w name ≡ Some (record { database = d; node = of_root r }) → is_among table (tables_of (of_root r)) ≡ true
-    → is_some (columns_called table (w.database d)) ≡ true
-    → remove_table w name table ≡ (refused_by (option_map TableInUse (first_user w r.name table)) >>= (λ _. done_in d Done (node_does (w.database d) (unlisting table))))
-remove-from_root w name table d r there among has =
-    remove-goes w name table (record { database = d; node = of_root r }) there among
-    ∙ numbered w d table (λ t. removes_from w d t table (of_root r)) _ has (λ t number.
-    tested (option_map TableInUse (first_user w r.name table)) (done_in d Done (unlists t table))
-    ∙ ap (λ o. refused_by (option_map TableInUse (first_user w r.name table)) >>= (λ _. done_in d Done (if_there o (λ k. unlists k table)))) (sym number)
-    ∙ ap (λ c. refused_by (option_map TableInUse (first_user w r.name table)) >>= (λ _. done_in d Done c))
-    (sym (is-served (w.database d) (unlisting table) (may-unlist (w.database d).node r table (called-there w name (record { database = d; node = of_root r }) there) among))))
-  where
-    tested : (o : Option Refusal) (c : Checked WorldOutcome) → (refused_by o >> c) ≡ (refused_by o >>= (λ _. c))
-    tested None c = refl
-    tested (Some refusal) c = refl
-
-pub remove-from_leaf : (w : World) (name table : List ℕ) (d : ℕ) (l : Leaf) → node_called w name ≡ Some (record { database = d; node = of_leaf l }) → is_among table (tables_of (of_leaf l)) ≡ true
-    → is_some (columns_called table (w.database d)) ≡ true
-    → remove_table w name table ≡ (source w l table >>= (λ p. moves w p d (in_hand d table) (Ok (leaves_leaf l table (w.hands d table)))))
-remove-from_leaf w name table d l there among has =
-    remove-goes w name table (record { database = d; node = of_leaf l }) there among ∙ numbered w d table (λ t. removes_from w d t table (of_leaf l)) _ has (λ t number. refl)

@@ -1,7 +1,6 @@
 -- What the clock passes over: at a moment at which no daemon changes anything only the clock is set, and the moments after it are due as before.
-use Rattle.std.proofs.Common.{◌≡◌, ℕ, zero, suc, ◌+◌, ◌<◌, ◌≤◌, List, [], ◌∷◌, ◌++◌, Bool, true, false, ◌==◌, Option, Some, None, map, length, refl, sym, ◌∙◌, ap, subst, arith, if◌then◌else◌, IfSome, ℤ, pos, ◌-ℤ◌, ◌≤ℤ◌, ◌<ℤ◌, int_lt, unsigned_abs}
+use Rattle.std.proofs.Common.{◌≡◌, ℕ, zero, suc, ◌+◌, ◌<◌, ◌≤◌, List, [], ◌∷◌, ◌++◌, Bool, true, false, Option, Some, None, map, length, refl, sym, ◌∙◌, ap, subst, arith, if◌then◌else◌, IfSome, ℤ, pos, ◌-ℤ◌, ◌≤ℤ◌, ◌<ℤ◌, int_lt, unsigned_abs}
 use Rattle.std.proofs.lemmas.Int.{ints}
-use Rattle.std.proofs.lemmas.Bool.{eqb-true}
 use Rattle.sky_model.specs.declared.daemon.DaemonPart.{DaemonPart}
 use Rattle.sky_model.specs.declared.daemon.DaemonPart.TheVariants.{Tick, Retry, Maintain}
 use Rattle.sky_model.specs.History.{Mark, Fact, within, clock_at}
@@ -232,13 +231,3 @@ since-started v now same started = subst (λ (w : StateView). AreOnSince w.now (
     by : (o : Option ℤ) → IfSome o (λ start. (pos 0 ≤ℤ start) × (start ≤ℤ v.now)) → IfSome o (λ start. start ≤ℤ v.now)
     by None known = tt
     by (Some start) known = known.1
-
--- ---- one database after another
-
--- what holds of the first, and of the next one
-pub holds-more : (P : ℕ → Type 0) (n : ℕ) → ((d : ℕ) → d < n → P d) → P n → (d : ℕ) → d < n + 1 → P d
-holds-more P n all next d lt = by (d == n) refl
-  where
-    by : (b : Bool) → (d == n) ≡ b → P d
-    by true e = subst P (sym (eqb-true d n e)) next
-    by false e = all d (grind (arith, lt, e))

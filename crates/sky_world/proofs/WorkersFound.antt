@@ -1,5 +1,5 @@
 -- The statements on the workers of leaves, by the leaf and the database that they find.
-use Rattle.std.proofs.Common.{◌≡◌, ℕ, List, [], ◌∷◌, Bool, true, false, not, ◌&&◌, bytes_eq, Option, Some, None, Ok, refl, sym, ◌∙◌, ap, if◌then◌else◌}
+use Rattle.std.proofs.Common.{◌≡◌, ℕ, List, [], ◌∷◌, Bool, true, false, not, ◌&&◌, bytes_eq, Option, Some, None, Ok, refl, ◌∙◌, ap, if◌then◌else◌}
 use Rattle.std.proofs.lemmas.Bool.{and_parts}
 use Rattle.sky_val.specs.declared.column.Column.{Column}
 use Rattle.sky_val.specs.declared.column.ColKind.{ColKind}
@@ -10,17 +10,16 @@ use Rattle.sky_model.specs.declared.reply.Reply.TheVariants.{Done}
 use Rattle.sky_model.specs.declared.reply.Refusal.TheVariants.{NoNode, NotInSet}
 use Rattle.sky_model.specs.History.{in_hand, batch_in_hand}
 use Rattle.sky_model.specs.Outcome.{Checked, ◌>>=◌, ◌>>◌, found_or, refused_if}
-use Rattle.sky_model.specs.ReplayMoves.{replay_move}
 use Rattle.sky_model.specs.NodesOfWorld.{WorldOutcome, Located, node_called, same_kind, same_column, same_columns, columns_called}
 use Rattle.sky_model.specs.Nodes.{leaf_tables}
 use Rattle.sky_model.specs.State.{Database}
 use Rattle.sky_model.specs.World.{World}
 use Rattle.londiste_copy.specs.Copying.{SameTable}
-use Rattle.sky_model.specs.WorkersOfWorld.{leaf_table, source, source_alike, are_alike, moves, copy_step, restarts, restart, restart_table, restarting, provider_of, leaf_steps, londiste_step}
+use Rattle.sky_model.specs.WorkersOfWorld.{leaf_table, source, source_alike, are_alike, moves, copy_step, restarts, restart, restart_table, restarting}
 use Rattle.sky_world.specs.Views.{StateView}
 use Rattle.sky_world.specs.Seen.{seen_state}
 use Rattle.sky_world.specs.Nodes.{Happened, Does}
-use Rattle.sky_world.specs.Workers.{AreAlike, if_leaf, leaf_called, leaf_with, leaf_in, copies, replays}
+use Rattle.sky_world.specs.Workers.{AreAlike, if_leaf, leaf_called, leaf_with, copies}
 
 -- ---- by the leaf
 
@@ -73,14 +72,6 @@ restarts_from w table d l = source w l table >>= (λ p. moves w p d (in_hand d t
 pub restart-by_leaf : (w : World) (name table : List ℕ) → restart_table w name table ≡ (leaf_with w name table >>= (λ x. source w x.1 table >>= (λ p. moves w p x.0 (in_hand x.0 table) (Ok (restarting table (w.hands x.0 table))))))
 restart-by_leaf w name table = with-leaf w name table (restarts_from w table)
 
-pub restart-by_source : (w : World) (name table : List ℕ) (d : ℕ) (l : Leaf) → leaf_with w name table ≡ Ok (d, l)
-    → restart_table w name table ≡ (source w l table >>= (λ p. moves w p d (in_hand d table) (Ok (restarting table (w.hands d table)))))
-restart-by_source w name table d l is = restart-by_leaf w name table ∙ ap (λ c. c >>= (λ x. restarts_from w table x.0 x.1)) is
-
-pub restart-goes : (w : World) (name table : List ℕ) (d p : ℕ) (l : Leaf) → leaf_with w name table ≡ Ok (d, l) → source w l table ≡ Ok p
-    → restart_table w name table ≡ moves w p d (in_hand d table) (Ok (restarting table (w.hands d table)))
-restart-goes w name table d p l is from = restart-by_source w name table d l is ∙ ap (λ c. c >>= (λ q. moves w q d (in_hand d table) (Ok (restarting table (w.hands d table))))) from
-
 -- `restart` of a leaf
 abbrev batch_lost : ℕ → WorldOutcome
 batch_lost d = record { replies = Done ∷ []; facts = batch_in_hand d None ∷ [] }
@@ -99,28 +90,6 @@ restarted old new name d l is happened = record {
   moments = tt;
   happened = happened;
 }
-
--- `londiste_step`
-abbrev leaf_moves : World → ℕ → Leaf → Checked WorldOutcome
-leaf_moves w d l = provider_of w l >>= (λ p. moves w p d (batch_in_hand d) (replay_move (w.database p) (w.database d) l (w.batches d)))
-
-pub steps-by_leaf : (w : World) (name : List ℕ)
-    → londiste_step w name ≡ (leaf_called w name >>= (λ x. provider_of w x.1 >>= (λ p. moves w p x.0 (batch_in_hand x.0) (replay_move (w.database p) (w.database x.0) x.1 (w.batches x.0)))))
-steps-by_leaf w name = in-leaf w name (λ d n. leaf_steps w d name n) (leaf_moves w) each
-  where
-    each : (d : ℕ) (n : Node) → leaf_steps w d name n ≡ (if_leaf name d n >>= (λ x. leaf_moves w x.0 x.1))
-    each d (of_root r) = refl
-    each d (of_leaf l) = refl
-
-pub steps-by_provider : (w : World) (name : List ℕ) (d : ℕ) (l : Leaf) → leaf_called w name ≡ Ok (d, l)
-    → londiste_step w name ≡ (provider_of w l >>= (λ p. moves w p d (batch_in_hand d) (replay_move (w.database p) (w.database d) l (w.batches d))))
-steps-by_provider w name d l is = steps-by_leaf w name ∙ ap (λ c. c >>= (λ x. leaf_moves w x.0 x.1)) is
-
-pub steps-go : (w : World) (name : List ℕ) (d p : ℕ) (l : Leaf) → leaf_called w name ≡ Ok (d, l) → (w.database d).node ≡ Some (of_leaf l) → provider_of w l ≡ Ok p → londiste_step w name ≡ replays w p d
-steps-go w name d p l is there from =
-    steps-by_provider w name d l is
-    ∙ ap (λ c. c >>= (λ q. moves w q d (batch_in_hand d) (replay_move (w.database q) (w.database d) l (w.batches d)))) from
-    ∙ ap (λ n. moves w p d (batch_in_hand d) (replay_move (w.database p) (w.database d) (leaf_in n) (w.batches d))) (sym there)
 
 -- ---- columns that are the same
 
