@@ -20,7 +20,6 @@ mod settling;
 mod statements;
 
 pub use answer::RowStep;
-pub use committing::CommitPlan;
 pub use effect::{Effect, Effects};
 pub use row_db::RowDb;
 pub use sky_model::WriteGate;
