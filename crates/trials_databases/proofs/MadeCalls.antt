@@ -1,18 +1,20 @@
 -- Calls in form have made the database of a leaf, unless memory ran out.
-use Rattle.std.proofs.Common.{◌≡◌, ℕ, List, Bool, true, false, Result, Ok, Err, IfErr, is_err, refl, sym, subst}
+use Rattle.std.proofs.Common.{◌≡◌, ℕ, List, Bool, true, false, Some, Result, Ok, Err, IfErr, is_err, refl, sym, subst}
 use Rattle.std.specs.Result.{OnOk}
 use Rattle.sky_val.specs.declared.event.Event.{Event}
 use Rattle.sky_model.specs.State.{Database}
 use Rattle.sky_model.specs.Settling.{Turn}
 use Rattle.sky_model.specs.Daemon.{quietly}
 use Rattle.sky_model.specs.History as history
-use Rattle.sky_model.specs.StepNode.{applying, node_does}
+use Rattle.sky_model.specs.StepNode.{applying, node_does, table_number}
 use Rattle.sky_model.specs.DatabaseCalls.{DatabaseCall, IsDatabaseCallInForm, served}
 use Rattle.sky_model.specs.DatabaseSteps.{DatabaseSteps, IsMade}
 use Rattle.sky_histories.proofs.MadeCopies.{made-after}
 use Rattle.londiste_calls.specs.declared.faults.ApplyFault.{ApplyFault}
 use Rattle.londiste_calls.specs.declared.faults.ApplyFault.TheVariants as fault
 use Rattle.pgq_db.specs.Applying.{ApplyRefused}
+use Rattle.pgq_db.specs.Seen.{seen_database}
+use Rattle.trials_databases.specs.Views.{ReplicaView}
 
 -- after one more call, unless it failed, as a test says
 pub made-unless : {A E : Type 0} → (result : Result A E) (test : Bool) (old new : Database) (call : DatabaseCall) (turn : Turn) → IsMade old → IsDatabaseCallInForm call
@@ -28,3 +30,7 @@ made-applied (Ok many) test old new events pick tick made steps refused ran whol
 made-applied (Err fault.TxidsSpent) test old new events pick tick made steps refused ran whole = subst IsMade (sym refused.same) made
 made-applied (Err (fault.BadEvent id)) test old new events pick tick made steps refused ran whole = made-after old new (served (applying events pick tick)) _ made tt refused.steps
 made-applied (Err fault.NoMemory) test old new events pick tick made steps refused ran whole = let out = ran refl in absurd (cc)
+
+-- a table's number, as it is seen and as it is kept
+pub number-inside : (v now : ReplicaView) (name : List ℕ) (table : ℕ) → v ≡ now → table_number (seen_database now.db) name ≡ Some table → table_number (seen_database v.db) name ≡ Some table
+number-inside v now name table same number = subst (λ (r : ReplicaView). table_number (seen_database r.db) name ≡ Some table) (sym same) number
