@@ -1,5 +1,5 @@
 -- What links and ends show: the lists that they keep.
-use Rattle.std.proofs.Common.{◌≡◌, ◌≢◌, ℕ, zero, suc, ◌<◌, ◌≤◌, ◌^◌, Bool, true, false, eqb, List, [], ◌∷◌, ◌++◌, map, length, Option, Some, None, slice_get, get_or, refl, sym, ap, ◌∙◌, append-nil, arith}
+use Rattle.std.proofs.Common.{◌≡◌, ◌≢◌, ℕ, zero, suc, ◌<◌, ◌≤◌, ◌^◌, true, false, eqb, List, [], ◌∷◌, ◌++◌, map, length, Option, Some, None, slice_get, get_or, refl, sym, ap, ◌∙◌, append-nil, arith}
 use Rattle.std.specs.Prelude.{◌==◌, if◌then◌else◌, slice_index_or, IsSome}
 use Rattle.std.proofs.lemmas.Bool.Decides.{nat_tests}
 use Rattle.std.proofs.lemmas.Option.{slice_get_past, slice_get_within, same_Some, get_or_from_slice_get}
@@ -103,9 +103,6 @@ KeepsAt-shown links list (Some ends) (Some xs) small keeps =
     ∙ Chain-read (slice_get links) list (length links) nowhere xs (none_at_nowhere links small) (Chain-length links small list xs keeps.chain) keeps.chain in
     unfreed (ends.last == freed) (grind (arith, nat_tests, in_use)) _ _ read
   where
-    unfreed : (b : Bool) → b ≡ false → (ys zs : List ℕ) → ys ≡ zs → (if b then None else Some ys) ≡ Some zs
-    unfreed true is ys zs same = absurd (cc)
-    unfreed false is ys zs same = ap Some same
 
 module _ {links : List Link} {ends : List Ends} {free free_number spare size capacity : ℕ} {lists : ℕ → Option (List ℕ)} {spares : List ℕ} (kept : AreKept links ends free free_number spare size capacity lists spares) where
   pub small_links : length links < 2 ^ 63

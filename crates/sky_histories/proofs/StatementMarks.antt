@@ -19,7 +19,7 @@ use Rattle.sky_model.specs.declared.reply.Reply.{Reply}
 use Rattle.sky_model.specs.declared.reply.Reply.TheVariants.{Refused}
 use Rattle.sky_model.specs.declared.reply.Refusal.{Refusal}
 use Rattle.sky_model.specs.declared.reply.Refusal.TheVariants.{Canceled, IdsSpent}
-use Rattle.sky_model.specs.History.{Batch, Mark, QueueMark, TableMark, of_session, of_worker, began, ended, sight_taken, block_failed, tabled, wrote, waits, waited, queued, raised, put, ticked, switching, switched, second_step, returned, traced, untraced, of_copy, block_ended}
+use Rattle.sky_model.specs.History.{Batch, Mark, QueueMark, TableMark, of_session, of_worker, began, ended, sight_taken, block_failed, tabled, wrote, waits, waited, queued, raised, put, ticked, switched, second_step, returned, traced, untraced, of_copy, block_ended}
 use Rattle.sky_model.specs.declared.reply.HeldBack.{HeldBack}
 use Rattle.sky_model.specs.Queues.{NamedQueue, Tick, tick, is_pending}
 use Rattle.sky_model.specs.StepRotation.{held_back, switch_of, rotates, second_steps, lack_second_step, ends_switches, switches_by, switches_of, committed_by}
@@ -155,10 +155,6 @@ is_tick _ = false
 abbrev pub is_switch : QueueMark → Bool
 is_switch (switched q time) = true
 is_switch _ = false
-
-abbrev pub is_rotation : QueueMark → Bool
-is_rotation (switching q t) = true
-is_rotation mark = is_switch mark
 
 abbrev pub is_second : QueueMark → Bool
 is_second (second_step q t) = true
@@ -420,16 +416,6 @@ module _ (p : Mark → Bool) (of_queues : (mark : QueueMark) → is_switch mark 
   each-switches_of d now None = tt
   each-switches_of d now (Some t) = each-switches_by d now t d.queues
 
-  pub each-switches_first : (d : Database) (now : ℤ) (who : ℕ) (stmt : RowStmt) → EachMark p (switches_first d now who stmt)
-  each-switches_first d now who stmt =
-      by_commit (λ s. EachMark p (switches_first d now who s)) (each-switches_of d now (committed_by (d.part.session who).block (d.part.session who).txid))
-      (λ s none. subst (EachMark p) (sym (none d now who)) tt) stmt
-
-  -- so a statement still gives such marks with them
-  pub gives-first : (R : Reply → Type 0) (d : Database) (now : ℤ) (who : ℕ) (stmt : RowStmt) (c : Checked Outcome) → Gives R p c → Gives R p (after_marks_of (switches_first d now who stmt) c)
-  gives-first R d now who stmt (Err refusal) gives = tt
-  gives-first R d now who stmt (Ok outcome) gives = (gives.0, each-append p (switches_first d now who stmt) outcome.marks (each-switches_first d now who stmt) gives.1)
-
 -- a statement on rows, once its writes are recorded, gives what its permit says
 module _ (who : ℕ) (stmt : RowStmt) where
   abbrev row_leaves : MarkKinds
@@ -465,24 +451,12 @@ module _ (who : ℕ) (stmt : RowStmt) where
           (committed_by (d.part.session who).block (d.part.session who).txid))
           (λ r none. subst (EachMark (may_leave (permit_of_row r).kinds (d.part.session who) who)) (sym (none d now who)) tt) r
 
-      gives-switches : (c : Checked Outcome) → Gives AnyReply (may_leave row_leaves (d.part.session who) who) c
-          → Gives AnyReply (may_leave row_leaves (d.part.session who) who) (after_marks_of (switches_first d now who stmt) c)
-      gives-switches (Err refusal) gives = tt
-      gives-switches (Ok o) gives = (tt, each-append (may_leave row_leaves (d.part.session who) who) (switches_first d now who stmt) o.marks (first stmt) gives.1)
-
 -- and with a gate for its writes
 pub gives-gated : {G : Type 0} (R : Reply → Type 0) (p : Mark → Bool) (gate : Gate G) (g : G) (c : Checked Outcome) → Gives R p c → Gives R p (gated gate g c)
 gives-gated R p gate g (Err refusal) given = tt
 gives-gated R p gate g (Ok o) given = search (after)
 
 -- ---- statements on queues
-
--- the marks of a first step, and those of second steps
-pub each-switch_of : (p : Mark → Bool) → ((mark : QueueMark) → is_rotation mark ≡ true → p (queued mark) ≡ true) → (q t : ℕ) (now : ℤ) (b : Block) → EachMark p (switch_of q t now b)
-each-switch_of p of_queues q t now b =
-    by_block (λ c. EachMark p (switch_of q t now c))
-    (each-front p (queued (switching q t)) (queued (switched q now) ∷ []) (of_queues (switching q t) refl) (each-front p (queued (switched q now)) [] (of_queues (switched q now) refl) tt))
-    (each-front p (queued (switching q t)) [] (of_queues (switching q t) refl) tt) (each-front p (queued (switching q t)) [] (of_queues (switching q t) refl) tt) b
 
 pub each-second_steps : (p : Mark → Bool) → ((mark : QueueMark) → is_second mark ≡ true → p (queued mark) ≡ true) → (t : ℕ) (queues : List NamedQueue) → EachMark p (second_steps t queues)
 each-second_steps p of_queues t [] = tt

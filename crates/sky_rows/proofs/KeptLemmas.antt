@@ -113,17 +113,6 @@ older_room old mid given list room = of given room.is
     of None is = older_changed old mid list (Some []) is.1
     of (Some l) is = ap (λ o. unwrap_or o []) (is.1 list) ∙ ap (older_in old) is.0
 
-pub list_empty : (older : OlderView) (list : ℕ) → IsSome (list_in older list) → older_in older list ≡ [] → list_in older list ≡ Some []
-list_empty older list some none = of (list_in older list) some none
-  where
-    of : (o : Option (List Version)) → IsSome o → unwrap_or o [] ≡ [] → o ≡ Some []
-    of None some none = absurd (cc some)
-    of (Some vs) some none = ap Some none
-
-pub both_empty : (vs ws : List Version) → vs ++ ws ≡ [] → (vs ≡ []) × (ws ≡ [])
-both_empty [] ws none = (refl, none)
-both_empty (v ∷ vs) ws none = absurd (cc none)
-
 -- what is tested is whether there are some
 pub none_if : (vs : List Version) (b : Bool) → IsTrue b ↔ (vs ≢ []) → b ≡ false → vs ≡ []
 none_if [] b left none = refl

@@ -1,10 +1,9 @@
 -- What the next word of a line says of a row that begins with a kind.
-use Rattle.std.proofs.Common.{◌≡◌, ◌≢◌, ℕ, ◌+◌, true, false, length, bytes_eq, ap, arith, ◌∙◌, List, [], ◌∷◌, Option, Some, None, Result, Ok, Err, refl, Bor, is_some, option_copied}
+use Rattle.std.proofs.Common.{◌≡◌, ◌≢◌, ℕ, ◌+◌, true, length, ap, arith, ◌∙◌, List, [], ◌∷◌, Option, Some, None, Result, Ok, Err, refl, Bor, is_some, option_copied}
 use Rattle.std.proofs.lemmas.Slice.Eq.{bytes_eq-Decides}
 use Rattle.sky_model.specs.declared.stmt.Stmt.{Stmt}
 use Rattle.sky_model.specs.Kinds.{Kind, Of, value}
-use Rattle.sky_model.specs.declared.line.Fixed.{Fixed}
-use Rattle.sky_model.specs.Grammar.{GrammarRow, stop, literal, either, many, some_last, some_until, text_of}
+use Rattle.sky_model.specs.Grammar.{GrammarRow, stop, either, many, some_last, text_of}
 use Rattle.sky_model.proofs.FirstWords.{HasFirst, has_first}
 use Rattle.sky_script.specs.declared.cause.LineCause.{LineCause}
 use Rattle.sky_script.specs.declared.cause.LineCause.TheVariants.{BadWord, NoMemory}
@@ -63,19 +62,12 @@ pub has_first_in : (rest : Option (Bor (List ℕ))) → is_some rest ≡ true �
 has_first_in None more = absurd (cc)
 has_first_in (Some bytes) more = has_first bytes.now
 
--- the next word is the fixed one
-pub goes_fixed : (fixed : Fixed) (w : List ℕ) (old new : Unread) (r : Result Stmt LineCause) (row : GrammarRow)
-    → old.left ≡ w ∷ new.left → new.number ≡ old.number + 1 → bytes_eq w (text_of fixed) ≡ true → Answers r row new → Answers r (literal fixed row) old
 unfolding Answers
 goes_fixed fixed w old new r row first number same rest = rw (first, same, ← number) rest
 
--- the next word is another
-pub stops_fixed : (fixed : Fixed) (w : List ℕ) (ws : List (List ℕ)) (old : Unread) (row : GrammarRow) → old.left ≡ w ∷ ws → bytes_eq w (text_of fixed) ≡ false → Answers (Err (BadWord old.number)) (literal fixed row) old
 unfolding Answers
 stops_fixed fixed w ws old row first other = rw (first, other) refl
 
--- no word is left
-pub stops_fixed_end : (fixed : Fixed) (old : Unread) (row : GrammarRow) → old.left ≡ [] → Answers (Err (BadWord old.number)) (literal fixed row) old
 unfolding Answers
 stops_fixed_end fixed old row none = rw none refl
 
@@ -91,22 +83,13 @@ many_goes_on k r make at some rest =
     let first = has_first_of at.left some in
     rw first.is (rw first.is at rest)
 
--- any words end before a fixed word that isn't of their kind
-pub many_ends_at : (fixed : Fixed) (k : Kind) (w : List ℕ) (ws : List (List ℕ)) (r : Result Stmt LineCause) (f : List (Of k) → GrammarRow) (at : Unread)
-    → at.left ≡ w ∷ ws → bytes_eq w (text_of fixed) ≡ true → value k (text_of fixed) ≡ None → Answers r (literal fixed (f [])) at → Answers r (many k (λ vs. literal fixed (f vs))) at
 unfolding Answers
 many_ends_at fixed k w ws r f at first same none rest =
     let worthless : value k w ≡ None = ap (value k) ((bytes_eq-Decides w (text_of fixed)).0 same) ∙ none in
     rw (first, same, worthless) (rw (first, same) at rest)
 
--- any words continue before another word
-pub many_goes_on_at : (fixed : Fixed) (k : Kind) (w : List ℕ) (ws : List (List ℕ)) (r : Result Stmt LineCause) (f : List (Of k) → GrammarRow) (at : Unread)
-    → at.left ≡ w ∷ ws → bytes_eq w (text_of fixed) ≡ false → Answers r (some_until fixed k f) at → Answers r (many k (λ vs. literal fixed (f vs))) at
 unfolding Answers
 many_goes_on_at fixed k w ws r f at first other rest = rw (first, other) (rw first at rest)
 
--- and if no word is left
-pub many_goes_on_end : (fixed : Fixed) (k : Kind) (r : Result Stmt LineCause) (f : List (Of k) → GrammarRow) (at : Unread)
-    → at.left ≡ [] → Answers r (some_until fixed k f) at → Answers r (many k (λ vs. literal fixed (f vs))) at
 unfolding Answers
 many_goes_on_end fixed k r f at none rest = rw none (rw none at rest)
