@@ -1,4 +1,4 @@
--- Copies of tables: what the transaction of one may write, and what it writes.
+-- Copies of tables: which table one may be of, what its transaction may write, and what it writes.
 use Rattle.std.specs.Prelude.{◌≡◌, ℕ, List, Some, None, true}
 use Rattle.sky_val.specs.declared.val.Val.{Val}
 use Rattle.sky_val.specs.declared.column.Column.{Column}
