@@ -10,7 +10,7 @@ ghost use Rattle.sky_model.specs.State.{after_marks};
 ghost use Rattle.sky_model.specs.StepRotation.{switch_of, maint_rotate_step1, rotates_by_itself, maint_rotate_step2};
 ghost use Rattle.sky_model.specs.Stops.{Stops};
 ghost use Rattle.sky_model.specs.declared.reply.Reply.TheVariants.{Number};
-ghost use Rattle.sky_session.specs.Committing.{commits_of};
+ghost use Rattle.sky_session.specs.Committing.{commits_of, committed_in};
 ghost use Rattle.sky_state.specs.Seen.{seen};
 ghost use Rattle.pgq_queues.specs.Batches.{StillStand};
 ghost use Rattle.pgq_queues.specs.Seen.{Beside, seen_with, queue_at, Stands};
@@ -130,8 +130,18 @@ pub(crate) fn switch_before_commit(
     ensures rest { KeepsRest queues.old queues.new }
 {
     let checked = rows.check_commit(who);
-    if let Ok(Some(txid)) = &checked {
-        queues.switch_tables(*txid, now);
+    if let Some(txid) = committed(&checked) {
+        queues.switch_tables(txid, now);
     }
     checked
+}
+
+/// The transaction that a `commit` which was checked makes permanent, if there is one.
+fn committed(checked: &Result<Option<u64>, Refusal>) -> Option<u64>
+    ensures { result ≡ committed_in checked.now }
+{
+    match checked {
+        Ok(txid) => *txid,
+        Err(_) => None,
+    }
 }

@@ -22,6 +22,6 @@ returns-in_ok-put_with_extra-in-Some c =
     let e = c.args.event in
     let whole : Option Extra → Event = made_event e.ev_id e.ev_time e.ev_txid e.ev_type e.ev_data in
     record {
-      mark = marked-as _ _ c.put_with_extra.new.queues (λ _. put c.args.queue (whole (Some c.in-Some.extra.now))) c.self.view_is c.in_ok-put_with_extra-in-Some.ensures.mark
+      mark = marked-as _ _ c.put_with_extra.new.queues (λ _. put c.args.queue (whole (Some c.in-Some.extra))) c.self.view_is c.in_ok-put_with_extra-in-Some.ensures.mark
           ∙ ap (λ (x : Option Extra). after_mark (seen_database c.args.self.now) (queued (put c.args.queue (whole x)))) (sym c.in-Some.is);
     }
