@@ -51,13 +51,18 @@ def read_steps(path, section, crates):
             yield cells_of[0], re.sub(r'[`*]', '', cells_of[1]), named
 
 
+# A crate that another calls through a trait, and the crate with the trait.
+THROUGH = {'pgq_db': 'sky_store'}
+
+
 def calls_of(crates, steps, begin):
     """Who calls whom on the way, and the steps of each crate. A crate is called by the last one that is at work and stands
-    on it directly; a step without a name is in the crate of the step before."""
+    on it directly, or on the crate with the trait through which it is called; a step without a name is in the crate of
+    the step before."""
     at_work, calls, numbers = list(begin), list(zip(begin, begin[1:])), {}
     for step, _, named in steps:
         for name in named or [at_work[-1]]:
-            while at_work[-1] != name and name not in crates.below[at_work[-1]]:
+            while at_work[-1] != name and not {name, THROUGH.get(name)} & set(crates.below[at_work[-1]]):
                 at_work.pop()
             if at_work[-1] != name:
                 calls.append((at_work[-1], name))

@@ -1,4 +1,5 @@
 use anyhow::bail;
+use pgq_db::Db;
 use sky_model::{Line, Replies, Reply};
 use sky_script::parse_line;
 use sky_val::{Event, Text};
@@ -9,7 +10,7 @@ use std::alloc::Global;
 #[derive(Drop)]
 pub struct Post {
     alloc: Global,
-    world: World,
+    world: World<Db>,
 }
 
 impl Post {

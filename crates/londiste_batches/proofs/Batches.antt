@@ -13,8 +13,8 @@ use Rattle.sky_model.specs.DatabaseSteps.{IsMade}
 use Rattle.sky_model.specs.WorkerMoves.{Move}
 use Rattle.sky_model.specs.BatchMoves.{Follower, events_of_batch, has_applied, applies_in_hand}
 use Rattle.sky_histories.proofs.MadeCopies.{picked-uncopied}
-use Rattle.pgq_db.specs.Applying.{IsBad}
-use Rattle.pgq_db.specs.Served.{Serves}
+use Rattle.sky_store.specs.Applying.{IsBad}
+use Rattle.sky_store.specs.Served.{Serves}
 use Rattle.londiste_batches.specs.Moved.{MovesBy}
 use Rattle.londiste_batches.proofs.Calls.{serves-one}
 

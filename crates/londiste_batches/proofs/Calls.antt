@@ -6,8 +6,8 @@ use Rattle.sky_model.specs.Daemon.{quietly}
 use Rattle.sky_model.specs.DatabaseCalls.{served}
 use Rattle.sky_model.specs.DatabaseSteps.{IsMade}
 use Rattle.sky_histories.proofs.MadeCopies.{made-after}
-use Rattle.pgq_db.specs.Served.{Serves}
-use Rattle.pgq_db.proofs.NodeSteps.{serves-steps}
+use Rattle.sky_store.specs.Served.{Serves}
+use Rattle.sky_store.proofs.Serving.{serves-steps}
 use Rattle.londiste_batches.specs.Moved.{after_call, after_calls, AllAccepted, ServesAll}
 
 -- no call

@@ -8,8 +8,8 @@ use Rattle.sky_model.specs.Outcome.{Outcome, Checked, ◌>>=◌, marks_of, reply
 use Rattle.sky_model.specs.StepNode.{fetching, node_does}
 use Rattle.sky_model.specs.WorkerMoves.{Move}
 use Rattle.sky_model.specs.BatchMoves.{Follower, taken, takes, takes_next}
-use Rattle.pgq_db.specs.declared.provider.NodeBatch.{NodeBatch}
-use Rattle.pgq_db.specs.Served.{Serves, Takes}
+use Rattle.sky_store.specs.declared.batch.NodeBatch.{NodeBatch}
+use Rattle.sky_store.specs.Served.{Serves, Takes}
 use Rattle.londiste_batches.specs.Moved.{MovesBy}
 use Rattle.londiste_batches.proofs.Calls.{serves-none, serves-one}
 

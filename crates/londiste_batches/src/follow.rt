@@ -8,35 +8,34 @@ ghost use Rattle.sky_model.specs.State.{Database};
 ghost use Rattle.sky_model.specs.StepApply.{may_apply};
 ghost use Rattle.sky_model.specs.StepNode.{set_queue, finishing};
 ghost use Rattle.londiste_calls.specs.Picks.{pick_of};
-ghost use Rattle.pgq_db.specs.Seen.{seen_database};
-ghost use Rattle.pgq_db.specs.Served.{Serves};
+ghost use Rattle.sky_store.specs.Served.{Serves};
 ghost use Rattle.londiste_batches.specs.Moved.{MovesBy, MoveRefused};
 
 use crate::hand::BatchHand;
 use crate::replies::add_reply;
-use pgq_db::{ApplyFault, Db, FetchFault, Pick, WorkerFault};
 use sky_model::Reply;
+use sky_store::{ApplyFault, FetchFault, Pick, Store, WorkerFault};
 use sky_val::Text;
 
 /// What a worker that has come to a tick does with the batch in its hand: it applies the events that it picks, or skips
 /// the batch if it has come to the closing tick before; and then it finishes the batch. If an event can't be applied, the
 /// worker stays where it is. The result is what the worker has in hand then.
-pub fn go_through(
-    provider: &mut Db,
-    replica: &mut Db,
+pub fn go_through<D: Store>(
+    provider: &mut D,
+    replica: &mut D,
     tick: u64,
     pick: &Pick,
     hand: BatchHand,
     replies: &mut Vec<Reply>,
 ) -> Result<Option<BatchHand>, WorkerFault>
-    requires replica_made { IsMade (seen_database replica.old) }
-    requires root { is_some (set_queue (seen_database provider.old)) ≡ true }
-    requires may { may_apply (pick_of pick.now) (seen_database replica.old).node ≡ true }
+    requires replica_made { IsMade (D.seen replica.old) }
+    requires root { is_some (set_queue (D.seen provider.old)) ≡ true }
+    requires may { may_apply (pick_of pick.now) (D.seen replica.old).node ≡ true }
     requires nothing { replies.old.items ≡ [] }
-    ensures moves { IfOk result (λ now. (consumer : List ℕ) → MovesBy (goes_through (seen_database provider.old) (seen_database replica.old) (record { consumer = consumer; tick = tick; pick = pick_of pick.now }) hand)
-        (seen_database provider.old) (seen_database provider.new) (seen_database replica.old) (seen_database replica.new) replies.new.items now) }
-    ensures fault { IfErr result (λ fault. (consumer : List ℕ) → MoveRefused fault (goes_through (seen_database provider.old) (seen_database replica.old) (record { consumer = consumer; tick = tick; pick = pick_of pick.now }) hand)
-        (seen_database provider.old) (seen_database provider.new) (seen_database replica.old) (seen_database replica.new) (Some hand) (Some hand)) }
+    ensures moves { IfOk result (λ now. (consumer : List ℕ) → MovesBy (goes_through (D.seen provider.old) (D.seen replica.old) (record { consumer = consumer; tick = tick; pick = pick_of pick.now }) hand)
+        (D.seen provider.old) (D.seen provider.new) (D.seen replica.old) (D.seen replica.new) replies.new.items now) }
+    ensures fault { IfErr result (λ fault. (consumer : List ℕ) → MoveRefused fault (goes_through (D.seen provider.old) (D.seen replica.old) (record { consumer = consumer; tick = tick; pick = pick_of pick.now }) hand)
+        (D.seen provider.old) (D.seen provider.new) (D.seen replica.old) (D.seen replica.new) (Some hand) (Some hand)) }
 {
     if hand.is_done {
         return finish(provider, hand, replies);
@@ -49,17 +48,17 @@ pub fn go_through(
 }
 
 /// Takes the next batch of a consumer in hand, if the consumer is registered and there is one.
-pub fn take_next(
-    provider: &mut Db,
+pub fn take_next<D: Store>(
+    provider: &mut D,
     consumer: &Text,
     replies: &mut Vec<Reply>,
 ) -> Result<Option<BatchHand>, WorkerFault>
-    requires root { is_some (set_queue (seen_database provider.old)) ≡ true }
+    requires root { is_some (set_queue (D.seen provider.old)) ≡ true }
     requires nothing { replies.old.items ≡ [] }
-    ensures moves { IfOk result (λ now. (r : Database) (tick : ℕ) (pick : history.Pick) → MovesBy (takes_next (seen_database provider.old) (record { consumer = consumer.now; tick = tick; pick = pick }))
-        (seen_database provider.old) (seen_database provider.new) r r replies.new.items now) }
-    ensures fault { IfErr result (λ fault. (r : Database) (tick : ℕ) (pick : history.Pick) → MoveRefused fault (takes_next (seen_database provider.old) (record { consumer = consumer.now; tick = tick; pick = pick }))
-        (seen_database provider.old) (seen_database provider.new) r r None None) }
+    ensures moves { IfOk result (λ now. (r : Database) (tick : ℕ) (pick : history.Pick) → MovesBy (takes_next (D.seen provider.old) (record { consumer = consumer.now; tick = tick; pick = pick }))
+        (D.seen provider.old) (D.seen provider.new) r r replies.new.items now) }
+    ensures fault { IfErr result (λ fault. (r : Database) (tick : ℕ) (pick : history.Pick) → MoveRefused fault (takes_next (D.seen provider.old) (record { consumer = consumer.now; tick = tick; pick = pick }))
+        (D.seen provider.old) (D.seen provider.new) r r None None) }
 {
     if !provider.has_joined(consumer) {
         add_reply(Reply::Idle, replies)?;
@@ -81,20 +80,20 @@ pub fn take_next(
 
 /// The events of the batch in hand that are picked are applied, in one transaction. If one of them can't be, the batch
 /// stays in hand as it is.
-fn apply(
-    provider: &mut Db,
-    replica: &mut Db,
+fn apply<D: Store>(
+    provider: &mut D,
+    replica: &mut D,
     pick: &Pick,
     hand: BatchHand,
     replies: &mut Vec<Reply>,
 ) -> Result<Option<BatchHand>, WorkerFault>
-    requires replica_made { IsMade (seen_database replica.old) }
-    requires may { may_apply (pick_of pick.now) (seen_database replica.old).node ≡ true }
+    requires replica_made { IsMade (D.seen replica.old) }
+    requires may { may_apply (pick_of pick.now) (D.seen replica.old).node ≡ true }
     requires nothing { replies.old.items ≡ [] }
-    ensures moves { IfOk result (λ now. (consumer : List ℕ) (tick : ℕ) → MovesBy (applies_in_hand (seen_database provider.old) (seen_database replica.old) (record { consumer = consumer; tick = tick; pick = pick_of pick.now }) hand)
-        (seen_database provider.old) (seen_database provider.new) (seen_database replica.old) (seen_database replica.new) replies.new.items now) }
-    ensures fault { IfErr result (λ fault. (consumer : List ℕ) (tick : ℕ) → MoveRefused fault (applies_in_hand (seen_database provider.old) (seen_database replica.old) (record { consumer = consumer; tick = tick; pick = pick_of pick.now }) hand)
-        (seen_database provider.old) (seen_database provider.new) (seen_database replica.old) (seen_database replica.new) (Some hand) (Some hand)) }
+    ensures moves { IfOk result (λ now. (consumer : List ℕ) (tick : ℕ) → MovesBy (applies_in_hand (D.seen provider.old) (D.seen replica.old) (record { consumer = consumer; tick = tick; pick = pick_of pick.now }) hand)
+        (D.seen provider.old) (D.seen provider.new) (D.seen replica.old) (D.seen replica.new) replies.new.items now) }
+    ensures fault { IfErr result (λ fault. (consumer : List ℕ) (tick : ℕ) → MoveRefused fault (applies_in_hand (D.seen provider.old) (D.seen replica.old) (record { consumer = consumer; tick = tick; pick = pick_of pick.now }) hand)
+        (D.seen provider.old) (D.seen provider.new) (D.seen replica.old) (D.seen replica.new) (Some hand) (Some hand)) }
 {
     let cur = hand.batch.cur;
     match replica.apply_batch(provider, hand.batch.id, pick, cur) {
@@ -112,14 +111,14 @@ fn apply(
 }
 
 /// The batch in hand is finished.
-fn finish(
-    provider: &mut Db,
+fn finish<D: Store>(
+    provider: &mut D,
     hand: BatchHand,
     replies: &mut Vec<Reply>,
 ) -> Result<Option<BatchHand>, WorkerFault>
-    requires root { is_some (set_queue (seen_database provider.old)) ≡ true }
+    requires root { is_some (set_queue (D.seen provider.old)) ≡ true }
     requires nothing { replies.old.items ≡ [] }
-    ensures moves { IfOk result (λ now. (r : Database) → MovesBy (finishes_in_hand hand) (seen_database provider.old) (seen_database provider.new) r r replies.new.items now) }
+    ensures moves { IfOk result (λ now. (r : Database) → MovesBy (finishes_in_hand hand) (D.seen provider.old) (D.seen provider.new) r r replies.new.items now) }
     ensures fault { IfErr result (λ fault. fault ≡ WorkerFault.NoMemory) }
 {
     finish_active(provider, hand.batch.id);
@@ -128,9 +127,9 @@ fn finish(
 }
 
 /// The batch of this id is finished, if it is active.
-fn finish_active(provider: &mut Db, id: u64)
-    requires root { is_some (set_queue (seen_database provider.old)) ≡ true }
-    ensures { Serves (seen_database provider.old) (seen_database provider.new) (finishing id) }
+fn finish_active<D: Store>(provider: &mut D, id: u64)
+    requires root { is_some (set_queue (D.seen provider.old)) ≡ true }
+    ensures { Serves (D.seen provider.old) (D.seen provider.new) (finishing id) }
 {
     if provider.has_batch(id) {
         provider.finish_node(id);

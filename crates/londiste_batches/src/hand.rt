@@ -2,7 +2,7 @@
 
 ghost use Rattle.std.specs.Prelude.{◌≡◌, false, true};
 
-use pgq_db::NodeBatch;
+use sky_store::NodeBatch;
 use std::marker::Model;
 
 /// A batch in hand, and whether it is done, that is, applied or skipped.

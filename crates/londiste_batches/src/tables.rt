@@ -6,28 +6,27 @@ ghost use Rattle.sky_model.specs.Hands.{BatchHand};
 ghost use Rattle.sky_model.specs.State.{Database};
 ghost use Rattle.sky_model.specs.StepNode.{moving, table_number, may_serve};
 ghost use Rattle.sky_model.specs.WorkerMoves.{moves_to};
-ghost use Rattle.pgq_db.specs.Seen.{seen_database};
 ghost use Rattle.londiste_batches.specs.Moved.{MovesBy};
 
 use crate::replies::add_reply;
 use londiste_state::TableState;
-use pgq_db::Db;
 use sky_model::Reply;
+use sky_store::Store;
 use sky_val::{NoMemory, Text};
 
 /// A table of the leaf, whose number this is, goes into a state, with nothing in hand then.
-pub fn move_table(
-    replica: &mut Db,
+pub fn move_table<D: Store>(
+    replica: &mut D,
     table: Text,
     number: u32,
     to: TableState,
     replies: &mut Vec<Reply>,
 ) -> Result<(), NoMemory>
-    requires replica_made { IsMade (seen_database replica.old) }
-    requires number { table_number (seen_database replica.old) table ≡ Some number }
-    requires may { may_serve (moving table to) (seen_database replica.old).node ≡ true }
+    requires replica_made { IsMade (D.seen replica.old) }
+    requires number { table_number (D.seen replica.old) table ≡ Some number }
+    requires may { may_serve (moving table to) (D.seen replica.old).node ≡ true }
     requires nothing { replies.old.items ≡ [] }
-    ensures { OnOk result ((p : Database) → MovesBy {H = BatchHand} (moves_to to table) p p (seen_database replica.old) (seen_database replica.new) replies.new.items None) }
+    ensures { OnOk result ((p : Database) → MovesBy {H = BatchHand} (moves_to to table) p p (D.seen replica.old) (D.seen replica.new) replies.new.items None) }
 {
     replica.set_state(&table, number, to);
     add_reply(Reply::TableMoved(table, to), replies)

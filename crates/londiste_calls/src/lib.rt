@@ -1,4 +1,4 @@
-//! What the calls of a database for a node take and give, and needs no database to be decided: which events of a batch
+//! What the calls of a database for a node take and give, as far as no database decides it: which events of a batch
 //! a leaf picks, the change of a row that an event records, and why a call is refused.
 #![tactic(auto)]
 

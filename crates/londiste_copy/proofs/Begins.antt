@@ -35,8 +35,8 @@ use Rattle.sky_histories.proofs.NodeDeeds.{is-served}
 use Rattle.sky_histories.proofs.MadeCopies.{room-without}
 use Rattle.londiste_calls.specs.declared.faults.JoinFault.{JoinFault}
 use Rattle.londiste_calls.specs.declared.faults.JoinFault.TheVariants as join
-use Rattle.pgq_db.specs.Served.{Serves, JoinRefused}
-use Rattle.pgq_db.proofs.CopySteps.{tabled-marks}
+use Rattle.sky_store.specs.Served.{Serves, JoinRefused}
+use Rattle.sky_store.proofs.Writing.{tabled-marks}
 use Rattle.londiste_batches.specs.Moved.{ServesAll}
 use Rattle.londiste_copy.specs.Copying.{SameTable, Begun}
 use Rattle.londiste_batches.proofs.Calls.{serves-one, serves-then}

@@ -25,7 +25,7 @@ use Rattle.sky_model.specs.CopyMoves.{catches_up, copier, copy_consumer, copy_ru
 use Rattle.sky_model.proofs.Cases.{by_test}
 use Rattle.londiste_calls.specs.declared.faults.WorkerFault.{WorkerFault}
 use Rattle.londiste_calls.specs.declared.faults.WorkerFault.TheVariants as fault
-use Rattle.pgq_db.specs.Served.{Serves}
+use Rattle.sky_store.specs.Served.{Serves}
 use Rattle.londiste_batches.specs.Moved.{ServesAll, MovesBy, MoveRefused}
 use Rattle.londiste_batches.proofs.Calls.{serves-none, serves-one}
 use Rattle.londiste_copy.specs.CatchingUp.{is_following, the_table, without_batch}

@@ -23,7 +23,7 @@ use Rattle.sky_model.specs.WorkerMoves.{Move, behind_calls}
 use Rattle.sky_model.specs.CopyMoves.{columns_for, copy_running, continues, copies_piece, starts_or_continues, held_snapshot, last_key, next_piece, rows_from, rows_of, starts_copy, under_way}
 use Rattle.sky_model.specs.DatabaseSteps.{IsMade}
 use Rattle.sky_histories.proofs.NodeDeeds.{is-served}
-use Rattle.pgq_db.specs.Served.{Serves}
+use Rattle.sky_store.specs.Served.{Serves}
 use Rattle.londiste_batches.specs.Moved.{ServesAll, MovesAs, MovesBy}
 use Rattle.londiste_copy.specs.Copying.{SameTable, Begun, last_row_key}
 use Rattle.londiste_batches.proofs.Calls.{serves-none, serves-one, serves-then, serves-append}

@@ -10,7 +10,6 @@ ghost use Rattle.sky_model.specs.DatabaseSteps.{IsMade};
 ghost use Rattle.sky_model.specs.History.{copy_of};
 ghost use Rattle.sky_model.specs.StepApply.{may_apply};
 ghost use Rattle.sky_model.specs.StepNode.{set_queue, table_number};
-ghost use Rattle.pgq_db.specs.Seen.{seen_database};
 ghost use Rattle.londiste_batches.specs.Moved.{MovesBy, MoveRefused};
 ghost use Rattle.londiste_copy.specs.CatchingUp.{is_following, progress_of, the_table, without_batch};
 
@@ -18,34 +17,34 @@ use crate::copying::copy_consumer;
 use crate::table::{CopiedTable, Progress, table_at};
 use londiste_batches::{BatchHand, go_through, move_table, take_next};
 use londiste_state::{Node, TableState};
-use pgq_db::{Db, Pick, WorkerFault};
 use sky_model::Reply;
+use sky_store::{Pick, Store, WorkerFault};
 use sky_txid::Snapshot;
 use sky_val::Text;
 use std::alloc::Global;
 
 /// A move for a table that was copied: its batch is gone through. With none in hand, the table catches up or is handed
 /// over, by its state.
-pub(crate) fn follow(
+pub(crate) fn follow<D: Store>(
     alloc: Global,
-    provider: &mut Db,
-    replica: &mut Db,
+    provider: &mut D,
+    replica: &mut D,
     table: &CopiedTable,
     progress: Progress,
     hand: Option<BatchHand>,
     replies: &mut Vec<Reply>,
 ) -> Result<Option<BatchHand>, WorkerFault>
-    requires replica_made { IsMade (seen_database replica.old) }
-    requires root { is_some (set_queue (seen_database provider.old)) ≡ true }
-    requires progress { progress ≡ progress_of (the_table table.now.name.now (seen_database replica.old).node) }
+    requires replica_made { IsMade (D.seen replica.old) }
+    requires root { is_some (set_queue (D.seen provider.old)) ≡ true }
+    requires progress { progress ≡ progress_of (the_table table.now.name.now (D.seen replica.old).node) }
     requires state { is_following progress.state ≡ true }
-    requires may { may_apply (copy_of table.now.name.now) (seen_database replica.old).node ≡ true }
-    requires number { table_number (seen_database replica.old) table.now.name.now ≡ Some table.now.to }
+    requires may { may_apply (copy_of table.now.name.now) (D.seen replica.old).node ≡ true }
+    requires number { table_number (D.seen replica.old) table.now.name.now ≡ Some table.now.to }
     requires nothing { replies.old.items ≡ [] }
-    ensures moves { IfOk result (λ now. MovesBy (goes_through_or (seen_database provider.old) (seen_database replica.old) (the_table table.now.name.now (seen_database replica.old).node) hand (without_batch progress.state (seen_database provider.old) (seen_database replica.old) (the_table table.now.name.now (seen_database replica.old).node)))
-        (seen_database provider.old) (seen_database provider.new) (seen_database replica.old) (seen_database replica.new) replies.new.items now) }
-    ensures fault { IfErr result (λ fault. MoveRefused fault (goes_through_or (seen_database provider.old) (seen_database replica.old) (the_table table.now.name.now (seen_database replica.old).node) hand (without_batch progress.state (seen_database provider.old) (seen_database replica.old) (the_table table.now.name.now (seen_database replica.old).node)))
-        (seen_database provider.old) (seen_database provider.new) (seen_database replica.old) (seen_database replica.new) hand hand) }
+    ensures moves { IfOk result (λ now. MovesBy (goes_through_or (D.seen provider.old) (D.seen replica.old) (the_table table.now.name.now (D.seen replica.old).node) hand (without_batch progress.state (D.seen provider.old) (D.seen replica.old) (the_table table.now.name.now (D.seen replica.old).node)))
+        (D.seen provider.old) (D.seen provider.new) (D.seen replica.old) (D.seen replica.new) replies.new.items now) }
+    ensures fault { IfErr result (λ fault. MoveRefused fault (goes_through_or (D.seen provider.old) (D.seen replica.old) (the_table table.now.name.now (D.seen replica.old).node) hand (without_batch progress.state (D.seen provider.old) (D.seen replica.old) (the_table table.now.name.now (D.seen replica.old).node)))
+        (D.seen provider.old) (D.seen provider.new) (D.seen replica.old) (D.seen replica.new) hand hand) }
 {
     let tick = progress.tick;
     if let Some(hand) = hand {
@@ -58,24 +57,24 @@ pub(crate) fn follow(
 }
 
 /// What is done with a batch in hand of a table whose copy has come to this tick.
-fn go_through_batch(
+fn go_through_batch<D: Store>(
     alloc: Global,
-    provider: &mut Db,
-    replica: &mut Db,
+    provider: &mut D,
+    replica: &mut D,
     table: &CopiedTable,
     tick: u64,
     hand: BatchHand,
     replies: &mut Vec<Reply>,
 ) -> Result<Option<BatchHand>, WorkerFault>
-    requires replica_made { IsMade (seen_database replica.old) }
-    requires root { is_some (set_queue (seen_database provider.old)) ≡ true }
-    requires tick { tick ≡ (the_table table.now.name.now (seen_database replica.old).node).tick }
-    requires may { may_apply (copy_of table.now.name.now) (seen_database replica.old).node ≡ true }
+    requires replica_made { IsMade (D.seen replica.old) }
+    requires root { is_some (set_queue (D.seen provider.old)) ≡ true }
+    requires tick { tick ≡ (the_table table.now.name.now (D.seen replica.old).node).tick }
+    requires may { may_apply (copy_of table.now.name.now) (D.seen replica.old).node ≡ true }
     requires nothing { replies.old.items ≡ [] }
-    ensures moves { IfOk result (λ now. MovesBy (goes_through (seen_database provider.old) (seen_database replica.old) (copier (seen_database replica.old).node (the_table table.now.name.now (seen_database replica.old).node)) hand)
-        (seen_database provider.old) (seen_database provider.new) (seen_database replica.old) (seen_database replica.new) replies.new.items now) }
-    ensures fault { IfErr result (λ fault. MoveRefused fault (goes_through (seen_database provider.old) (seen_database replica.old) (copier (seen_database replica.old).node (the_table table.now.name.now (seen_database replica.old).node)) hand)
-        (seen_database provider.old) (seen_database provider.new) (seen_database replica.old) (seen_database replica.new) (Some hand) (Some hand)) }
+    ensures moves { IfOk result (λ now. MovesBy (goes_through (D.seen provider.old) (D.seen replica.old) (copier (D.seen replica.old).node (the_table table.now.name.now (D.seen replica.old).node)) hand)
+        (D.seen provider.old) (D.seen provider.new) (D.seen replica.old) (D.seen replica.new) replies.new.items now) }
+    ensures fault { IfErr result (λ fault. MoveRefused fault (goes_through (D.seen provider.old) (D.seen replica.old) (copier (D.seen replica.old).node (the_table table.now.name.now (D.seen replica.old).node)) hand)
+        (D.seen provider.old) (D.seen provider.new) (D.seen replica.old) (D.seen replica.new) (Some hand) (Some hand)) }
 {
     let pick = Pick::CopyOf(table.name.copy(alloc)?);
     go_through(provider, replica, tick, &pick, hand, replies)
@@ -83,24 +82,24 @@ fn go_through_batch(
 
 /// A table whose copy has come to this tick catches up: once it has caught up, it waits until the leaf has come to that
 /// tick.
-fn catch_up(
+fn catch_up<D: Store>(
     alloc: Global,
-    provider: &mut Db,
-    replica: &mut Db,
+    provider: &mut D,
+    replica: &mut D,
     table: &CopiedTable,
     reached: u64,
     replies: &mut Vec<Reply>,
 ) -> Result<Option<BatchHand>, WorkerFault>
-    requires replica_made { IsMade (seen_database replica.old) }
-    requires root { is_some (set_queue (seen_database provider.old)) ≡ true }
-    requires state { (the_table table.now.name.now (seen_database replica.old).node).state ≡ state.CatchingUp }
-    requires reached { reached ≡ (the_table table.now.name.now (seen_database replica.old).node).tick }
-    requires number { table_number (seen_database replica.old) table.now.name.now ≡ Some table.now.to }
+    requires replica_made { IsMade (D.seen replica.old) }
+    requires root { is_some (set_queue (D.seen provider.old)) ≡ true }
+    requires state { (the_table table.now.name.now (D.seen replica.old).node).state ≡ state.CatchingUp }
+    requires reached { reached ≡ (the_table table.now.name.now (D.seen replica.old).node).tick }
+    requires number { table_number (D.seen replica.old) table.now.name.now ≡ Some table.now.to }
     requires nothing { replies.old.items ≡ [] }
-    ensures moves { IfOk result (λ now. MovesBy (catches_up (seen_database provider.old) (seen_database replica.old) (the_table table.now.name.now (seen_database replica.old).node))
-        (seen_database provider.old) (seen_database provider.new) (seen_database replica.old) (seen_database replica.new) replies.new.items now) }
-    ensures fault { IfErr result (λ fault. MoveRefused fault (catches_up (seen_database provider.old) (seen_database replica.old) (the_table table.now.name.now (seen_database replica.old).node))
-        (seen_database provider.old) (seen_database provider.new) (seen_database replica.old) (seen_database replica.new) None None) }
+    ensures moves { IfOk result (λ now. MovesBy (catches_up (D.seen provider.old) (D.seen replica.old) (the_table table.now.name.now (D.seen replica.old).node))
+        (D.seen provider.old) (D.seen provider.new) (D.seen replica.old) (D.seen replica.new) replies.new.items now) }
+    ensures fault { IfErr result (λ fault. MoveRefused fault (catches_up (D.seen provider.old) (D.seen replica.old) (the_table table.now.name.now (D.seen replica.old).node))
+        (D.seen provider.old) (D.seen provider.new) (D.seen replica.old) (D.seen replica.new) None None) }
 {
     if has_caught_up(provider, replica.node(), table.name) {
         let name = table.name.copy(alloc)?;
@@ -113,25 +112,25 @@ fn catch_up(
 
 /// A table whose copy has come to this tick is handed over at a tick: once its copy has come to that tick, it is in
 /// sync, and the consumer of its copy leaves.
-fn hand_over(
+fn hand_over<D: Store>(
     alloc: Global,
-    provider: &mut Db,
-    replica: &mut Db,
+    provider: &mut D,
+    replica: &mut D,
     table: &CopiedTable,
     reached: u64,
     at: u64,
     replies: &mut Vec<Reply>,
 ) -> Result<Option<BatchHand>, WorkerFault>
-    requires replica_made { IsMade (seen_database replica.old) }
-    requires root { is_some (set_queue (seen_database provider.old)) ≡ true }
-    requires state { (the_table table.now.name.now (seen_database replica.old).node).state ≡ state.DoSync at }
-    requires reached { reached ≡ (the_table table.now.name.now (seen_database replica.old).node).tick }
-    requires number { table_number (seen_database replica.old) table.now.name.now ≡ Some table.now.to }
+    requires replica_made { IsMade (D.seen replica.old) }
+    requires root { is_some (set_queue (D.seen provider.old)) ≡ true }
+    requires state { (the_table table.now.name.now (D.seen replica.old).node).state ≡ state.DoSync at }
+    requires reached { reached ≡ (the_table table.now.name.now (D.seen replica.old).node).tick }
+    requires number { table_number (D.seen replica.old) table.now.name.now ≡ Some table.now.to }
     requires nothing { replies.old.items ≡ [] }
-    ensures moves { IfOk result (λ now. MovesBy (hands_over (seen_database provider.old) (seen_database replica.old) at (the_table table.now.name.now (seen_database replica.old).node))
-        (seen_database provider.old) (seen_database provider.new) (seen_database replica.old) (seen_database replica.new) replies.new.items now) }
-    ensures fault { IfErr result (λ fault. MoveRefused fault (hands_over (seen_database provider.old) (seen_database replica.old) at (the_table table.now.name.now (seen_database replica.old).node))
-        (seen_database provider.old) (seen_database provider.new) (seen_database replica.old) (seen_database replica.new) None None) }
+    ensures moves { IfOk result (λ now. MovesBy (hands_over (D.seen provider.old) (D.seen replica.old) at (the_table table.now.name.now (D.seen replica.old).node))
+        (D.seen provider.old) (D.seen provider.new) (D.seen replica.old) (D.seen replica.new) replies.new.items now) }
+    ensures fault { IfErr result (λ fault. MoveRefused fault (hands_over (D.seen provider.old) (D.seen replica.old) at (the_table table.now.name.now (D.seen replica.old).node))
+        (D.seen provider.old) (D.seen provider.new) (D.seen replica.old) (D.seen replica.new) None None) }
 {
     if reached != at {
         return take_copy_batch(alloc, provider, replica, replies);
@@ -144,27 +143,27 @@ fn hand_over(
 }
 
 /// Takes the next batch of the copies' consumer in hand, if there is one.
-fn take_copy_batch(
+fn take_copy_batch<D: Store>(
     alloc: Global,
-    provider: &mut Db,
-    replica: &Db,
+    provider: &mut D,
+    replica: &D,
     replies: &mut Vec<Reply>,
 ) -> Result<Option<BatchHand>, WorkerFault>
-    requires root { is_some (set_queue (seen_database provider.old)) ≡ true }
+    requires root { is_some (set_queue (D.seen provider.old)) ≡ true }
     requires nothing { replies.old.items ≡ [] }
-    ensures moves { IfOk result (λ now. (t : LeafTable) → MovesBy (takes_next (seen_database provider.old) (copier (seen_database replica.now).node t))
-        (seen_database provider.old) (seen_database provider.new) (seen_database replica.now) (seen_database replica.now) replies.new.items now) }
-    ensures fault { IfErr result (λ fault. (t : LeafTable) → MoveRefused fault (takes_next (seen_database provider.old) (copier (seen_database replica.now).node t))
-        (seen_database provider.old) (seen_database provider.new) (seen_database replica.now) (seen_database replica.now) None None) }
+    ensures moves { IfOk result (λ now. (t : LeafTable) → MovesBy (takes_next (D.seen provider.old) (copier (D.seen replica.now).node t))
+        (D.seen provider.old) (D.seen provider.new) (D.seen replica.now) (D.seen replica.now) replies.new.items now) }
+    ensures fault { IfErr result (λ fault. (t : LeafTable) → MoveRefused fault (takes_next (D.seen provider.old) (copier (D.seen replica.now).node t))
+        (D.seen provider.old) (D.seen provider.new) (D.seen replica.now) (D.seen replica.now) None None) }
 {
     let consumer = copy_consumer(alloc, replica.node())?;
     take_next(provider, &consumer, replies)
 }
 
 /// Whether each transaction that had ended when the table was copied has ended at the tick that its copy has come to.
-fn has_caught_up(provider: &Db, node: Option<&Node>, table: &Text) -> bool
-    requires { is_some (set_queue (seen_database provider.now)) ≡ true }
-    ensures { result ≡ has_caught_up (seen_database provider.now) (the_table table.now (option_copied node.entry)) }
+fn has_caught_up<D: Store>(provider: &D, node: Option<&Node>, table: &Text) -> bool
+    requires { is_some (set_queue (D.seen provider.now)) ≡ true }
+    ensures { result ≡ has_caught_up (D.seen provider.now) (the_table table.now (option_copied node.entry)) }
 {
     let Some(table) = table_at(node, table) else {
         return false;

@@ -6,7 +6,6 @@ ghost use Rattle.sky_model.specs.Copies.{copy_txid};
 ghost use Rattle.sky_model.specs.CopyMoves.{copy_consumer, continues, held_snapshot, lets_go_for, next_piece, starts_copy, under_way};
 ghost use Rattle.sky_model.specs.DatabaseSteps.{IsMade};
 ghost use Rattle.sky_model.specs.StepNode.{set_queue, may_copy, giving_up_copy};
-ghost use Rattle.pgq_db.specs.Seen.{seen_database};
 ghost use Rattle.londiste_batches.specs.Moved.{ServesAll, MovesAs, MovesBy, MoveRefused};
 ghost use Rattle.londiste_copy.specs.Copying.{Begun, SameTable, last_row_key};
 
@@ -14,8 +13,8 @@ use crate::hand::CopyHand;
 use crate::table::{CopiedTable, progress_of};
 use londiste_batches::add_reply;
 use londiste_state::{Node, TableState};
-use pgq_db::{Db, JoinFault, WorkerFault};
 use sky_model::Reply;
+use sky_store::{JoinFault, Store, WorkerFault};
 use sky_val::{Key, NoMemory, Row, Schema, Text};
 use std::alloc::Global;
 
@@ -23,24 +22,24 @@ use std::alloc::Global;
 const PIECE: usize = 1000;
 
 /// A copy begins, and the first rows are copied.
-pub(crate) fn start_copy(
+pub(crate) fn start_copy<D: Store>(
     alloc: Global,
-    provider: &mut Db,
-    replica: &mut Db,
+    provider: &mut D,
+    replica: &mut D,
     table: &CopiedTable,
     replies: &mut Vec<Reply>,
 ) -> Result<Option<CopyHand>, WorkerFault>
-    requires provider_made { IsMade (seen_database provider.old) }
-    requires replica_made { IsMade (seen_database replica.old) }
-    requires root { is_some (set_queue (seen_database provider.old)) ≡ true }
-    requires same { SameTable (seen_database provider.old) (seen_database replica.old) table.now.name.now table.now.from table.now.to }
-    requires may { may_copy table.now.name.now (seen_database replica.old).node ≡ true }
-    requires idle { copy_txid table.now.to (seen_database replica.old).copies ≡ None }
+    requires provider_made { IsMade (D.seen provider.old) }
+    requires replica_made { IsMade (D.seen replica.old) }
+    requires root { is_some (set_queue (D.seen provider.old)) ≡ true }
+    requires same { SameTable (D.seen provider.old) (D.seen replica.old) table.now.name.now table.now.from table.now.to }
+    requires may { may_copy table.now.name.now (D.seen replica.old).node ≡ true }
+    requires idle { copy_txid table.now.to (D.seen replica.old).copies ≡ None }
     requires nothing { replies.old.items ≡ [] }
-    ensures moves { IfOk result (λ now. MovesBy (starts_copy (seen_database provider.old) (seen_database replica.old) table.now.name.now)
-        (seen_database provider.old) (seen_database provider.new) (seen_database replica.old) (seen_database replica.new) replies.new.items now) }
-    ensures fault { IfErr result (λ fault. MoveRefused fault (starts_copy (seen_database provider.old) (seen_database replica.old) table.now.name.now)
-        (seen_database provider.old) (seen_database provider.new) (seen_database replica.old) (seen_database replica.new) None None) }
+    ensures moves { IfOk result (λ now. MovesBy (starts_copy (D.seen provider.old) (D.seen replica.old) table.now.name.now)
+        (D.seen provider.old) (D.seen provider.new) (D.seen replica.old) (D.seen replica.new) replies.new.items now) }
+    ensures fault { IfErr result (λ fault. MoveRefused fault (starts_copy (D.seen provider.old) (D.seen replica.old) table.now.name.now)
+        (D.seen provider.old) (D.seen provider.new) (D.seen replica.old) (D.seen replica.new) None None) }
 {
     let hand = begin(alloc, provider, replica, table)?;
     let hand = copy_piece(alloc, provider, replica, table, hand, replies)?;
@@ -48,21 +47,21 @@ pub(crate) fn start_copy(
 }
 
 /// A copy that runs goes on with the next rows. If it isn't in hand, it is waited for.
-pub(crate) fn continue_copy(
+pub(crate) fn continue_copy<D: Store>(
     alloc: Global,
-    provider: &mut Db,
-    replica: &mut Db,
+    provider: &mut D,
+    replica: &mut D,
     table: &CopiedTable,
     hand: Option<CopyHand>,
     replies: &mut Vec<Reply>,
 ) -> Result<Option<CopyHand>, NoMemory>
-    requires provider_made { IsMade (seen_database provider.old) }
-    requires replica_made { IsMade (seen_database replica.old) }
-    requires same { SameTable (seen_database provider.old) (seen_database replica.old) table.now.name.now table.now.from table.now.to }
-    requires may { may_copy table.now.name.now (seen_database replica.old).node ≡ true }
+    requires provider_made { IsMade (D.seen provider.old) }
+    requires replica_made { IsMade (D.seen replica.old) }
+    requires same { SameTable (D.seen provider.old) (D.seen replica.old) table.now.name.now table.now.from table.now.to }
+    requires may { may_copy table.now.name.now (D.seen replica.old).node ≡ true }
     requires nothing { replies.old.items ≡ [] }
-    ensures { IfOk result (λ now. MovesBy (continues (seen_database provider.old) table.now.name.now hand (under_way (seen_database provider.old) hand))
-        (seen_database provider.old) (seen_database provider.new) (seen_database replica.old) (seen_database replica.new) replies.new.items now) }
+    ensures { IfOk result (λ now. MovesBy (continues (D.seen provider.old) table.now.name.now hand (under_way (D.seen provider.old) hand))
+        (D.seen provider.old) (D.seen provider.new) (D.seen replica.old) (D.seen replica.new) replies.new.items now) }
 {
     match hand {
         Some(hand) if provider.is_held(hand.hold) => {
@@ -77,21 +76,21 @@ pub(crate) fn continue_copy(
 
 /// A copy begins: its consumer registers at the newest tick, the present snapshot is held, and the rows that the table
 /// has are deleted.
-fn begin(
+fn begin<D: Store>(
     alloc: Global,
-    provider: &mut Db,
-    replica: &mut Db,
+    provider: &mut D,
+    replica: &mut D,
     table: &CopiedTable,
 ) -> Result<CopyHand, WorkerFault>
-    requires provider_made { IsMade (seen_database provider.old) }
-    requires replica_made { IsMade (seen_database replica.old) }
-    requires same { SameTable (seen_database provider.old) (seen_database replica.old) table.now.name.now table.now.from table.now.to }
-    requires root { is_some (set_queue (seen_database provider.old)) ≡ true }
-    requires idle { copy_txid table.now.to (seen_database replica.old).copies ≡ None }
-    requires may { may_copy table.now.name.now (seen_database replica.old).node ≡ true }
-    ensures begun { IfOk result (λ hand. Begun (seen_database provider.old) (seen_database provider.new) (seen_database replica.old) (seen_database replica.new) table.now.name.now hand) }
-    ensures fault { IfErr result (λ fault. MoveRefused fault (starts_copy (seen_database provider.old) (seen_database replica.old) table.now.name.now)
-        (seen_database provider.old) (seen_database provider.new) (seen_database replica.old) (seen_database replica.new) None None) }
+    requires provider_made { IsMade (D.seen provider.old) }
+    requires replica_made { IsMade (D.seen replica.old) }
+    requires same { SameTable (D.seen provider.old) (D.seen replica.old) table.now.name.now table.now.from table.now.to }
+    requires root { is_some (set_queue (D.seen provider.old)) ≡ true }
+    requires idle { copy_txid table.now.to (D.seen replica.old).copies ≡ None }
+    requires may { may_copy table.now.name.now (D.seen replica.old).node ≡ true }
+    ensures begun { IfOk result (λ hand. Begun (D.seen provider.old) (D.seen provider.new) (D.seen replica.old) (D.seen replica.new) table.now.name.now hand) }
+    ensures fault { IfErr result (λ fault. MoveRefused fault (starts_copy (D.seen provider.old) (D.seen replica.old) table.now.name.now)
+        (D.seen provider.old) (D.seen provider.new) (D.seen replica.old) (D.seen replica.new) None None) }
 {
     let consumer = copy_consumer(alloc, replica.node())?;
     if provider.full(&consumer) {
@@ -117,23 +116,23 @@ fn begin(
 }
 
 /// The next rows are copied. If they are the last, the copy ends.
-fn copy_piece(
+fn copy_piece<D: Store>(
     alloc: Global,
-    provider: &mut Db,
-    replica: &mut Db,
+    provider: &mut D,
+    replica: &mut D,
     table: &CopiedTable,
     hand: CopyHand,
     replies: &mut Vec<Reply>,
 ) -> Result<Option<CopyHand>, NoMemory>
-    requires provider_made { IsMade (seen_database provider.old) }
-    requires replica_made { IsMade (seen_database replica.old) }
-    requires same { SameTable (seen_database provider.old) (seen_database replica.old) table.now.name.now table.now.from table.now.to }
-    requires held { is_some (held_snapshot (seen_database provider.old) hand.hold) ≡ true }
-    requires may { may_copy table.now.name.now (seen_database replica.old).node ≡ true }
+    requires provider_made { IsMade (D.seen provider.old) }
+    requires replica_made { IsMade (D.seen replica.old) }
+    requires same { SameTable (D.seen provider.old) (D.seen replica.old) table.now.name.now table.now.from table.now.to }
+    requires held { is_some (held_snapshot (D.seen provider.old) hand.hold) ≡ true }
+    requires may { may_copy table.now.name.now (D.seen replica.old).node ≡ true }
     requires nothing { replies.old.items ≡ [] }
-    ensures { IfOk result (λ now. IfSome (held_snapshot (seen_database provider.old) hand.hold) (λ snapshot.
-        MovesAs (next_piece (seen_database provider.old) table.now.name.now snapshot hand)
-        (seen_database provider.old) (seen_database provider.new) (seen_database replica.old) (seen_database replica.new) replies.new.items now)) }
+    ensures { IfOk result (λ now. IfSome (held_snapshot (D.seen provider.old) hand.hold) (λ snapshot.
+        MovesAs (next_piece (D.seen provider.old) table.now.name.now snapshot hand)
+        (D.seen provider.old) (D.seen provider.new) (D.seen replica.old) (D.seen replica.new) replies.new.items now)) }
 {
     let CopyHand { hold, tick, last } = hand;
     let rows = provider.held_rows(hold, table.from, last.as_ref(), PIECE)?;
@@ -153,8 +152,8 @@ fn copy_piece(
 }
 
 /// The snapshot that is held for what was in hand is let go.
-pub(crate) fn let_go(provider: &mut Db, hand: Option<CopyHand>)
-    ensures { ServesAll (seen_database provider.old) (seen_database provider.new) (lets_go_for hand) }
+pub(crate) fn let_go<D: Store>(provider: &mut D, hand: Option<CopyHand>)
+    ensures { ServesAll (D.seen provider.old) (D.seen provider.new) (lets_go_for hand) }
 {
     if let Some(hand) = hand {
         provider.let_go(hand.hold);
@@ -162,9 +161,9 @@ pub(crate) fn let_go(provider: &mut Db, hand: Option<CopyHand>)
 }
 
 /// The copy of a table is given up, if the table is one that is copied.
-pub(crate) fn give_up(replica: &mut Db, table: &Text)
-    requires { IsMade (seen_database replica.old) }
-    ensures { ServesAll (seen_database replica.old) (seen_database replica.new) (giving_up_copy table.now ∷ []) }
+pub(crate) fn give_up<D: Store>(replica: &mut D, table: &Text)
+    requires { IsMade (D.seen replica.old) }
+    ensures { ServesAll (D.seen replica.old) (D.seen replica.new) (giving_up_copy table.now ∷ []) }
 {
     if progress_of(replica.node(), table).state == TableState::InCopy {
         let number = replica.leaf_table(table);

@@ -5,7 +5,6 @@ ghost use Rattle.londiste_state.specs.declared.state.TableState.TheVariants as s
 ghost use Rattle.sky_model.specs.CopyMoves.{copy_move, gives_up_in};
 ghost use Rattle.sky_model.specs.DatabaseSteps.{IsMade};
 ghost use Rattle.sky_model.specs.StepNode.{set_queue, table_number};
-ghost use Rattle.pgq_db.specs.Seen.{seen_database};
 ghost use Rattle.londiste_batches.specs.Moved.{MovesAs, MovesBy, MoveRefused};
 ghost use Rattle.londiste_copy.specs.CatchingUp.{is_following, progress_of, the_table};
 ghost use Rattle.londiste_copy.specs.Copying.{SameTable};
@@ -17,8 +16,8 @@ use crate::hand::{Hand, batch_in, copy_in, of_batch, of_copy};
 use crate::table::{CopiedTable, Progress, progress_of};
 use londiste_batches::add_reply;
 use londiste_state::TableState;
-use pgq_db::{Db, WorkerFault};
 use sky_model::Reply;
+use sky_store::{Store, WorkerFault};
 use sky_val::Text;
 use std::alloc::Global;
 use std::marker::Model;
@@ -63,20 +62,20 @@ impl CopyWorker {
     }
 
     /// One move, and what it prints. On a fault nothing has changed, unless memory ran out.
-    pub fn step(
+    pub fn step<D: Store>(
         &mut self,
-        provider: &mut Db,
-        replica: &mut Db,
+        provider: &mut D,
+        replica: &mut D,
         table: &CopiedTable,
     ) -> Result<Vec<Reply>, WorkerFault>
-        requires provider_made { IsMade (seen_database provider.old) }
-        requires replica_made { IsMade (seen_database replica.old) }
-        requires root { is_some (set_queue (seen_database provider.old)) ≡ true }
-        requires same { SameTable (seen_database provider.old) (seen_database replica.old) table.now.name.now table.now.from table.now.to }
-        ensures moves { IfOk result (λ replies. MovesBy (copy_move (seen_database provider.old) (seen_database replica.old) table.now.name.now self.old)
-            (seen_database provider.old) (seen_database provider.new) (seen_database replica.old) (seen_database replica.new) replies.items self.new) }
-        ensures fault { IfErr result (λ fault. MoveRefused fault (copy_move (seen_database provider.old) (seen_database replica.old) table.now.name.now self.old)
-            (seen_database provider.old) (seen_database provider.new) (seen_database replica.old) (seen_database replica.new) self.old self.new) }
+        requires provider_made { IsMade (D.seen provider.old) }
+        requires replica_made { IsMade (D.seen replica.old) }
+        requires root { is_some (set_queue (D.seen provider.old)) ≡ true }
+        requires same { SameTable (D.seen provider.old) (D.seen replica.old) table.now.name.now table.now.from table.now.to }
+        ensures moves { IfOk result (λ replies. MovesBy (copy_move (D.seen provider.old) (D.seen replica.old) table.now.name.now self.old)
+            (D.seen provider.old) (D.seen provider.new) (D.seen replica.old) (D.seen replica.new) replies.items self.new) }
+        ensures fault { IfErr result (λ fault. MoveRefused fault (copy_move (D.seen provider.old) (D.seen replica.old) table.now.name.now self.old)
+            (D.seen provider.old) (D.seen provider.new) (D.seen replica.old) (D.seen replica.new) self.old self.new) }
     {
         let mut replies = Vec::new(self.alloc);
         self.step_into(provider, replica, table, &mut replies)?;
@@ -84,22 +83,22 @@ impl CopyWorker {
     }
 
     /// The same, with the list for what it prints.
-    fn step_into(
+    fn step_into<D: Store>(
         &mut self,
-        provider: &mut Db,
-        replica: &mut Db,
+        provider: &mut D,
+        replica: &mut D,
         table: &CopiedTable,
         replies: &mut Vec<Reply>,
     ) -> Result<(), WorkerFault>
-        requires provider_made { IsMade (seen_database provider.old) }
-        requires replica_made { IsMade (seen_database replica.old) }
-        requires root { is_some (set_queue (seen_database provider.old)) ≡ true }
-        requires same { SameTable (seen_database provider.old) (seen_database replica.old) table.now.name.now table.now.from table.now.to }
+        requires provider_made { IsMade (D.seen provider.old) }
+        requires replica_made { IsMade (D.seen replica.old) }
+        requires root { is_some (set_queue (D.seen provider.old)) ≡ true }
+        requires same { SameTable (D.seen provider.old) (D.seen replica.old) table.now.name.now table.now.from table.now.to }
         requires nothing { replies.old.items ≡ [] }
-        ensures moves { OnOk result (MovesBy (copy_move (seen_database provider.old) (seen_database replica.old) table.now.name.now self.old)
-            (seen_database provider.old) (seen_database provider.new) (seen_database replica.old) (seen_database replica.new) replies.new.items self.new) }
-        ensures fault { IfErr result (λ fault. MoveRefused fault (copy_move (seen_database provider.old) (seen_database replica.old) table.now.name.now self.old)
-            (seen_database provider.old) (seen_database provider.new) (seen_database replica.old) (seen_database replica.new) self.old self.new) }
+        ensures moves { OnOk result (MovesBy (copy_move (D.seen provider.old) (D.seen replica.old) table.now.name.now self.old)
+            (D.seen provider.old) (D.seen provider.new) (D.seen replica.old) (D.seen replica.new) replies.new.items self.new) }
+        ensures fault { IfErr result (λ fault. MoveRefused fault (copy_move (D.seen provider.old) (D.seen replica.old) table.now.name.now self.old)
+            (D.seen provider.old) (D.seen provider.new) (D.seen replica.old) (D.seen replica.new) self.old self.new) }
     {
         let progress = progress_of(replica.node(), table.name);
         match progress.state {
@@ -119,23 +118,23 @@ impl CopyWorker {
     }
 
     /// A copy begins, unless one runs: then it goes on.
-    fn step_copy(
+    fn step_copy<D: Store>(
         &mut self,
-        provider: &mut Db,
-        replica: &mut Db,
+        provider: &mut D,
+        replica: &mut D,
         table: &CopiedTable,
         replies: &mut Vec<Reply>,
     ) -> Result<(), WorkerFault>
-        requires provider_made { IsMade (seen_database provider.old) }
-        requires replica_made { IsMade (seen_database replica.old) }
-        requires root { is_some (set_queue (seen_database provider.old)) ≡ true }
-        requires state { (the_table table.now.name.now (seen_database replica.old).node).state ≡ state.InCopy }
-        requires same { SameTable (seen_database provider.old) (seen_database replica.old) table.now.name.now table.now.from table.now.to }
+        requires provider_made { IsMade (D.seen provider.old) }
+        requires replica_made { IsMade (D.seen replica.old) }
+        requires root { is_some (set_queue (D.seen provider.old)) ≡ true }
+        requires state { (the_table table.now.name.now (D.seen replica.old).node).state ≡ state.InCopy }
+        requires same { SameTable (D.seen provider.old) (D.seen replica.old) table.now.name.now table.now.from table.now.to }
         requires nothing { replies.old.items ≡ [] }
-        ensures moves { OnOk result (MovesBy (copy_move (seen_database provider.old) (seen_database replica.old) table.now.name.now self.old)
-            (seen_database provider.old) (seen_database provider.new) (seen_database replica.old) (seen_database replica.new) replies.new.items self.new) }
-        ensures fault { IfErr result (λ fault. MoveRefused fault (copy_move (seen_database provider.old) (seen_database replica.old) table.now.name.now self.old)
-            (seen_database provider.old) (seen_database provider.new) (seen_database replica.old) (seen_database replica.new) self.old self.new) }
+        ensures moves { OnOk result (MovesBy (copy_move (D.seen provider.old) (D.seen replica.old) table.now.name.now self.old)
+            (D.seen provider.old) (D.seen provider.new) (D.seen replica.old) (D.seen replica.new) replies.new.items self.new) }
+        ensures fault { IfErr result (λ fault. MoveRefused fault (copy_move (D.seen provider.old) (D.seen replica.old) table.now.name.now self.old)
+            (D.seen provider.old) (D.seen provider.new) (D.seen replica.old) (D.seen replica.new) self.old self.new) }
     {
         if replica.copy_of(table.to).is_none() {
             let hand = start_copy(self.alloc, provider, replica, table, replies)?;
@@ -149,24 +148,24 @@ impl CopyWorker {
     }
 
     /// A table that was copied goes through batches. One that wasn't is waited for.
-    fn step_batches(
+    fn step_batches<D: Store>(
         &mut self,
-        provider: &mut Db,
-        replica: &mut Db,
+        provider: &mut D,
+        replica: &mut D,
         table: &CopiedTable,
         progress: Progress,
         replies: &mut Vec<Reply>,
     ) -> Result<(), WorkerFault>
-        requires replica_made { IsMade (seen_database replica.old) }
-        requires root { is_some (set_queue (seen_database provider.old)) ≡ true }
-        requires progress { progress ≡ progress_of (the_table table.now.name.now (seen_database replica.old).node) }
+        requires replica_made { IsMade (D.seen replica.old) }
+        requires root { is_some (set_queue (D.seen provider.old)) ≡ true }
+        requires progress { progress ≡ progress_of (the_table table.now.name.now (D.seen replica.old).node) }
         requires state { is_following progress.state ≡ true }
-        requires number { table_number (seen_database replica.old) table.now.name.now ≡ Some table.now.to }
+        requires number { table_number (D.seen replica.old) table.now.name.now ≡ Some table.now.to }
         requires nothing { replies.old.items ≡ [] }
-        ensures moves { OnOk result (MovesBy (copy_move (seen_database provider.old) (seen_database replica.old) table.now.name.now self.old)
-            (seen_database provider.old) (seen_database provider.new) (seen_database replica.old) (seen_database replica.new) replies.new.items self.new) }
-        ensures fault { IfErr result (λ fault. MoveRefused fault (copy_move (seen_database provider.old) (seen_database replica.old) table.now.name.now self.old)
-            (seen_database provider.old) (seen_database provider.new) (seen_database replica.old) (seen_database replica.new) self.old self.new) }
+        ensures moves { OnOk result (MovesBy (copy_move (D.seen provider.old) (D.seen replica.old) table.now.name.now self.old)
+            (D.seen provider.old) (D.seen provider.new) (D.seen replica.old) (D.seen replica.new) replies.new.items self.new) }
+        ensures fault { IfErr result (λ fault. MoveRefused fault (copy_move (D.seen provider.old) (D.seen replica.old) table.now.name.now self.old)
+            (D.seen provider.old) (D.seen provider.new) (D.seen replica.old) (D.seen replica.new) self.old self.new) }
     {
         if !progress.is_copied {
             add_reply(Reply::AwaitsTable(table.name.copy(self.alloc)?), replies)?;
@@ -181,9 +180,9 @@ impl CopyWorker {
     }
 
     /// What the worker has in hand is lost: a copy that runs is given up, and its snapshot is held no longer.
-    pub fn restart(&mut self, provider: &mut Db, replica: &mut Db, table: &Text)
-        requires replica_made { IsMade (seen_database replica.old) }
-        ensures { MovesAs (gives_up_in table.now self.old) (seen_database provider.old) (seen_database provider.new) (seen_database replica.old) (seen_database replica.new) [] self.new }
+    pub fn restart<D: Store>(&mut self, provider: &mut D, replica: &mut D, table: &Text)
+        requires replica_made { IsMade (D.seen replica.old) }
+        ensures { MovesAs (gives_up_in table.now self.old) (D.seen provider.old) (D.seen provider.new) (D.seen replica.old) (D.seen replica.new) [] self.new }
     {
         let_go(provider, copy_in(self.hand.take()));
         give_up(replica, table);

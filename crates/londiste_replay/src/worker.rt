@@ -8,14 +8,13 @@ ghost use Rattle.sky_model.specs.BatchMoves.{takes_next};
 ghost use Rattle.sky_model.specs.DatabaseSteps.{IsMade};
 ghost use Rattle.sky_model.specs.ReplayMoves.{empty_handed_move, replay_move, replayer};
 ghost use Rattle.sky_model.specs.StepNode.{set_queue};
-ghost use Rattle.pgq_db.specs.Seen.{seen_database};
 ghost use Rattle.londiste_batches.specs.Moved.{MovesBy, MoveRefused};
 
 use crate::tables::{first_in, is_handed_over, is_met, next_to_copy};
 use londiste_batches::{BatchHand, add_reply, go_through, move_table, take_next};
 use londiste_state::{Leaf, Node, TableState};
-use pgq_db::{Db, Pick, WorkerFault};
 use sky_model::Reply;
+use sky_store::{Pick, Store, WorkerFault};
 use std::alloc::Global;
 use std::marker::Model;
 
@@ -58,15 +57,19 @@ impl ReplayWorker {
     }
 
     /// One move, and what it prints. On a fault nothing has changed, unless memory ran out.
-    pub fn step(&mut self, provider: &mut Db, replica: &mut Db) -> Result<Vec<Reply>, WorkerFault>
+    pub fn step<D: Store>(
+        &mut self,
+        provider: &mut D,
+        replica: &mut D,
+    ) -> Result<Vec<Reply>, WorkerFault>
         ghost leaf: { nodes.Leaf }
-        requires replica_made { IsMade (seen_database replica.old) }
-        requires root { is_some (set_queue (seen_database provider.old)) ≡ true }
-        requires leaf { (seen_database replica.old).node ≡ Some (of_leaf leaf) }
-        ensures moves { IfOk result (λ replies. MovesBy (replay_move (seen_database provider.old) (seen_database replica.old) leaf self.old)
-            (seen_database provider.old) (seen_database provider.new) (seen_database replica.old) (seen_database replica.new) replies.items self.new) }
-        ensures fault { IfErr result (λ fault. MoveRefused fault (replay_move (seen_database provider.old) (seen_database replica.old) leaf self.old)
-            (seen_database provider.old) (seen_database provider.new) (seen_database replica.old) (seen_database replica.new) self.old self.new) }
+        requires replica_made { IsMade (D.seen replica.old) }
+        requires root { is_some (set_queue (D.seen provider.old)) ≡ true }
+        requires leaf { (D.seen replica.old).node ≡ Some (of_leaf leaf) }
+        ensures moves { IfOk result (λ replies. MovesBy (replay_move (D.seen provider.old) (D.seen replica.old) leaf self.old)
+            (D.seen provider.old) (D.seen provider.new) (D.seen replica.old) (D.seen replica.new) replies.items self.new) }
+        ensures fault { IfErr result (λ fault. MoveRefused fault (replay_move (D.seen provider.old) (D.seen replica.old) leaf self.old)
+            (D.seen provider.old) (D.seen provider.new) (D.seen replica.old) (D.seen replica.new) self.old self.new) }
     {
         let mut replies = Vec::new(self.alloc);
         let Some(hand) = self.hand else {
@@ -80,21 +83,21 @@ impl ReplayWorker {
 
     /// A move with nothing in hand: a table that is being handed over is waited for; one that the leaf has come up to is
     /// handed over, at the leaf's tick; the next copy is begun; or the next batch is taken.
-    fn step_empty_handed(
+    fn step_empty_handed<D: Store>(
         &self,
-        provider: &mut Db,
-        replica: &mut Db,
+        provider: &mut D,
+        replica: &mut D,
         replies: &mut Vec<Reply>,
     ) -> Result<Option<BatchHand>, WorkerFault>
         ghost leaf: { nodes.Leaf }
-        requires replica_made { IsMade (seen_database replica.old) }
-        requires root { is_some (set_queue (seen_database provider.old)) ≡ true }
-        requires leaf { (seen_database replica.old).node ≡ Some (of_leaf leaf) }
+        requires replica_made { IsMade (D.seen replica.old) }
+        requires root { is_some (set_queue (D.seen provider.old)) ≡ true }
+        requires leaf { (D.seen replica.old).node ≡ Some (of_leaf leaf) }
         requires nothing { replies.old.items ≡ [] }
-        ensures moves { IfOk result (λ now. MovesBy (empty_handed_move (seen_database provider.old) leaf)
-            (seen_database provider.old) (seen_database provider.new) (seen_database replica.old) (seen_database replica.new) replies.new.items now) }
-        ensures fault { IfErr result (λ fault. MoveRefused fault (empty_handed_move (seen_database provider.old) leaf)
-            (seen_database provider.old) (seen_database provider.new) (seen_database replica.old) (seen_database replica.new) None None) }
+        ensures moves { IfOk result (λ now. MovesBy (empty_handed_move (D.seen provider.old) leaf)
+            (D.seen provider.old) (D.seen provider.new) (D.seen replica.old) (D.seen replica.new) replies.new.items now) }
+        ensures fault { IfErr result (λ fault. MoveRefused fault (empty_handed_move (D.seen provider.old) leaf)
+            (D.seen provider.old) (D.seen provider.new) (D.seen replica.old) (D.seen replica.new) None None) }
     {
         let leaf = leaf_in(replica.node());
         if let Some(table) = first_in(leaf, is_handed_over) {
@@ -126,19 +129,19 @@ impl ReplayWorker {
 }
 
 /// Takes the leaf's next batch in hand, if there is one.
-fn take_leaf_batch(
-    provider: &mut Db,
-    replica: &Db,
+fn take_leaf_batch<D: Store>(
+    provider: &mut D,
+    replica: &D,
     replies: &mut Vec<Reply>,
 ) -> Result<Option<BatchHand>, WorkerFault>
     ghost leaf: { nodes.Leaf }
-    requires root { is_some (set_queue (seen_database provider.old)) ≡ true }
-    requires leaf { (seen_database replica.now).node ≡ Some (of_leaf leaf) }
+    requires root { is_some (set_queue (D.seen provider.old)) ≡ true }
+    requires leaf { (D.seen replica.now).node ≡ Some (of_leaf leaf) }
     requires nothing { replies.old.items ≡ [] }
-    ensures moves { IfOk result (λ now. MovesBy (takes_next (seen_database provider.old) (replayer leaf))
-        (seen_database provider.old) (seen_database provider.new) (seen_database replica.now) (seen_database replica.now) replies.new.items now) }
-    ensures fault { IfErr result (λ fault. MoveRefused fault (takes_next (seen_database provider.old) (replayer leaf))
-        (seen_database provider.old) (seen_database provider.new) (seen_database replica.now) (seen_database replica.now) None None) }
+    ensures moves { IfOk result (λ now. MovesBy (takes_next (D.seen provider.old) (replayer leaf))
+        (D.seen provider.old) (D.seen provider.new) (D.seen replica.now) (D.seen replica.now) replies.new.items now) }
+    ensures fault { IfErr result (λ fault. MoveRefused fault (takes_next (D.seen provider.old) (replayer leaf))
+        (D.seen provider.old) (D.seen provider.new) (D.seen replica.now) (D.seen replica.now) None None) }
 {
     let leaf = leaf_in(replica.node());
     take_next(provider, leaf.name(), replies)

@@ -5,7 +5,7 @@ use Rattle.std.proofs.lemmas.List.{length_push, length-append, length-map, map-a
 use Rattle.sky_txid.specs.Snapshot.{SnapshotView}
 use Rattle.pgq_tables.specs.Tables.{Stored, Tables}
 use Rattle.pgq_tables.specs.Views.{LookedView}
-use Rattle.pgq_batch.specs.Looked.{ages, count_below, IsLookedAt, AreLookedAt, lent_events, placed_events}
+use Rattle.pgq_batch.specs.Looked.{ages, count_below, IsLookedAt, AreLookedAt, placed_events}
 use Rattle.pgq_batch.proofs.Keyed.{passing-cons, one_if}
 use Rattle.pgq_batch.proofs.Between.{Between}
 use Rattle.pgq_batch.proofs.Ages.{passing_of, passing_of-more, length-ages}
@@ -72,9 +72,6 @@ looked-push from to ts many looks next l are is pushed = subst (AreLookedAtUpTo 
   ];
 })
 
-pub looked-none : (from to : SnapshotView) (ts : Tables) (looks : List LookedView) → looks ≡ [] → AreLookedAtUpTo from to ts 0 looks
-looked-none from to ts looks none = subst (AreLookedAtUpTo from to ts 0) (sym none) (record { count = refl; each = λ turn l there. absurd (cc there) })
-
 -- ---- what passes of a table, and of those that are left
 
 pub length-next : (q : Stored → Bool) (list : List Stored) (left rest : List (List Stored)) → left ≡ list ∷ rest → length (passing_of q left) ≡ length (filter q list) + length (passing_of q rest)
@@ -106,10 +103,6 @@ pub some-left : (looks lent left rest : List LookedView) (l : LookedView) → lo
 some-left looks lent left rest l whole next =
     let all = ap length (whole ∙ ap (λ xs. lent ++ xs) next) ∙ length-append lent (l ∷ rest) in
     omega arith
-
--- one more is lent
-pub events-push : (found : List (Bor Stored)) (s : Bor Stored) → lent_events (found ++ s ∷ []) ≡ lent_events found ++ s.now.event ∷ []
-events-push found s = map-append (λ (b : Bor Stored). b.now.event) found (s ∷ [])
 
 pub placed-push : (found : List (ℕ × Bor Stored)) (x : ℕ × Bor Stored) → placed_events (found ++ x ∷ []) ≡ placed_events found ++ (x.0, x.1.now.event) ∷ []
 placed-push found x = map-append (λ (y : ℕ × Bor Stored). (y.0, y.1.now.event)) found (x ∷ [])

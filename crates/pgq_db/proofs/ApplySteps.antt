@@ -1,12 +1,12 @@
 -- What the call gives by which a leaf applies a batch.
-use Rattle.std.proofs.Common.{◌≡◌, ℕ, ◌+◌, ◌<◌, Bool, true, false, cond, List, [], ◌∷◌, ◌++◌, All, length, filter, map, Option, Some, None, IfSome, Result, ◌↔◌, Ok, Err, option_and_then, refl, sym, ◌∙◌, ap, subst, if◌then◌else◌}
+use Rattle.std.proofs.Common.{◌≡◌, ℕ, ◌<◌, Bool, true, false, cond, List, [], ◌∷◌, ◌++◌, All, length, filter, map, Option, Some, None, IfSome, Result, ◌↔◌, Ok, Err, option_and_then, refl, sym, ◌∙◌, ap, subst, if◌then◌else◌}
 use Rattle.std.specs.Prelude.{option_map, unwrap_or}
 use Rattle.std.specs.List.{list_any}
 use Rattle.std.proofs.lemmas.List.Elements.{All-nil, All-cons}
 use Rattle.std.proofs.lemmas.List.{length-map}
 use Rattle.sky_val.specs.declared.val.Val.{Val}
 use Rattle.sky_val.specs.declared.event.Event.{Event}
-use Rattle.sky_keys.specs.Versions.{version_of, versions_at, read}
+use Rattle.sky_keys.specs.Versions.{version_of, versions_at}
 use Rattle.sky_names.specs.Places.{place_of}
 use Rattle.sky_names.proofs.PlaceLemmas.{place_of_within}
 use Rattle.sky_trans.specs.declared.trans.TransFault.{TransFault}
@@ -39,16 +39,17 @@ use Rattle.pgq_queues.specs.declared.batch.Span.{Span}
 use Rattle.pgq_queues.specs.EventRule.{event_rule}
 use Rattle.londiste_calls.specs.Faults.{apply_fault_of}
 use Rattle.londiste_apply.specs.Applying.{MayWriteFor, Works}
-use Rattle.pgq_db.specs.Applying.{IsBad, ApplyRefused}
+use Rattle.sky_store.specs.Applying.{IsBad, ApplyRefused}
 use Rattle.pgq_db.specs.Copying.{MayWrite}
 use Rattle.pgq_db.specs.Seen.{with_node, seen_database}
-use Rattle.pgq_db.specs.Served.{Serves}
+use Rattle.sky_store.specs.Served.{Serves}
 use Rattle.pgq_db.specs.Views.{DbView}
 use Rattle.londiste_apply.specs.declared.apply.Work.{Work}
 use Rattle.londiste_calls.specs.declared.faults.ApplyFault.{ApplyFault}
 use Rattle.pgq_db.proofs.CopySteps.{own-fresh, contains-last, next-is}
 use Rattle.pgq_db.proofs.EventsAlike.{undone-shown}
-use Rattle.pgq_db.proofs.NodeSteps.{serves-by, serves-steps}
+use Rattle.pgq_db.proofs.NodeSteps.{serves-by}
+use Rattle.sky_store.proofs.Serving.{serves-steps}
 
 -- ---- the transaction begins
 

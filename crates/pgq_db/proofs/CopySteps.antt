@@ -54,7 +54,8 @@ use Rattle.pgq_db.specs.Agreeing.{Agree}
 use Rattle.pgq_db.specs.Views.{DbView}
 use Rattle.pgq_db.specs.Seen.{with_node, seen_database}
 use Rattle.londiste_calls.specs.declared.faults.CopyFault.{CopyFault}
-use Rattle.pgq_db.specs.Served.{Serves, CopyRefused}
+use Rattle.sky_store.proofs.Writing.{tabled-marks}
+use Rattle.sky_store.specs.Served.{Serves, CopyRefused}
 use Rattle.londiste_calls.specs.Faults.{copy_fault_of}
 use Rattle.pgq_db.specs.Copying.{MayCopy, none_after, is_own_last, MayWrite, deletion, under_key, insertion}
 pub use Rattle.londiste_apply.proofs.Own.{own-with, own-newest, own-fresh}
@@ -143,10 +144,6 @@ module _ {K : Type 0} (write : K → Write) (first now : RowPart) (table t : ℕ
       empty : (ks : List K) → length ks ≡ 0 → ks ≡ []
       empty [] e = refl
       empty (k ∷ ks) e = absurd (omega arith)
-
-pub tabled-marks : (d : Database) (table t : ℕ) (ws : List Write) → after_marks d (copy_writes d.part table t ws) ≡ record d { part = after_part_marks d.part (copy_writes d.part table t ws) }
-tabled-marks d table t [] = refl
-tabled-marks d table t (w ∷ ws) = tabled-marks (after_mark d (copy_write d.part table t w)) table t ws
 
 -- ---- a copy begins
 

@@ -23,7 +23,7 @@ use Rattle.sky_model.specs.StepRotation.{period_ends, held_by_second_step, held_
 use Rattle.sky_model.specs.Reader.{PartReader, database_by_itself, within_part}
 use Rattle.sky_model.specs.Settling.{Turn, behind_marks, and_then}
 use Rattle.sky_model.specs.Daemon.{quietly, ticks_of, moved_by, again_if, retries_of, first_steps_of, second_step_of_all}
-use Rattle.pgq_db.specs.Idle.{queue_idles, all_idle, idles_at, IsIdleUntil}
+use Rattle.sky_store.specs.Idle.{queue_idles, all_idle, idles_at, IsIdleUntil}
 
 -- ---- tests
 

@@ -36,16 +36,14 @@ use Rattle.pgq_queues.specs.Views.{QueuesView}
 use Rattle.pgq_queues.specs.Seen.{seen_with, Beside}
 use Rattle.pgq_db.specs.Views.{DbView}
 use Rattle.pgq_db.specs.Seen.{with_node, seen_database}
-use Rattle.pgq_db.specs.Served.{set_consumers, Serves, ServesUnlessBusy}
+use Rattle.sky_store.proofs.Serving.{serves-steps}
+use Rattle.sky_store.specs.Served.{set_consumers, Serves, ServesUnlessBusy}
 
 -- what a call's definition says was done
 pub serves-by : (old new : Database) (call : NodeCall) (o : Outcome) → node_does old call ≡ Ok o → new ≡ after_marks old o.marks → Serves old new call
 serves-by old new call o does changed = record { accepted = ap is_ok does; changed = changed ∙ ap (λ c. after_marks old (marks_of c)) (sym does) }
 
 -- so its promise is kept
-pub serves-steps : (old new : Database) (call : NodeCall) → Serves old new call → DatabaseSteps old new (served call) (quietly (node_does old call))
-serves-steps old new call serves = database_steps_from_exact old new (served call) serves.changed
-
 pub steps-if : {A E : Type 0} → (r : Result A E) (old new : Database) (call : NodeCall) → OnOk r (Serves old new call) → OnOk r (DatabaseSteps old new (served call) (quietly (node_does old call)))
 steps-if (Ok a) old new call serves = serves-steps old new call serves
 steps-if (Err e) old new call serves = tt

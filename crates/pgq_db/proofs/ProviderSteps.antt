@@ -22,7 +22,7 @@ use Rattle.pgq_queues.specs.Views.{QueuesView}
 use Rattle.pgq_queues.specs.Seen.{queue_at, batch_of, batch_at, seen_with, Beside}
 use Rattle.pgq_db.specs.Views.{DbView}
 use Rattle.pgq_db.specs.Seen.{with_node, seen_database}
-use Rattle.pgq_db.specs.Served.{Serves, Takes}
+use Rattle.sky_store.specs.Served.{Serves, Takes}
 use Rattle.pgq_db.proofs.Databases.{marked-as}
 use Rattle.pgq_db.proofs.NodeSteps.{serves-by}
 

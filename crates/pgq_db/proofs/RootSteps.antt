@@ -18,7 +18,7 @@ use Rattle.sky_state.specs.Seen.{seen}
 use Rattle.pgq_queues.specs.Seen.{seen_with, queues_of}
 use Rattle.pgq_db.specs.Views.{DbView}
 use Rattle.pgq_db.specs.Seen.{with_node, seen_database}
-use Rattle.pgq_db.specs.Served.{Serves}
+use Rattle.sky_store.specs.Served.{Serves}
 use Rattle.pgq_db.proofs.NodeSteps.{serves-by}
 
 -- with an id for its transaction

@@ -1,5 +1,5 @@
 -- The switches of event tables that a `commit` makes come first, and it does all else as it does after them.
-use Rattle.std.proofs.Common.{◌≡◌, ◌≢◌, ℕ, ℤ, List, [], ◌∷◌, ◌++◌, Option, Some, None, Ok, Err, is_ok, append_assoc, refl, sym, ◌∙◌, ap, if◌then◌else◌}
+use Rattle.std.proofs.Common.{◌≡◌, ◌≢◌, ℕ, ℤ, List, [], ◌∷◌, ◌++◌, Option, Some, None, Ok, Err, append_assoc, refl, sym, ◌∙◌, ap, if◌then◌else◌}
 use Rattle.sky_keys.specs.Waits.{is_waiting}
 use Rattle.sky_model.specs.declared.stmt.RowStmt.{RowStmt}
 use Rattle.sky_model.specs.declared.stmt.RowStmt.TheVariants.{Commit}
@@ -10,7 +10,7 @@ use Rattle.sky_model.specs.ShownRows.{rows_by}
 use Rattle.sky_model.specs.Calls.{row_form, row_making, making, row_statement, row_turn, statement, database_turn}
 use Rattle.sky_model.specs.History.{Mark, queued, switched}
 use Rattle.sky_model.specs.Made.{runs_if, made_by}
-use Rattle.sky_model.specs.Outcome.{Outcome, Checked, after_marks_of, or_refused}
+use Rattle.sky_model.specs.Outcome.{Outcome, Checked, ◌>>◌, after_marks_of, or_refused}
 use Rattle.sky_model.specs.Queues.{NamedQueue, is_pending}
 use Rattle.sky_model.specs.Reader.{PartReader, database_by_itself, within_part}
 use Rattle.sky_model.specs.Sessions.{Block, outside, inside, failed, Session}
@@ -24,7 +24,8 @@ use Rattle.sky_histories.proofs.DatabaseStanding.{after_marks-append, behind-all
 use Rattle.sky_histories.proofs.StatementMarks.{SwitchesNone, none-first}
 use Rattle.sky_model.specs.declared.reply.Reply.{Reply}
 use Rattle.pgq_db.specs.Gives.{Adds}
-use Rattle.pgq_db.specs.Switches.{first_switches}
+use Rattle.sky_session.specs.Committing.{commits_of, committed_in}
+use Rattle.pgq_db.specs.Switches.{switches_before_commit}
 
 -- ---- they change queues alone
 
@@ -60,9 +61,9 @@ module _ (d : Database) (now : ℤ) (who : ℕ) where
   abbrev reads : PartReader Database
   reads = within_part database_by_itself now
 
-  -- the switches, whether the statement is allowed or not
+  -- the switches, whether the `commit` is allowed or not
   abbrev switches_if : Checked (Unit {0}) → List Mark
-  switches_if may = switches_of d now (if is_ok may then committed_by (d.part.session who).block (d.part.session who).txid else None)
+  switches_if may = switches_of d now (committed_in (may >> Ok (committed_by (d.part.session who).block (d.part.session who).txid)))
 
   commit-runs : (may : Checked (Unit {0})) → runs_if (making database_by_itself now who (Row Commit)) WhenOpen who d may
       ≡ with_first (switches_if may) (runs_if (row_making reads who Commit) WhenOpen who (after_marks d (switches_if may)) may)
@@ -76,20 +77,15 @@ module _ (d : Database) (now : ℤ) (who : ℕ) where
   abbrev may_commit : RowPart → Checked (Unit {0})
   may_commit p = allowed (is_waiting who p.waiting) (p.session who).is_open (p.session who).block WhenOpen
 
-  commit-statement : statement database_by_itself d now who (Row Commit) ≡ with_first (first_switches d now who Commit) (row_statement reads (after_marks d (first_switches d now who Commit)) who Commit)
+  commit-statement : statement database_by_itself d now who (Row Commit)
+      ≡ with_first (switches_before_commit d now who) (row_statement reads (after_marks d (switches_before_commit d now who)) who Commit)
   commit-statement =
-      let e : Database = after_marks d (first_switches d now who Commit) in
+      let e : Database = after_marks d (switches_before_commit d now who) in
       commit-runs (may_commit d.part)
-      ∙ ap (λ (x : RowPart). with_first (first_switches d now who Commit) (runs_if (row_making reads who Commit) WhenOpen who e (may_commit x)))
-      (sym (part-of d now (if is_ok (may_commit d.part) then committed_by (d.part.session who).block (d.part.session who).txid else None)))
+      ∙ ap (λ (x : RowPart). with_first (switches_before_commit d now who) (runs_if (row_making reads who Commit) WhenOpen who e (may_commit x)))
+      (sym (part-of d now (committed_in (commits_of d.part who))))
 
-  other-statement : (stmt : RowStmt) → SwitchesNone stmt → statement database_by_itself d now who (Row stmt) ≡ row_statement reads d who stmt
-  other-statement stmt none =
-      ap (λ outcome. made_by (record (row_making reads who stmt) { outcome = outcome }) (where_of_row stmt) who d)
-      (λ i e. none-first e now who stmt (tells e now (row_form e.part (rows_by e.part) who stmt)) none i)
-
-  -- ---- with those that it unblocks
-
+  -- with those that it unblocks
   then-first : (first : List Mark) (o : Outcome) → with_settling reads d (turn_of who (with_first first o)) ≡ turn_after first (with_settling reads (after_marks d first) (turn_of who o))
   then-first first o =
       ap (λ (x : Database). record { answers = (who, o.reply) ∷ (settling reads x).answers; marks = (first ++ o.marks) ++ (settling reads x).marks }) there
@@ -104,42 +100,35 @@ module _ (d : Database) (now : ℤ) (who : ℕ) where
       there : behind_marks reads d (first ++ o.marks) ≡ behind
       there = behind-all now d (first ++ o.marks) ∙ after_marks-append d first o.marks ∙ sym (behind-all now (after_marks d first) o.marks)
 
--- what holds of `commit`, and of each other statement, by which no switch is made
-first-by : (P : RowStmt → Type 0) → P Commit → ((stmt : RowStmt) → SwitchesNone stmt → ((d : Database) (now : ℤ) (who : ℕ) → first_switches d now who stmt ≡ []) → P stmt)
-    → (stmt : RowStmt) → P stmt
-first-by P commits other Commit = commits
-first-by P commits other stmt = other stmt (λ d now who. refl) (λ d now who. refl)
+  -- a `commit`, in a whole database
+  turn-first : database_turn database_by_itself d now who (Row Commit)
+      ≡ turn_after (switches_before_commit d now who) (row_turn reads (after_marks d (switches_before_commit d now who)) who Commit)
+  turn-first =
+      ap (λ o. with_settling reads d (turn_of who o)) commit-statement
+      ∙ then-first (switches_before_commit d now who) (row_statement reads (after_marks d (switches_before_commit d now who)) who Commit)
 
--- no switch comes before another statement
-pub none-before : (d : Database) (now : ℤ) (who : ℕ) (stmt : RowStmt) → stmt ≢ Commit → d ≡ after_marks d (first_switches d now who stmt)
-none-before d now who = first-by (λ stmt. stmt ≢ Commit → d ≡ after_marks d (first_switches d now who stmt))
-    (λ other. absurd (other refl)) (λ stmt none nothing other. ap (after_marks d) (sym (nothing d now who)))
+  other-statement : (stmt : RowStmt) → SwitchesNone stmt → statement database_by_itself d now who (Row stmt) ≡ row_statement reads d who stmt
+  other-statement stmt none =
+      ap (λ outcome. made_by (record (row_making reads who stmt) { outcome = outcome }) (where_of_row stmt) who d)
+      (λ i e. none-first e now who stmt (tells e now (row_form e.part (rows_by e.part) who stmt)) none i)
 
--- a statement on rows, in a whole database
-pub turn-first : (d : Database) (now : ℤ) (who : ℕ) (stmt : RowStmt) → database_turn database_by_itself d now who (Row stmt)
-    ≡ turn_after (first_switches d now who stmt) (row_turn (within_part database_by_itself now) (after_marks d (first_switches d now who stmt)) who stmt)
-turn-first d now who stmt =
-    first-by (λ s. database_turn database_by_itself d now who (Row s) ≡ turn_after (first_switches d now who s) (row_turn reads (after_marks d (first_switches d now who s)) who s))
-    (ap (λ o. with_settling reads d (turn_of who o)) (commit-statement d now who)
-    ∙ then-first d now who (first_switches d now who Commit) (row_statement reads (after_marks d (first_switches d now who Commit)) who Commit))
-    (λ s none nothing. ap (λ o. with_settling reads d (turn_of who o)) (other-statement d now who s none) ∙ ap (λ first. turn_after first (row_turn reads (after_marks d first) who s)) (sym (nothing d now who)))
-    stmt
-  where
-    reads : PartReader Database
-    reads = within_part database_by_itself now
+  -- any other statement
+  pub turn-other : (stmt : RowStmt) → stmt ≢ Commit → database_turn database_by_itself d now who (Row stmt) ≡ row_turn reads d who stmt
+  turn-other Commit other = absurd (other refl)
+  turn-other stmt other = ap (λ o. with_settling reads d (turn_of who o)) (other-statement stmt (λ d now who. refl))
 
-module _ (d mid : Database) (now : ℤ) (who : ℕ) (stmt : RowStmt) (first : mid ≡ after_marks d (first_switches d now who stmt)) where
-  -- what it answers, once the switches are made
-  pub answers-first : (database_turn database_by_itself d now who (Row stmt)).answers ≡ (row_turn (within_part database_by_itself now) mid who stmt).answers
-  answers-first = ap Turn.answers (turn-first d now who stmt) ∙ ap (λ x. (row_turn (within_part database_by_itself now) x who stmt).answers) (sym first)
+module _ (d mid : Database) (now : ℤ) (who : ℕ) (first : mid ≡ after_marks d (switches_before_commit d now who)) where
+  -- what a `commit` answers, once the switches are made
+  pub answers-first : (database_turn database_by_itself d now who (Row Commit)).answers ≡ (row_turn (within_part database_by_itself now) mid who Commit).answers
+  answers-first = ap Turn.answers (turn-first d now who) ∙ ap (λ x. (row_turn (within_part database_by_itself now) x who Commit).answers) (sym first)
 
   -- and what it adds
-  pub adds-first : (new : Database) (before after : List (ℕ × Reply)) → Adds mid new before after (row_turn (within_part database_by_itself now) mid who stmt)
-      → Adds d new before after (database_turn database_by_itself d now who (Row stmt))
+  pub adds-first : (new : Database) (before after : List (ℕ × Reply)) → Adds mid new before after (row_turn (within_part database_by_itself now) mid who Commit)
+      → Adds d new before after (database_turn database_by_itself d now who (Row Commit))
   adds-first new before after adds = record {
     replied = adds.replied ∙ ap (λ answers. before ++ answers) (sym answers-first);
     changed = adds.changed
-        ∙ ap (λ x. after_marks x (row_turn (within_part database_by_itself now) x who stmt).marks) first
-        ∙ sym (after_marks-append d (first_switches d now who stmt) (row_turn (within_part database_by_itself now) (after_marks d (first_switches d now who stmt)) who stmt).marks)
-        ∙ ap (λ (t : Turn). after_marks d t.marks) (sym (turn-first d now who stmt));
+        ∙ ap (λ x. after_marks x (row_turn (within_part database_by_itself now) x who Commit).marks) first
+        ∙ sym (after_marks-append d (switches_before_commit d now who) (row_turn (within_part database_by_itself now) (after_marks d (switches_before_commit d now who)) who Commit).marks)
+        ∙ ap (λ (t : Turn). after_marks d t.marks) (sym (turn-first d now who));
   }

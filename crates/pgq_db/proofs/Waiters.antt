@@ -20,7 +20,7 @@ use Rattle.sky_histories.proofs.Resting.{is-ready, KeepsPart, waiting-resumed, b
 use Rattle.sky_histories.proofs.DatabaseResting.{database-keeps}
 use Rattle.sky_histories.proofs.DatabaseStanding.{after_marks-append, behind-all}
 use Rattle.sky_model.specs.SessionMarks.{failure, failing}
-use Rattle.pgq_db.specs.Waiters.{WaitersWithin, AnswersWithin, StaysWithin}
+use Rattle.sky_store.specs.Waiters.{WaitersWithin, AnswersWithin, StaysWithin}
 
 abbrev is_own : ℕ → Mark → Bool
 is_own who (tabled (waits w table key attempt)) = w == who

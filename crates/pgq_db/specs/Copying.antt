@@ -1,18 +1,11 @@
--- Copies of tables: what the transaction of one may write, and what it writes.
-use Rattle.std.specs.Prelude.{◌≡◌, ℕ, List, Some, None, true}
+-- Copies of tables: what a copy's transaction may write, and what it writes.
+use Rattle.std.specs.Prelude.{List, Some, None}
 use Rattle.sky_val.specs.declared.val.Val.{Val}
 use Rattle.sky_val.specs.declared.column.Column.{Column}
 use Rattle.sky_val.specs.Schemas.{key_of}
 use Rattle.sky_model.specs.Rows.{Write}
 pub use Rattle.londiste_apply.specs.Writing.{none_after, is_own_last, MayWrite}
-use Rattle.sky_model.specs.State.{Database}
-use Rattle.sky_model.specs.StepNode.{table_number, may_copy}
-
--- the table of a number is one of the leaf's, in the state in which it is copied
-pub record MayCopy (d : Database) (table : ℕ) : Type 0 where
-  pub name : List ℕ
-  pub number : table_number d name ≡ Some table
-  pub may : may_copy name d.node ≡ true
+pub use Rattle.sky_store.specs.Copying.{MayCopy}
 
 -- the deletion of a key
 abbrev pub deletion : List Val → Write

@@ -6,9 +6,5 @@ pub mod Looks
 pub mod Agreeing
 pub mod Gives
 pub mod Configured
-pub mod Waiters
-pub mod Served
 pub mod Copying
-pub mod Applying
-pub mod Idle
 pub mod Triggering

@@ -1,12 +1,10 @@
--- The switches of event tables that come before a statement on rows, if its session may make it.
-use Rattle.std.specs.Prelude.{ℕ, ℤ, List, []}
-use Rattle.sky_model.specs.declared.stmt.RowStmt.{RowStmt}
-use Rattle.sky_model.specs.declared.stmt.RowStmt.TheVariants.{Commit}
+-- The switches of event tables that come before a session's `commit`.
+use Rattle.std.specs.Prelude.{ℕ, ℤ, List}
 use Rattle.sky_model.specs.History.{Mark}
 use Rattle.sky_model.specs.State.{Database}
 use Rattle.sky_model.specs.StepRotation.{switches_of}
-use Rattle.sky_session.specs.Committing.{commits_of}
+use Rattle.sky_session.specs.Committing.{commits_of, committed_in}
 
-abbrev pub first_switches : Database → ℤ → ℕ → RowStmt → List Mark
-first_switches d now who Commit = switches_of d now (commits_of d.part who)
-first_switches d now who stmt = []
+-- those of the transaction that it makes permanent
+abbrev pub switches_before_commit : Database → ℤ → ℕ → List Mark
+switches_before_commit d now who = switches_of d now (committed_in (commits_of d.part who))

@@ -17,10 +17,10 @@ ghost use Rattle.sky_model.specs.StepNode.{applying, may_serve, node_does};
 ghost use Rattle.pgq_tables.specs.Tables.{recorded_part};
 ghost use Rattle.pgq_queues.specs.Seen.{batch_at};
 ghost use Rattle.londiste_calls.specs.Picks.{pick_of};
-ghost use Rattle.pgq_db.specs.Applying.{ApplyRefused};
+ghost use Rattle.sky_store.specs.Applying.{ApplyRefused};
 ghost use Rattle.pgq_db.specs.Looks.{LooksFor, LooksFrom, LooksAtNoOther};
 ghost use Rattle.pgq_db.specs.Seen.{seen_database};
-ghost use Rattle.pgq_db.specs.Served.{Serves};
+ghost use Rattle.sky_store.specs.Served.{Serves};
 
 use crate::db::Db;
 use londiste_apply::{apply_picked, recorded, store_tick};

@@ -1,113 +1,29 @@
 //! The copies of tables from another database that run in this one: each writes in one transaction, which no session
 //! sees before it ends.
 
-ghost use Rattle.std.specs.Prelude.{◌≡◌, ◌<◌, false, true, None, Some, IfErr, IfOk, IfSome, OnOk, List, ℕ, length, map};
+ghost use Rattle.std.specs.Prelude.{◌≡◌, ◌<◌, false, true, None, Some, IfOk, IfSome, OnOk, List, ℕ, length, map};
 ghost use Rattle.sky_txid.specs.Ids.{contains};
 ghost use Rattle.sky_model.specs.Copies.{copy_txid};
-ghost use Rattle.sky_model.specs.Daemon.{quietly};
-ghost use Rattle.sky_model.specs.DatabaseCalls.{served};
-ghost use Rattle.sky_model.specs.DatabaseSteps.{DatabaseSteps, IsMade};
 ghost use Rattle.sky_model.specs.Nodes.{after_node};
 ghost use Rattle.sky_model.specs.History.{of_copy, ended, copied};
 ghost use Rattle.sky_model.specs.State.{after_part, after_part_marks, after_mark, after_marks};
-ghost use Rattle.sky_model.specs.StepCopy.{all_fit, copy_write, copy_writes, given_up, rows_now};
-ghost use Rattle.sky_model.specs.StepNode.{beginning_copy, copying_rows, ending_copy, giving_up_copy, table_number, may_serve, node_does};
+ghost use Rattle.sky_model.specs.StepCopy.{copy_write, copy_writes, given_up, rows_now};
 ghost use Rattle.sky_state.specs.Seen.{seen};
 ghost use Rattle.pgq_queues.specs.Views.{QueuesView};
 ghost use Rattle.pgq_db.specs.Agreeing.{Agree};
-ghost use Rattle.pgq_db.specs.Copying.{MayCopy, MayWrite, deletion, under_key, insertion};
+ghost use Rattle.pgq_db.specs.Copying.{MayWrite, deletion, under_key, insertion};
 ghost use Rattle.pgq_db.specs.Seen.{seen_database};
-ghost use Rattle.pgq_db.specs.Served.{Serves, CopyRefused};
 
 use crate::db::Db;
-use londiste_calls::CopyFault;
 use londiste_state::Node;
 use sky_model::WriteGate;
 use sky_session::RowDb;
+use sky_store::Store;
 use sky_txid::Snapshot;
 use sky_val::{Key, NoMemory, Row, Schema, Text};
 use std::alloc::Global;
 
 impl Db {
-    /// Begins the copy of a table of the leaf: its transaction gets its id and deletes the rows that the table has.
-    pub fn copy_begin(&mut self, table: u32) -> Result<(), CopyFault>
-        requires made { IsMade (seen_database self.old) }
-        requires may { MayCopy (seen_database self.old) table }
-        requires idle { copy_txid table (seen_database self.old).copies ≡ None }
-        ensures serves { (name : List ℕ) → table_number (seen_database self.old) name ≡ Some table
-            → OnOk result (Serves (seen_database self.old) (seen_database self.new) (beginning_copy name)) }
-        ensures fault { (name : List ℕ) → table_number (seen_database self.old) name ≡ Some table
-            → IfErr result (λ fault. CopyRefused fault (seen_database self.old) (seen_database self.new) name) }
-        ensures steps { (name : List ℕ) → table_number (seen_database self.old) name ≡ Some table
-            → OnOk result (DatabaseSteps (seen_database self.old) (seen_database self.new) (served (beginning_copy name)) (quietly (node_does (seen_database self.old) (beginning_copy name)))) }
-    {
-        let keys = keys_now(&self.rows, table)?;
-        let txid = self.rows.begin_worker()?;
-        delete_all(&mut self.rows, txid, table, keys)?;
-        self.node.copies.begin(table, txid)?;
-        Ok(())
-    }
-
-    /// Writes rows of the copy of a table that runs, each under its key. If none runs, nothing happens.
-    pub fn copy_rows(&mut self, table: u32, rows: Vec<Row>) -> Result<(), NoMemory>
-        requires made { IsMade (seen_database self.old) }
-        requires may { MayCopy (seen_database self.old) table }
-        requires fit { all_fit ((seen_database self.old).part.columns table) rows.items ≡ true }
-        ensures serves { (name : List ℕ) → table_number (seen_database self.old) name ≡ Some table
-            → OnOk result (Serves (seen_database self.old) (seen_database self.new) (copying_rows name rows.items)) }
-        ensures steps { (name : List ℕ) → table_number (seen_database self.old) name ≡ Some table
-            → OnOk result (DatabaseSteps (seen_database self.old) (seen_database self.new) (served (copying_rows name rows.items)) (quietly (node_does (seen_database self.old) (copying_rows name rows.items)))) }
-    {
-        let Some(txid) = self.copy_of(table) else {
-            return Ok(());
-        };
-        let keyed = under_keys(self.alloc, self.rows.schema(table), rows)?;
-        write_all(&mut self.rows, txid, table, keyed)
-    }
-
-    /// Ends the copy of a table that runs: its transaction commits. The table has the rows under a snapshot, and its
-    /// consumer is at a tick, so that it catches up from now on. If none runs, nothing happens.
-    pub fn copy_end(
-        &mut self,
-        table: &Text,
-        number: u32,
-        snapshot: &Snapshot,
-        tick: u64,
-    ) -> Result<(), NoMemory>
-        requires made { IsMade (seen_database self.old) }
-        requires number { table_number (seen_database self.old) table.now ≡ Some number }
-        requires may { may_serve (ending_copy table.now snapshot.now tick) (seen_database self.old).node ≡ true }
-        ensures serves { OnOk result (Serves (seen_database self.old) (seen_database self.new) (ending_copy table.now snapshot.now tick)) }
-        ensures steps { OnOk result (DatabaseSteps (seen_database self.old) (seen_database self.new) (served (ending_copy table.now snapshot.now tick)) (quietly (node_does (seen_database self.old) (ending_copy table.now snapshot.now tick)))) }
-    {
-        let Some(txid) = self.copy_of(number) else {
-            return Ok(());
-        };
-        end_leaf_copy(self.alloc, &mut self.node.own, table, snapshot, tick)?;
-        self.commit_copy(txid);
-        Ok(())
-    }
-
-    /// Gives the copy of a table up, if one runs: its transaction rolls back, and the table has the rows that it had
-    /// before.
-    pub fn copy_drop(&mut self, table: u32)
-        requires made { IsMade (seen_database self.old) }
-        requires may { MayCopy (seen_database self.old) table }
-        ensures serves { (name : List ℕ) → table_number (seen_database self.old) name ≡ Some table
-            → Serves (seen_database self.old) (seen_database self.new) (giving_up_copy name) }
-        ensures steps { (name : List ℕ) → table_number (seen_database self.old) name ≡ Some table
-            → DatabaseSteps (seen_database self.old) (seen_database self.new) (served (giving_up_copy name)) (quietly (node_does (seen_database self.old) (giving_up_copy name))) }
-    {
-        self.give_up_copy(table);
-    }
-
-    /// The transaction of the copy of a table, if one runs.
-    pub fn copy_of(&self, table: u32) -> Option<u64>
-        ensures { result ≡ copy_txid table (seen_database self.now).copies }
-    {
-        self.node.copies.txid_of(table)
-    }
-
     /// The copy of the table of a number is given up, if one runs.
     pub(crate) fn give_up_copy(&mut self, number: u32)
         requires { IfSome (copy_txid number (seen_database self.old).copies) (λ txid. contains txid (seen_database self.old).part.workers ≡ true) }
@@ -119,7 +35,7 @@ impl Db {
     }
 
     /// The transaction of a copy commits.
-    fn commit_copy(&mut self, txid: u64)
+    pub(crate) fn commit_copy(&mut self, txid: u64)
         requires { contains txid (seen_database self.old).part.workers ≡ true }
         ensures { (table : ℕ) → seen_database self.new ≡ after_mark (seen_database self.old) (ended (of_copy table) txid true) }
     {
@@ -155,7 +71,7 @@ fn write(
 }
 
 /// The keys of the rows that a table has at present.
-fn keys_now(rows: &RowDb, table: u32) -> Result<Vec<Key>, NoMemory>
+pub(crate) fn keys_now(rows: &RowDb, table: u32) -> Result<Vec<Key>, NoMemory>
     requires { table < length (seen rows.now).tables }
     ensures { IfOk result (λ keys. keys.items ≡ map (λ e. e.0) (rows_now (seen rows.now) table)) }
 {
@@ -164,7 +80,12 @@ fn keys_now(rows: &RowDb, table: u32) -> Result<Vec<Key>, NoMemory>
 }
 
 /// A copy's transaction deletes keys.
-fn delete_all(rows: &mut RowDb, txid: u64, table: u32, keys: Vec<Key>) -> Result<(), NoMemory>
+pub(crate) fn delete_all(
+    rows: &mut RowDb,
+    txid: u64,
+    table: u32,
+    keys: Vec<Key>,
+) -> Result<(), NoMemory>
     requires { MayWrite (seen rows.old) table txid }
     ensures marks { OnOk result (seen rows.new ≡ after_part_marks (seen rows.old) (copy_writes (seen rows.old) table txid (map deletion keys.items))) }
     ensures agree { (queues : QueuesView) → Agree (seen rows.old) queues → Agree (seen rows.new) queues }
@@ -176,7 +97,7 @@ fn delete_all(rows: &mut RowDb, txid: u64, table: u32, keys: Vec<Key>) -> Result
 }
 
 /// A copy's transaction writes rows under keys.
-fn write_all(
+pub(crate) fn write_all(
     rows: &mut RowDb,
     txid: u64,
     table: u32,
@@ -193,7 +114,11 @@ fn write_all(
 }
 
 /// Each row with its key.
-fn under_keys(alloc: Global, schema: &Schema, rows: Vec<Row>) -> Result<Vec<(Key, Row)>, NoMemory>
+pub(crate) fn under_keys(
+    alloc: Global,
+    schema: &Schema,
+    rows: Vec<Row>,
+) -> Result<Vec<(Key, Row)>, NoMemory>
     ensures { IfOk result (λ keyed. keyed.items ≡ map (under_key schema.now) rows.items) }
 {
     let mut keyed = Vec::with_capacity(alloc, rows.len())?;
@@ -205,7 +130,7 @@ fn under_keys(alloc: Global, schema: &Schema, rows: Vec<Row>) -> Result<Vec<(Key
 }
 
 /// The copy of a table has ended, if the node is a leaf.
-fn end_leaf_copy(
+pub(crate) fn end_leaf_copy(
     alloc: Global,
     node: &mut Option<Node>,
     table: &Text,

@@ -11,46 +11,19 @@ ghost use Rattle.sky_model.specs.StepRetry.{most_back, maint_retry_events};
 ghost use Rattle.sky_model.specs.Daemon.{quietly, ticks_of, moved_by, retries_of, first_steps_of, daemon_does};
 ghost use Rattle.sky_model.specs.StepRotation.{rotates_by_itself, lack_second_step, maint_rotate_step2};
 ghost use Rattle.sky_model.specs.declared.daemon.DaemonPart.TheVariants.{Maintain};
-ghost use Rattle.sky_model.specs.DatabaseCalls.{worked};
-ghost use Rattle.sky_model.specs.DatabaseSteps.{DatabaseSteps};
 ghost use Rattle.pgq_queues.specs.Seen.{Stands};
 ghost use Rattle.pgq_db.specs.Seen.{seen_database};
-ghost use Rattle.pgq_db.specs.Idle.{all_idle, idles_at, IsIdleUntil};
+ghost use Rattle.sky_store.specs.Idle.{all_idle, idles_at};
 
 use crate::db::Db;
 use pgq_queues::MOST_BACK;
-use sky_model::{DaemonPart, Stop};
+use sky_model::Stop;
 use sky_val::NoMemory;
 use std::alloc::AllocError;
 
 impl Db {
-    /// Does a part of the daemon's work at a moment. Once memory has run out nothing is said of the database.
-    pub fn daemon(&mut self, part: DaemonPart, now: i64) -> Result<(), NoMemory>
-        requires { IsTime now }
-        ensures exact { OnOk result (seen_database self.new ≡ after_marks (seen_database self.old) (daemon_does database_by_itself (seen_database self.old) part now).marks) }
-        ensures waiting { OnOk result ((seen_database self.new).part.waiting ≡ (seen_database self.old).part.waiting) }
-        ensures steps { OnOk result (DatabaseSteps (seen_database self.old) (seen_database self.new) (worked part now)
-            (daemon_does database_by_itself (seen_database self.old) part now)) }
-    {
-        match part {
-            DaemonPart::Tick => self.make_ticks(now),
-            DaemonPart::Retry => self.retry_events(now),
-            DaemonPart::Maintain => self.rotate(now),
-        }
-    }
-
-    /// Whether no part of the work would change anything at a moment; then none would at one before it either. No memory
-    /// is taken.
-    pub fn is_idle_until(&self, moment: i64) -> bool
-        requires { IsTime moment }
-        ensures idles { result ≡ idles_at moment (seen_database self.now) }
-        ensures until { result ≡ true → IsIdleUntil moment (seen_database self.now) }
-    {
-        self.idles_at(moment)
-    }
-
     /// Whether nothing is to be done at a moment.
-    fn idles_at(&self, moment: i64) -> bool
+    pub(crate) fn idles_at(&self, moment: i64) -> bool
         requires { IsTime moment }
         ensures { result ≡ idles_at moment (seen_database self.now) }
     {
@@ -86,7 +59,7 @@ impl Db {
     }
 
     /// Makes the ticks that are due.
-    fn make_ticks(&mut self, now: i64) -> Result<(), NoMemory>
+    pub(crate) fn make_ticks(&mut self, now: i64) -> Result<(), NoMemory>
         requires { IsTime now }
         ensures { OnOk result (seen_database self.new
             ≡ after_marks (seen_database self.old) (ticks_of database_by_itself now (seen_database self.old).queues (seen_database self.old)).marks) }
@@ -127,7 +100,7 @@ impl Db {
 
     /// Rotates the queues: the first step of each, and then the second.
     #[inline(never)]
-    fn rotate(&mut self, now: i64) -> Result<(), NoMemory>
+    pub(crate) fn rotate(&mut self, now: i64) -> Result<(), NoMemory>
         requires { IsTime now }
         ensures { OnOk result (seen_database self.new ≡ after_marks (seen_database self.old) (daemon_does database_by_itself (seen_database self.old) Maintain now).marks) }
     {
@@ -174,7 +147,7 @@ impl Db {
 
     /// Brings back the events that are due to be retried, until a call moves fewer than it may, or is refused.
     #[inline(never)]
-    fn retry_events(&mut self, now: i64) -> Result<(), NoMemory>
+    pub(crate) fn retry_events(&mut self, now: i64) -> Result<(), NoMemory>
         ensures { OnOk result (seen_database self.new
             ≡ after_marks (seen_database self.old) (retries_of database_by_itself now (length (seen_database self.old).retries) (seen_database self.old)).marks) }
     {

@@ -23,14 +23,14 @@ ghost use Rattle.sky_model.specs.DatabaseSteps.{DatabaseSteps};
 ghost use Rattle.pgq_sub.specs.Views.{seen_sub};
 ghost use Rattle.pgq_queues.specs.Seen.{Stands, batch_of};
 ghost use Rattle.pgq_db.specs.Seen.{seen_database};
-ghost use Rattle.pgq_db.specs.Waiters.{StaysWithin};
+ghost use Rattle.sky_store.specs.Waiters.{StaysWithin};
 ghost use Rattle.pgq_db.specs.RowRuns.{MayRun, run_turn};
 ghost use Rattle.pgq_db.specs.Gives.{Gives, Adds};
 ghost use Rattle.pgq_db.specs.Looks.{ReadsNone};
 ghost use Rattle.pgq_db.specs.Configured.{refusal_for, configured_as, Configures};
 
 use crate::node_part::NodePart;
-use crate::rotation::planned_commit;
+use crate::rotation::switch_before_commit;
 use crate::row_run::RowRun;
 use pgq_queues::Queues;
 use pgq_sub::Sub;
@@ -210,7 +210,7 @@ impl Db {
 
     /// Makes a session's `commit`, after the switches of event tables that its transaction has pending, and runs the
     /// statements that it unblocks.
-    // Never inlined, so that no other statement has room for a plan, which is as large as a refusal.
+    // Never inlined, so that no other statement has room for a refusal, which is large.
     #[inline(never)]
     fn step_commit(
         &mut self,
@@ -224,8 +224,11 @@ impl Db {
         ensures rests { OnOk result (ready (seen_database self.new).part ≡ None) }
         ensures moments { OnOk result (HaveMoments (database_turn database_by_itself (seen_database self.old) now who (Row Commit)).answers) }
     {
-        let plan = planned_commit(&mut self.queues, &self.rows, now, who);
-        self.run_rows(now, RowRun::Commit(who, plan), replies)
+        if self.is_cut {
+            return Err(AllocError);
+        }
+        let checked = switch_before_commit(&mut self.queues, &self.rows, now, who);
+        self.run_rows(now, RowRun::Commit(who, checked), replies)
     }
 
     /// Runs the statements that may resume. Events record their writes.

@@ -10,21 +10,20 @@ ghost use Rattle.sky_model.specs.State.{after_marks};
 ghost use Rattle.sky_model.specs.StepRotation.{switch_of, maint_rotate_step1, rotates_by_itself, maint_rotate_step2};
 ghost use Rattle.sky_model.specs.Stops.{Stops};
 ghost use Rattle.sky_model.specs.declared.reply.Reply.TheVariants.{Number};
-ghost use Rattle.sky_model.specs.declared.stmt.RowStmt.TheVariants.{Commit};
-ghost use Rattle.sky_session.specs.Committing.{plan_of};
+ghost use Rattle.sky_session.specs.Committing.{commits_of, committed_in};
 ghost use Rattle.sky_state.specs.Seen.{seen};
 ghost use Rattle.pgq_queues.specs.Batches.{StillStand};
 ghost use Rattle.pgq_queues.specs.Seen.{Beside, seen_with, queue_at, Stands};
 ghost use Rattle.pgq_queues.specs.Traced.{KeepsRest};
 ghost use Rattle.pgq_db.specs.Gives.{Ran};
 ghost use Rattle.pgq_db.specs.Seen.{with_node, seen_database};
-ghost use Rattle.pgq_db.specs.Switches.{first_switches};
+ghost use Rattle.pgq_db.specs.Switches.{switches_before_commit};
 
 use crate::db::Db;
 use crate::retries::work_alone;
 use pgq_queues::Queues;
-use sky_model::{Replies, Reply, Stop};
-use sky_session::{CommitPlan, RowDb};
+use sky_model::{Refusal, Replies, Reply, Stop};
+use sky_session::RowDb;
 use sky_val::{SessionId, Text};
 
 impl Db {
@@ -116,22 +115,33 @@ fn switch(queues: &mut Queues, queue: usize, txid: u64, is_alone: bool, now: i64
     }
 }
 
-/// What a session's `commit` does. Before it, the switches are made that the session's transaction has pending.
-pub(crate) fn planned_commit(
+/// Makes the switches of event tables that the session's transaction has pending, if a `commit` would make that
+/// permanent. Returns which transaction that is, if there is one, or why the `commit` would be refused.
+pub(crate) fn switch_before_commit(
     queues: &mut Queues,
     rows: &RowDb,
     now: i64,
     who: SessionId,
-) -> CommitPlan
+) -> Result<Option<u64>, Refusal>
     requires { IsTime now }
-    ensures plan { result ≡ plan_of (seen rows.now) who }
+    ensures checked { result ≡ commits_of (seen rows.now) who }
     ensures marks { (node : NodePart) → seen_with (with_node node (seen rows.now)) queues.new
-        ≡ after_marks (seen_with (with_node node (seen rows.now)) queues.old) (first_switches (seen_with (with_node node (seen rows.now)) queues.old) now who Commit) }
+        ≡ after_marks (seen_with (with_node node (seen rows.now)) queues.old) (switches_before_commit (seen_with (with_node node (seen rows.now)) queues.old) now who) }
     ensures rest { KeepsRest queues.old queues.new }
 {
-    let plan = rows.plan_commit(who);
-    if let Some(txid) = plan.txid() {
+    let checked = rows.check_commit(who);
+    if let Some(txid) = committed(&checked) {
         queues.switch_tables(txid, now);
     }
-    plan
+    checked
+}
+
+/// The transaction that a `commit` which was checked makes permanent, if there is one.
+fn committed(checked: &Result<Option<u64>, Refusal>) -> Option<u64>
+    ensures { result ≡ committed_in checked.now }
+{
+    match checked {
+        Ok(txid) => *txid,
+        Err(_) => None,
+    }
 }

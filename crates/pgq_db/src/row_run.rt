@@ -10,8 +10,8 @@ ghost use Rattle.pgq_queues.specs.EventRule.{event_rule};
 ghost use Rattle.pgq_db.specs.RowRuns.{MayRun, run_call, run_turn};
 
 use pgq_queues::Queues;
-use sky_model::RowStmt;
-use sky_session::{CommitPlan, RowDb, RowStep};
+use sky_model::{Refusal, RowStmt};
+use sky_session::{RowDb, RowStep};
 use sky_val::{NoMemory, SessionId};
 
 /// What is run, and with it the statements that it unblocks.
@@ -19,8 +19,8 @@ use sky_val::{NoMemory, SessionId};
 pub(crate) enum RowRun<'a> {
     /// A statement of a session.
     Statement(SessionId, &'a RowStmt),
-    /// A session's `commit`, by the plan for it.
-    Commit(SessionId, CommitPlan),
+    /// A session's `commit` that was checked.
+    Commit(SessionId, Result<Option<u64>, Refusal>),
     /// The statements that may resume, and nothing before them.
     Ready,
 }
@@ -40,7 +40,7 @@ impl RowRun<'_> {
     {
         match self {
             RowRun::Statement(who, stmt) => rows.step_into(who, stmt, queues, step),
-            RowRun::Commit(who, plan) => rows.commit_into(who, plan, queues, step),
+            RowRun::Commit(who, checked) => rows.commit_into(who, checked, queues, step),
             RowRun::Ready => rows.settle_into(queues, step),
         }
     }

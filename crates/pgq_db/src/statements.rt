@@ -23,8 +23,9 @@ ghost use Rattle.sky_model.specs.DatabaseCalls.{stepped};
 ghost use Rattle.sky_model.specs.DatabaseSteps.{DatabaseSteps};
 ghost use Rattle.sky_model.specs.Moment.{HasMoment, IsTime};
 ghost use Rattle.pgq_queues.specs.Seen.{Beside, seen_with, Stands};
+ghost use Rattle.pgq_queues.specs.Traced.{KeepsRest};
 ghost use Rattle.pgq_db.specs.Seen.{seen_database};
-ghost use Rattle.pgq_db.specs.Waiters.{StaysWithin};
+ghost use Rattle.sky_store.specs.Waiters.{StaysWithin};
 ghost use Rattle.pgq_db.specs.Looks.{LooksWithin, RanWithin, ListsLooked, ReadsNone};
 ghost use Rattle.pgq_db.specs.Gives.{Gives, Adds, Answers, Ran};
 ghost use Rattle.sky_model.specs.Stops.{StopsAs};
@@ -435,8 +436,7 @@ impl Db {
                 Ok(())
             }
             Some(extra) => {
-                let event = with_extra(self.alloc, event, extra)?;
-                self.queues.put(queue, event)?;
+                put_with_extra(self.alloc, &mut self.queues, queue, event, extra)?;
                 Ok(())
             }
         }
@@ -554,9 +554,28 @@ fn plain_event(
     })
 }
 
-/// The event with these further texts.
+/// Stores an event with these further texts.
 // Never inlined, so that an event without them isn't made as one that has room for them.
 #[inline(never)]
+fn put_with_extra(
+    alloc: Global,
+    queues: &mut Queues,
+    queue: usize,
+    event: PlainEvent,
+    extra: &BoxedExtra,
+) -> Result<(), NoMemory>
+    requires queue { Stands queues.old.queues queue }
+    requires time { HasMoment event.ev_time }
+    ensures mark { OnOk result ((beside : Beside) → seen_with beside queues.new ≡ after_mark (seen_with beside queues.old)
+        (queued (put queue (made_event event.ev_id event.ev_time event.ev_txid event.ev_type event.ev_data (Some extra.now))))) }
+    ensures rest { KeepsRest queues.old queues.new }
+{
+    let event = with_extra(alloc, event, extra)?;
+    queues.put(queue, event)?;
+    Ok(())
+}
+
+/// The event with these further texts.
 fn with_extra(alloc: Global, event: PlainEvent, extra: &BoxedExtra) -> Result<Event, NoMemory>
     ensures { IfOk result (λ made. made ≡ made_event event.ev_id event.ev_time event.ev_txid event.ev_type event.ev_data (Some extra.now)) }
 {

@@ -1,8 +1,8 @@
 -- Retries that come back to their queues, one after another.
 use Rattle.std.proofs.Common.{◌≡◌, ℕ, zero, suc, ℤ, ◌+◌, ◌-◌, ◌<◌, ◌≤◌, List, [], ◌∷◌, Bool, true, false, Result, Ok, Err, OnOk, not, filter, take, drop, min, length, length-take, take-append-drop, get_or, slice_set, refl, sym, ◌∙◌, ap, subst, arith, if◌then◌else◌}
-use Rattle.std.specs.Prelude.{int_le, unwrap_or}
+use Rattle.std.specs.Prelude.{int_le}
 use Rattle.std.specs.List.{All}
-use Rattle.std.proofs.lemmas.List.Elements.{All-cons, All-head, All-tail, All-filter, All-weaker}
+use Rattle.std.proofs.lemmas.List.Elements.{All-cons, All-head, All-tail, All-filter}
 use Rattle.sky_model.specs.Retries.{brought_by}
 use Rattle.sky_model.specs.State.{Database, changed_at, with_tables, after_marks}
 use Rattle.sky_model.specs.StepRetry.{back}
@@ -10,10 +10,10 @@ use Rattle.pgq_retry.specs.declared.retry.Retry.{Retry}
 use Rattle.pgq_retry.specs.Retries.{is_event, put_by, sorted_by, by_due, is_due, due_now, without}
 use Rattle.pgq_retry.proofs.TakingDue.{taken_are}
 use Rattle.pgq_queues.specs.Views.{QueueView, QueuesView}
-use Rattle.pgq_queues.specs.Seen.{no_queue, seen_queue, queue_at, seen_with, Beside}
-use Rattle.pgq_tables.specs.Tables.{Stored, with_stored}
+use Rattle.pgq_queues.specs.Seen.{seen_queue, queue_at, seen_with, Beside}
+use Rattle.pgq_tables.specs.Tables.{with_stored}
 use Rattle.pgq_queues.specs.Rotated.{retabled}
-use Rattle.pgq_queues.specs.Retried.{RetriedAtMost, IsWaiting, RetriedWithin}
+use Rattle.pgq_queues.specs.Retried.{IsWaiting, RetriedWithin}
 use Rattle.pgq_queues.proofs.Marked.{queues-set}
 
 -- what holds of each holds of the first by due moment
@@ -96,21 +96,6 @@ due-taken moment most rs =
     let less : length due ≤ length (by_due rs) = fewer (is_due moment) (by_due rs) in
     let taken : length (take count (by_due rs)) ≡ min count (length (by_due rs)) = length-take count (by_due rs) in
     taken_are moment most rs (take count (by_due rs)) (drop count (by_due rs)) (sym (take-append-drop count (by_due rs))) (omega (arith, is, less, taken))
-
--- retries that came back once more
-pub within-later : {rounds : ℕ} → (queues : List QueueView) (rs : List Retry) → RetriedWithin rounds queues rs → RetriedWithin (rounds + 1) queues rs
-within-later {rounds} queues rs within = record {
-  waiting = λ k d lt.
-      let waits = within.waiting k d lt in
-      let most : unwrap_or (get_or rs k d).event.ev_retry 0 ≤ rounds + 1 = waits.most in
-      record { owner = waits.owner; moment = waits.moment; most = omega (arith, most) };
-  stored = λ n.
-      All-weaker (All (λ (s : Stored). RetriedAtMost rounds s.event)) (All (λ (s : Stored). RetriedAtMost (rounds + 1) s.event))
-      (λ list all k d lt. let most = all k d lt in omega (arith, most)) (get_or queues n no_queue).event_tables.tables.lists (within.stored n);
-}
-
-pub all-most : {rounds : ℕ} → (queues : List QueueView) (rs : List Retry) → RetriedWithin rounds queues rs → All (λ (r : Retry). RetriedAtMost (rounds + 1) r.event) rs
-all-most queues rs within k d lt = (within.waiting k d lt).most
 
 -- all that are due have come back
 pub back-marks : (v now new : QueuesView) (more t count : ℕ) (moment : ℤ) (most : ℕ) → v ≡ now → count ≡ length (due_now moment most now.retries)

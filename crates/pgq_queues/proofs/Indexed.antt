@@ -5,7 +5,6 @@ use Rattle.std.proofs.lemmas.Option.{same_Some}
 use Rattle.sky_names.proofs.PlaceLemmas.{bytes_eq_refl, same_name}
 use Rattle.sky_model.specs.History as model
 use Rattle.sky_model.specs.Consumers.{of_another}
-use Rattle.sky_model.specs.State.{changed_at, changed_for}
 use Rattle.pgq_sub.specs.declared.sub.OpenBatch.{OpenBatch}
 use Rattle.pgq_sub.specs.Views.{SubView, with_open, after_batch, finished}
 use Rattle.pgq_queues.specs.declared.batch.Place.{Place}
@@ -35,13 +34,6 @@ is_one-same i name n consumer one other =
 -- subscriptions of which one has changed
 abbrev pub Changed : ℕ → List ℕ → (Option SubView → Option SubView) → (ℕ → List ℕ → Option SubView) → (ℕ → List ℕ → Option SubView) → Type 0
 Changed i name f old new = (n : ℕ) (consumer : List ℕ) → new n consumer ≡ (if is_one i name n consumer then f (old n consumer) else old n consumer)
-
-pub changed-both : (i : ℕ) (name : List ℕ) (f : Option SubView → Option SubView) (old : ℕ → List ℕ → Option SubView) → Changed i name f old (changed_at i (changed_for name f) old)
-changed-both i name f old n consumer = by (i == n) (bytes_eq consumer name)
-  where
-    by : (a b : Bool) → (if a then (λ (c : List ℕ). if bytes_eq c name then f (old n c) else old n c) else old n) consumer ≡ (if a && bytes_eq consumer name then f (old n consumer) else old n consumer)
-    by true b = refl
-    by false b = refl
 
 -- of them the one, and another
 changed-here : (i : ℕ) (name : List ℕ) (f : Option SubView → Option SubView) (old new : ℕ → List ℕ → Option SubView) → Changed i name f old new

@@ -1,5 +1,5 @@
 -- What queues show after a rollback, after the switches that a commit makes, and after second steps; and what still holds.
-use Rattle.std.proofs.Common.{◌≡◌, ℕ, zero, suc, ℤ, ◌+◌, ◌<◌, ◌≤◌, List, [], ◌∷◌, Bool, true, false, ◌==◌, map, filter, take, length, length-append, get_or, slice_set, get_or-set_same, get_or-set_other, refl, sym, ◌∙◌, ap, subst, arith, if◌then◌else◌}
+use Rattle.std.proofs.Common.{◌≡◌, ℕ, suc, ℤ, ◌+◌, ◌<◌, ◌≤◌, List, [], ◌∷◌, Bool, true, false, ◌==◌, map, filter, take, length, length-append, get_or, slice_set, get_or-set_same, get_or-set_other, refl, sym, ◌∙◌, ap, subst, arith, if◌then◌else◌}
 use Rattle.std.specs.Prelude.{is_none}
 use Rattle.std.proofs.lemmas.Bool.Decides.{nat_tests}
 use Rattle.std.proofs.lemmas.List.{take_more, length-set}
@@ -252,13 +252,6 @@ ended-marks at t (q ∷ qs) = by (is_none (at q.number).event_tables.second_step
     by true rest = ap (λ ms. queued (second_step q.number t) ∷ ms) rest
     by false rest = rest
 
-pub ended-stays : (t : ℕ) (old new : QueueView) → new ≡ ended_in t old → Stays old new
-ended-stays t old new is = subst (Stays old) (sym is) (by (is_none old.event_tables.tables.second_step))
-  where
-    by : (b : Bool) → Stays old (if b then retabled (with_second_step t) old else old)
-    by true = record { ticks = λ lt. lt; subs = refl }
-    by false = record { ticks = λ lt. lt; subs = refl }
-
 pub ended-retried : {rounds : ℕ} → (t : ℕ) (ns : List ℕ) (queues new : List QueueView) (rs : List Retry) → StillStand queues new → new ≡ each_changed (ended_in t) ns queues → RetriedWithin rounds queues rs → RetriedWithin rounds new rs
 ended-retried {rounds} t ns queues new rs still is within = each-retried (ended_in t) (λ q all. by q (is_none q.event_tables.tables.second_step) all) ns queues new rs still is within
   where
@@ -292,19 +285,3 @@ counted v place b lt e =
         ≡ (if c then length (filter (lacks v) (take place (queues_of v))) + 1 else length (filter (lacks v) (take place (queues_of v))))
     by true = refl
     by false = omega arith
-
-pub counted-as : (v : QueuesView) (place number count : ℕ) (q : QueueView) (b result : Bool) → place < length (queues_of v) → number ≡ (get_or (queues_of v) place unnamed).number → seen_queue q ≡ queue_at v number
-    → result ≡ is_none q.event_tables.tables.second_step → result ≡ b → count ≡ length (filter (lacks v) (take place (queues_of v)))
-    → (if b then count + 1 else count) ≡ length (filter (lacks v) (take (place + 1) (queues_of v)))
-counted-as v place number count q b result lt at shown is case so_far =
-    ap (λ n. if b then n + 1 else n) so_far
-    ∙ sym (counted v place b lt (ap (λ n. is_none (queue_at v n).event_tables.second_step) (sym at) ∙ sym (ap (λ (x : Queue). is_none x.event_tables.second_step) shown) ∙ sym is ∙ case))
-
-pub counted-all : (v : QueuesView) (place count : ℕ) → length (queues_of v) ≤ place → count ≡ length (filter (lacks v) (take place (queues_of v))) → count ≡ length (filter (lacks v) (queues_of v))
-counted-all v place count past is = is ∙ ap (λ qs. length (filter (lacks v) qs)) (all (queues_of v) place past)
-  where
-    all : (qs : List NamedQueue) (n : ℕ) → length qs ≤ n → take n qs ≡ qs
-    all [] zero past = refl
-    all [] (suc n) past = refl
-    all (q ∷ qs) zero past = absurd (omega (arith, past))
-    all (q ∷ qs) (suc n) past = ap (λ xs. q ∷ xs) (all qs n (omega (arith, past)))

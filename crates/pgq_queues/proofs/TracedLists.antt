@@ -435,9 +435,6 @@ pub record Untracing (table : ℕ) (old new : QueuesView) : Type 0 where
   pub left : but_sets table new.triggers ≡ but_sets table old.triggers
   pub tables : (part : RowPart) → AreTables part old → AreTables part new
 
-pub untracing-first : (table : ℕ) (v : QueuesView) → Untracing table v v
-untracing-first table v = record { rest = refl; left = refl; tables = λ part are. are }
-
 pub untracing-next : (table place : ℕ) (old cur next : QueuesView) → Some place ≡ position (is_sets table) cur.triggers → next.triggers ≡ remove cur.triggers place
     → next ≡ record cur { triggers = next.triggers; traced_tables = next.traced_tables } → ((part : RowPart) → AreTables part cur → AreTables part next) → Untracing table old cur → Untracing table old next
 untracing-next table place old cur next found removed rest tables is = record {

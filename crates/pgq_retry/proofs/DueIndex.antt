@@ -11,7 +11,7 @@ use Rattle.std.proofs.lemmas.Bool.{and_right}
 use Rattle.std.proofs.lemmas.Bool.Decides.{nat_tests}
 use Rattle.std.proofs.lemmas.Map.Keys.{sorted_head, sorted_tail}
 use Rattle.pgq_retry.specs.declared.retry.Retry.{Retry}
-use Rattle.pgq_retry.specs.Kept.{Entries, InOrder, AreBelow, at, due_cmp, due_key}
+use Rattle.pgq_retry.specs.Kept.{Entries, InOrder, at, due_cmp, due_key}
 use Rattle.pgq_retry.proofs.Lists.{any-append}
 use Rattle.pgq_retry.proofs.Orders.{tie_is, less_is, due_cmp-IsTotalOrder, due_ties-is, is_eq-then}
 
@@ -53,11 +53,6 @@ keys_symm = (eq_by_cmp_equiv due_cmp-IsTotalOrder).symm
 
 key_apart : (a b : ℤ) (p q : ℕ) → eq_by_cmp nat_cmp p q ≡ false → eq_by_cmp due_cmp (a, p) (b, q) ≡ false
 key_apart a b p q apart = is_eq-then (int_cmp a b) (nat_cmp p q) ∙ and_right (is_eq (int_cmp a b)) (is_eq (nat_cmp p q)) apart
-
--- a key isn't listed if its place is below all, or above all
-above_listed : (a : ℤ) (p : ℕ) (es : Entries) → AreBelow p es → is_listed (a, p) es ≡ false
-above_listed a p [] below = refl
-above_listed a p (e ∷ es) below = ap (λ b. b || is_listed (a, p) es) (key_apart a e.1.due p e.0 (above_is_other p e.0 below.0)) ∙ above_listed a p es below.1
 
 below_listed : (a : ℤ) (p : ℕ) (es : Entries) → AllByRecursion (λ q. nat_cmp p q ≡ Less) (keys_of es) → is_listed (a, p) es ≡ false
 below_listed a p [] above = refl

@@ -87,10 +87,6 @@ module _ {W : Type 0} where
 
   -- ---- one more, one less
 
-  pub stands-above : (es : List (ℕ × W)) (a : ℕ) → AllByRecursion (λ b. b < a) (keys_of es) → stands es a ≡ None
-  stands-above [] a above = refl
-  stands-above (e ∷ es) a above = ap (λ t. cond t (Some e.1) (stands es a)) (above_is_other a e.0 above.0) ∙ stands-above es a above.1
-
   stands-below : (es : List (ℕ × W)) (a : ℕ) → AllByRecursion (λ b. nat_cmp a b ≡ Less) (keys_of es) → stands es a ≡ None
   stands-below [] a below = refl
   stands-below (e ∷ es) a below = ap (λ t. cond t (Some e.1) (stands es a)) (below_is_other a e.0 (less_is a e.0 below.0)) ∙ stands-below es a below.1

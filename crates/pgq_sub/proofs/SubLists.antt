@@ -21,14 +21,6 @@ sub-changed n now key place old new f same is lt at change =
     by name true e = ap Some change ∙ sym (ap (option_map f) (ap (λ m. value_of m n) (same_name name key e) ∙ value_of-there n key place old is lt at))
     by name false e = refl
 
--- without a place nothing is changed
-pub sub-kept : (n : NamedView SubView) (key : List ℕ) (f : SubView → SubView) → None ≡ place_of key n.names → seen_subs n ≡ with_sub key f (seen_subs n)
-sub-kept n key f is = λ i. record (seen_subs n) { kept = λ name. by name (bytes_eq name key) refl i }
-  where
-    by : (name : List ℕ) (b : Bool) → bytes_eq name key ≡ b → value_of name n ≡ (if b then option_map f (value_of name n) else value_of name n)
-    by name true e = let found = ap (λ m. value_of m n) (same_name name key e) ∙ ap (option_and_then (slice_get n.values)) (sym is) in found ∙ sym (ap (option_map f) found)
-    by name false e = refl
-
 -- what is kept of a consumer is what is at its place
 pub kept-there : (n now : NamedView SubView) (key : List ℕ) (place : ℕ) (old : SubView) → n ≡ now → Some place ≡ place_of key n.names → place < length n.values → old ≡ get_or n.values place old
     → Some old ≡ value_of key now

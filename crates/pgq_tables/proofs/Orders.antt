@@ -1,5 +1,5 @@
 -- The order by transaction: how long it is, what stands in it, and how it rises.
-use Rattle.std.proofs.Common.{◌≡◌, ℕ, suc, zero, ◌+◌, ◌<◌, ◌≤◌, ◌⊎◌, inl, ⊎_elim, Bool, true, false, cond, List, [], ◌∷◌, ◌++◌, map, length, Some, refl, sym, subst, ◌∙◌, ap, arith}
+use Rattle.std.proofs.Common.{◌≡◌, ℕ, suc, zero, ◌+◌, ◌<◌, ◌≤◌, ◌⊎◌, inl, ⊎_elim, Bool, true, false, cond, List, [], ◌∷◌, ◌++◌, length, Some, refl, sym, subst, ◌∙◌, ap, arith}
 use Rattle.std.specs.Prelude.{nat_lt, slice_get, filter}
 use Rattle.std.specs.List.{AllByRecursion}
 use Rattle.std.specs.List.Sorted.{IsPermutation}
@@ -35,10 +35,6 @@ length-onto sorted n (s ∷ ss) =
 
 pub length-by_txid : (list : List Stored) → length (by_txid list) ≡ length list
 length-by_txid list = let whole = length-onto [] 0 list in omega arith
-
-pub length-numbered : (n : ℕ) (list : List Stored) → length (numbered n list) ≡ length list
-length-numbered n [] = refl
-length-numbered n (s ∷ ss) = let rest = length-numbered (n + 1) ss in omega arith
 
 -- ---- what stands in it
 
@@ -142,9 +138,6 @@ permuted-onto sorted n (s ∷ ss) = IsPermutation-trans _ _ _
     (IsPermutation-append_right (numbered (n + 1) ss) _ _ (permuted-put (n, s) sorted))
     (permuted-onto (put_by_txid (n, s) sorted) (n + 1) ss))
 
-pub permuted-by_txid : (list : List Stored) → IsPermutation (numbered 0 list) (by_txid list)
-permuted-by_txid list = subst (λ xs. IsPermutation xs (by_txid list)) (append-nil (numbered 0 list)) (permuted-onto [] 0 list)
-
 -- ---- how it rises
 
 -- by transaction, and within one by place
@@ -222,20 +215,6 @@ txids-by_txid list i j x y le found_x found_y = ⊎_elim
 
     equal : {a b : ℕ} → a ≡ b → a ≤ b
     equal same = omega arith
-
--- each place occurs once
-pub once-by_txid : (list : List Stored) (i j : ℕ) (x y : ℕ × Stored) → slice_get (by_txid list) i ≡ Some x → slice_get (by_txid list) j ≡ Some y → x.0 ≡ y.0 → i ≡ j
-once-by_txid list i j x y found_x found_y same =
-    let one : x.1 ≡ y.1 = cc (sym (there-by_txid list i x found_x) ∙ ap (slice_get list) same ∙ there-by_txid list j y found_y) in
-    let txids : txid_of x ≡ txid_of y = ap (λ (s : Stored). s.event.ev_txid) one in
-    only i j (λ less. never (txid_of x) (txid_of y) x.0 y.0 txids same (before-by_txid list i j x y less found_x found_y))
-    (λ less. never (txid_of y) (txid_of x) y.0 x.0 (sym txids) (sym same) (before-by_txid list j i y x less found_y found_x))
-  where
-    only : (i j : ℕ) → (i < j → ⊥) → (j < i → ⊥) → i ≡ j
-    only i j not_less not_greater = grind arith
-
-    never : (a b m n : ℕ) → a ≡ b → m ≡ n → (a < b) ⊎ ((a ≡ b) × (m < n)) → ⊥
-    never a b m n txids places before = grind arith
 
 -- ---- sorted by place it is the events with their places again
 
@@ -337,20 +316,3 @@ kept-onto p sorted n (s ∷ ss) below =
 
     more : (m n : ℕ) → m < n → m < n + 1
     more m n less = omega arith
-
--- those that pass, sorted by place, are those of the events with their places that pass
-pub kept-by_txid : (p : ℕ × Stored → Bool) (list : List Stored) → by_place (filter p (by_txid list)) ≡ filter p (numbered 0 list)
-kept-by_txid p list = kept-onto p [] 0 list tt
-
--- and so are all
-pub back-by_txid : (list : List Stored) → by_place (by_txid list) ≡ numbered 0 list
-back-by_txid list = ap by_place (sym (whole (by_txid list))) ∙ kept-by_txid (λ _. true) list ∙ whole (numbered 0 list)
-  where
-    whole : (xs : List (ℕ × Stored)) → filter (λ _. true) xs ≡ xs
-    whole [] = refl
-    whole (x ∷ xs) = ap (λ ys. x ∷ ys) (whole xs)
-
--- without their places they are the events
-pub stored-numbered : (n : ℕ) (list : List Stored) → map (λ x. x.1) (numbered n list) ≡ list
-stored-numbered n [] = refl
-stored-numbered n (s ∷ ss) = ap (λ rest. s ∷ rest) (stored-numbered (n + 1) ss)

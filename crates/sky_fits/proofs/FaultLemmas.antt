@@ -6,7 +6,7 @@ use Rattle.std.proofs.lemmas.Option.{none-some, same_Some}
 use Rattle.std.proofs.lemmas.List.Quantifiers.{position-Some}
 use Rattle.sky_val.specs.declared.column.Column.{Column}
 use Rattle.sky_val.specs.declared.schema.SchemaFault.TheVariants.{TooManyColumns, TwiceNamed, ReservedColumn, NoKey}
-use Rattle.sky_val.specs.Schemas.{has_name, twice_named, is_reserved, reserved_column, has_key, schema_fault}
+use Rattle.sky_val.specs.Schemas.{has_name, twice_named, reserved_column, has_key, schema_fault}
 
 twice_told : (many : Bool) (twice reserved : Option ℕ) (keyed : Bool) (place : ℕ)
     → cond many (Some TooManyColumns) (option_or (option_map TwiceNamed twice) (option_or (option_map ReservedColumn reserved) (cond keyed None (Some NoKey)))) ≡ Some (TwiceNamed place) → twice ≡ Some place
@@ -15,14 +15,6 @@ twice_told false (Some p) reserved keyed place e = cc
 twice_told false None (Some p) keyed place e = absurd (cc)
 twice_told false None None true place e = absurd (cc)
 twice_told false None None false place e = absurd (cc)
-
-reserved_told : (many : Bool) (twice reserved : Option ℕ) (keyed : Bool) (place : ℕ)
-    → cond many (Some TooManyColumns) (option_or (option_map TwiceNamed twice) (option_or (option_map ReservedColumn reserved) (cond keyed None (Some NoKey)))) ≡ Some (ReservedColumn place) → reserved ≡ Some place
-reserved_told true twice reserved keyed place e = absurd (cc)
-reserved_told false (Some p) reserved keyed place e = absurd (cc)
-reserved_told false None (Some p) keyed place e = cc
-reserved_told false None None true place e = absurd (cc)
-reserved_told false None None false place e = absurd (cc)
 
 twice_named-within : (before columns : List Column) (place : ℕ) → twice_named before columns ≡ Some place → place < length before + length columns
 twice_named-within before [] place e = absurd (none-some place e)
@@ -41,8 +33,3 @@ twice_named-place columns place e =
     let told = twice_told (nat_lt 32 (length columns)) (twice_named [] columns) (reserved_column columns) (has_key columns) place e in
     let within = twice_named-within [] columns place told in
     omega arith
-
-pub reserved-place : (columns : List Column) (place : ℕ) → schema_fault columns ≡ Some (ReservedColumn place) → place < length columns
-reserved-place columns place e =
-    let told = reserved_told (nat_lt 32 (length columns)) (twice_named [] columns) (reserved_column columns) (has_key columns) place e in
-    placed columns (λ column. is_reserved column.name) place told

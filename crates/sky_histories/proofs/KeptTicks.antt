@@ -491,13 +491,3 @@ position-later h l q consumer sub has id from = of (tick id (kept_ticks q h)) re
 pub next-kept : (h : History) → Legal h → (q : ℕ) (consumer : List ℕ) (sub : ℕ) → subscription_id q consumer h ≡ Some sub → (t : Tick)
     → tick (position q consumer h + 1) (kept_ticks q h) ≡ Some t → tick (position q consumer h + 1) (ticks q h) ≡ Some t
 next-kept h l q consumer sub has t = kept-made h l q (registered-stands h l q consumer sub has) (position q consumer h + 1) t
-
--- and each kept tick is above the second step before the last switch
-pub kept-above : (h : History) → Legal h → (q : ℕ) → IsQueue h q → All (λ t. cut q h < t.snapshot.xmin) (kept_ticks q h)
-kept-above h l q is = subst (All (λ t. cut q h < t.snapshot.xmin)) (sym (cuts h l q is).kept) (of (ticks q h))
-  where
-    of : (ts : List Tick) → All (λ t. cut q h < t.snapshot.xmin) (filter (is_above (cut q h)) ts)
-    of [] = All-nil (λ t. cut q h < t.snapshot.xmin)
-    of (t ∷ ts) =
-        by_test (λ b. All (λ t. cut q h < t.snapshot.xmin) (if b then t ∷ filter (is_above (cut q h)) ts else filter (is_above (cut q h)) ts)) (is_above (cut q h) t)
-        (λ up. All-cons (λ t. cut q h < t.snapshot.xmin) t (filter (is_above (cut q h)) ts) (grind (arith, nat_tests, up)) (of ts)) (λ _. of ts)

@@ -182,8 +182,3 @@ same-tables (restarted table) e n = same-itself n
 same-tables (hold_begun hold) e n = same-itself n
 same-tables (hold_ended hold) e n = same-itself n
 same-tables _ e n = absurd (cc)
-
-pub also-change : (mark : NodeMark) → keeps_tables mark ≡ true → is_change mark ≡ true
-also-change (root_made name queue) e = absurd (cc)
-also-change (leaf_made name provider tick) e = absurd (cc)
-also-change _ e = refl

@@ -16,7 +16,7 @@ use Rattle.sky_model.specs.Gates.{Gate, by_gate}
 use Rattle.sky_model.specs.Settling.{Turn, rests, behind_marks, with_rest, and_then, ready, attempted, resumed, goes_on, settles, settling}
 use Rattle.sky_model.specs.Printed.{ReplyHasMoments}
 use Rattle.sky_model.specs.Sessions.{Session}
-use Rattle.sky_model.specs.Permits.{MarkKinds, of_any, of_rows, attempt_leaves, may_leave}
+use Rattle.sky_model.specs.Permits.{MarkKinds, of_any, of_rows, attempt_kinds, may_leave}
 use Rattle.sky_histories.proofs.StatementMarks.{EachMark, Gives, gives-map, gives-attempts, gives-gated, given-settled}
 use Rattle.sky_model.proofs.Cases.{by_test}
 
@@ -42,7 +42,7 @@ quiet-if k none still s who _ e = refl
 attempts-quiet : (d : RowPart) (shown : KeyShown) (who table : ℕ) (key : List Val) (attempt : Attempt) → other_holder d.holder who table key ≡ None
     → Quiet (attempts d shown who table key attempt)
 attempts-quiet d shown who table key attempt free =
-    let k : MarkKinds = of_rows (attempt_leaves (is_some (other_holder d.holder who table key))) in
+    let k : MarkKinds = of_rows (attempt_kinds (is_some (other_holder d.holder who table key))) in
     gives-map ReplyHasMoments ReplyHasMoments (may_leave k (d.session who) who) keeps_waiters (λ reply has. has) (quiet-if k (ap is_some free) refl (d.session who) who) _ (gives-attempts who d shown table key attempt)
 
 waiting-quiet : (d : RowPart) (marks : List Mark) → NoWaits marks → (behind_marks part_by_itself d marks).waiting ≡ d.waiting

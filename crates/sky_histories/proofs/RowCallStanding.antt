@@ -16,8 +16,8 @@ use Rattle.sky_model.specs.OwnTransaction.{own_or_next, txid_for, begin_of, next
 use Rattle.sky_model.specs.Allowed.{allowed}
 use Rattle.sky_model.specs.Made.{takes_sight}
 use Rattle.sky_model.specs.Reader.{part_by_history, part_by_itself}
-use Rattle.sky_model.specs.Gates.{Gate, by_gate, open_gate}
-use Rattle.sky_model.specs.Rooms.{Room, any_room, room_of, room_gate}
+use Rattle.sky_model.specs.Gates.{Gate, by_gate}
+use Rattle.sky_model.specs.Rooms.{Room, room_of, room_gate}
 use Rattle.sky_model.specs.Settling.{Turn, rests, behind_marks, marked, settling, with_settling}
 use Rattle.sky_model.specs.Calls.{row_turn}
 use Rattle.sky_model.specs.SessionMarks.{failure, single_end, Enters, look_of, enters, entry_place, entry, failing, takes_id, taking, ending}
@@ -35,7 +35,6 @@ use Rattle.sky_histories.proofs.Promised.{promised}
 use Rattle.sky_model.proofs.Cases.{by_test}
 use Rattle.sky_histories.proofs.Entering.{entered-part}
 use Rattle.sky_histories.proofs.RowStanding.{part_of-marks}
-use Rattle.sky_histories.proofs.GatedLemmas.{open-turn, open-with_settling}
 use Rattle.sky_histories.proofs.GatedStanding.{good_gated_turn, good_gated_settling, same-gated_turn, same-gated_settling}
 use Rattle.sky_histories.proofs.RoomsAlike.{room-turn, room-settling}
 use Rattle.sky_model.specs.Copies.{copies, is_copys}
@@ -221,22 +220,10 @@ pub gated_settle_from_exact : {G : Type 0} (gate : Gate G) (old new : RowPart) (
 gated_settle_from_exact gate old new g =
     row_call_from_exact old new (row_settled (room_of gate g)) (settling (by_gate gate part_by_itself) (old, g)) (room-settling gate g old rests)
 
--- and without one
-pub row_step_from_exact : (old new : RowPart) (who : ℕ) (stmt : RowStmt) → new ≡ after_part_marks old (row_turn part_by_itself old who stmt).marks
-    → RowSteps old new (row_stepped any_room who stmt) (row_turn part_by_itself old who stmt)
-row_step_from_exact old new who stmt =
-    row_call_from_exact old new (row_stepped any_room who stmt) (row_turn part_by_itself old who stmt) (sym (open-turn old who stmt) ∙ room-turn open_gate tt old who stmt)
-
 pub row_enter_from_exact : (old new : RowPart) (who : ℕ) (alone : Bool) (refusal : Option Refusal) → Enters old new who (entry_place alone) refusal
     → RowSteps old new (row_entered who alone) (entry old who (entry_place alone))
 row_enter_from_exact old new who alone refusal enters =
     row_call_from_exact old new (row_entered who alone) (entry old who (entry_place alone)) refl (entered-part old new who (entry_place alone) refusal enters)
-
-pub row_fail_from_exact : (old new : RowPart) (who : ℕ) → new ≡ after_part_marks old (with_settling part_by_itself old (failing old who)).marks
-    → RowSteps old new (row_failed any_room who) (with_settling part_by_itself old (failing old who))
-row_fail_from_exact old new who =
-    row_call_from_exact old new (row_failed any_room who) (with_settling part_by_itself old (failing old who))
-    (sym (open-with_settling old (failing old who)) ∙ room-settling open_gate tt old (failing old who))
 
 pub take_txid_from_exact : (old new : RowPart) (who t : ℕ) → txid_for old who ≡ Ok t → new ≡ after_part_marks old (begin_of who t (old.session who).txid)
     → RowSteps old new (txid_taken who) (taking old who)
@@ -259,11 +246,6 @@ roll_back_from_exact old new who = row_call_from_exact old new (rolled_back who)
 pub begin_worker_from_exact : (old new : RowPart) (t : ℕ) → next_id old ≡ Ok t → new ≡ after_part_marks old (began of_worker t ∷ []) → RowSteps old new worker_begun (beginning old)
 begin_worker_from_exact old new t is changed =
     row_call_from_exact old new worker_begun (beginning old) refl (changed ∙ sym (ap (λ o. after_part_marks old (begins_with o).marks) is))
-
--- no id is left, and nothing has changed
-pub no_worker_from_exact : (old new : RowPart) (refusal : Refusal) → next_id old ≡ Err refusal → new ≡ old → RowSteps old new worker_begun (beginning old)
-no_worker_from_exact old new refusal is same =
-    row_call_from_exact old new worker_begun (beginning old) refl (same ∙ sym (ap (λ o. after_part_marks old (begins_with o).marks) is))
 
 -- one that runs ends
 pub end_worker_from_exact : (old new : RowPart) (t : ℕ) (committed : Bool) → contains t old.workers ≡ true → new ≡ after_part old (ended of_worker t committed)

@@ -18,7 +18,7 @@ use Rattle.sky_model.specs.Gates.{Gate, by_gate}
 use Rattle.sky_model.specs.Settling.{Turn, turn_of, settling}
 use Rattle.sky_model.specs.SessionMarks.{failure}
 use Rattle.sky_model.specs.Calls.{row_form, row_making, row_statement, row_turn}
-use Rattle.sky_model.specs.Permits.{MarkKinds, of_any, of_rows, attempt_leaves, of_resumed, may_leave, permit_of_row}
+use Rattle.sky_model.specs.Permits.{MarkKinds, of_any, of_rows, attempt_kinds, of_resumed, may_leave, permit_of_row}
 use Rattle.sky_histories.proofs.StatementMarks.{EachMark, Gives, gives-map, no-queued, gives-attempt, gives-row_form, gives-gated, each-abort, each-failure, given-runs, KeepsMarks, TurnGives, turn_of-gives, then-gives, settling-gives}
 
 abbrev pub is_of_rows : Mark → Bool
@@ -54,7 +54,7 @@ rows-if k s who _ e = refl
 -- an attempt with a key
 pub attempts-rows : (d : RowPart) (shown : KeyShown) (who table : ℕ) (key : List Val) (attempt : Attempt) → OfRows (attempts d shown who table key attempt)
 attempts-rows d shown who table key attempt =
-    gives-map ReplyHasMoments ReplyHasMoments (may_leave (of_rows (attempt_leaves true)) (d.session who) who) is_of_rows (λ reply has. has) (rows-if (attempt_leaves true) (d.session who) who) _ (gives-attempt who d shown table key attempt)
+    gives-map ReplyHasMoments ReplyHasMoments (may_leave (of_rows (attempt_kinds true)) (d.session who) who) is_of_rows (λ reply has. has) (rows-if (attempt_kinds true) (d.session who) who) _ (gives-attempt who d shown table key attempt)
 
 -- a refusal that aborts a block
 pub abort-rows : (who : ℕ) (b : Block) (o : Option ℕ) (refusal : Refusal) → RowMarks (abort who b o refusal)

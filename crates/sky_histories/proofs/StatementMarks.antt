@@ -13,7 +13,7 @@ use Rattle.sky_model.specs.declared.stmt.DbStmt.{DbStmt}
 use Rattle.sky_model.specs.declared.stmt.DbStmt.TheVariants.{Row, Queue}
 use Rattle.sky_model.specs.declared.stmt.QueueStmt.{QueueStmt}
 use Rattle.sky_model.specs.declared.stmt.QueueStmt.TheVariants.{CreateQueue, DropQueue, SetQueueConfig, QueueInfo, InsertEvent, AddTrigger, Ticker, ForceTick, RegisterConsumer, RegisterConsumerAt, UnregisterConsumer, NextBatch, GetBatchEvents, GetBatchInfo, EventRetry, FinishBatch, MaintRetryEvents, MaintRotateStep1, MaintRotateStep2, ConsumerInfo}
-use Rattle.sky_model.specs.Permits.{MarkKinds, of_any, of_rows, attempt_leaves, of_resumed, may_put, may_leave, permit_of_row, permit_of_queue, permit_of}
+use Rattle.sky_model.specs.Permits.{MarkKinds, of_any, of_rows, attempt_kinds, of_resumed, may_put, may_leave, permit_of_row, permit_of_queue, permit_of}
 use Rattle.sky_model.specs.declared.stmt.Where.{Where}
 use Rattle.sky_model.specs.declared.reply.Reply.{Reply}
 use Rattle.sky_model.specs.declared.reply.Reply.TheVariants.{Refused}
@@ -242,39 +242,39 @@ module _ (who : ℕ) where
   RowGives k s c = Gives ReplyHasMoments (may_leave k s who) c
 
   gives-writes : (held : Bool) (d : RowPart) (table : ℕ) (key : List Val) (old new : Option (List Val))
-      → RowGives (of_rows (attempt_leaves held)) (d.session who) (writes_key d who table key old new)
+      → RowGives (of_rows (attempt_kinds held)) (d.session who) (writes_key d who table key old new)
   gives-writes held d table key old new = search (checked, left-written)
 
   gives-once_free : (d : RowPart) (table : ℕ) (key : List Val) (attempt : Attempt) (other : Option ℕ) (c : Checked Outcome)
-      → RowGives (of_rows (attempt_leaves (is_some other))) (d.session who) c → RowGives (of_rows (attempt_leaves (is_some other))) (d.session who) (once_free d who table key attempt other c)
+      → RowGives (of_rows (attempt_kinds (is_some other))) (d.session who) c → RowGives (of_rows (attempt_kinds (is_some other))) (d.session who) (once_free d who table key attempt other c)
   gives-once_free d table key attempt None c gives = gives
   gives-once_free d table key attempt (Some holder) c gives =
       let own : When (who == who) (Unit {0}) = subst (λ b. When b (Unit {0})) (sym (same-session who)) tt in
       search (after)
 
   gives-changes : (d : RowPart) (shown : KeyShown) (table : ℕ) (key : List Val) (attempt : Attempt) (new_of : List Val → Checked (Option (List Val))) (row : Option (List Val))
-      → RowGives (of_rows (attempt_leaves (is_some (other_holder d.holder who table key)))) (d.session who) (changes d shown who table key attempt new_of row)
+      → RowGives (of_rows (attempt_kinds (is_some (other_holder d.holder who table key)))) (d.session who) (changes d shown who table key attempt new_of row)
   gives-changes d shown table key attempt new_of None = (tt, tt)
   gives-changes d shown table key attempt new_of (Some row) = search (gives-once_free, after, checked, gives-writes)
 
   -- an attempt with a key
   pub gives-attempts : (d : RowPart) (shown : KeyShown) (table : ℕ) (key : List Val) (attempt : Attempt)
-      → RowGives (of_rows (attempt_leaves (is_some (other_holder d.holder who table key)))) (d.session who) (attempts d shown who table key attempt)
+      → RowGives (of_rows (attempt_kinds (is_some (other_holder d.holder who table key)))) (d.session who) (attempts d shown who table key attempt)
   gives-attempts d shown table key (Insertion row) = search (gives-once_free, after, gives-writes)
   gives-attempts d shown table key (Changes sets) = search (gives-changes)
   gives-attempts d shown table key Deletion = search (gives-changes)
 
   -- if it isn't known whether another session holds it
   pub gives-attempt : (d : RowPart) (shown : KeyShown) (table : ℕ) (key : List Val) (attempt : Attempt)
-      → RowGives (of_rows (attempt_leaves true)) (d.session who) (attempts d shown who table key attempt)
+      → RowGives (of_rows (attempt_kinds true)) (d.session who) (attempts d shown who table key attempt)
   gives-attempt d shown table key attempt =
-      gives-map ReplyHasMoments ReplyHasMoments (may_leave (of_rows (attempt_leaves held)) (d.session who) who) (may_leave (of_rows (attempt_leaves true)) (d.session who) who) (λ reply has. has)
+      gives-map ReplyHasMoments ReplyHasMoments (may_leave (of_rows (attempt_kinds held)) (d.session who) who) (may_leave (of_rows (attempt_kinds true)) (d.session who) who) (λ reply has. has)
       (also held) _ (gives-attempts d shown table key attempt)
     where
       held : Bool
       held = is_some (other_holder d.holder who table key)
 
-      also : (b : Bool) (mark : Mark) → may_leave (of_rows (attempt_leaves b)) (d.session who) who mark ≡ true → may_leave (of_rows (attempt_leaves true)) (d.session who) who mark ≡ true
+      also : (b : Bool) (mark : Mark) → may_leave (of_rows (attempt_kinds b)) (d.session who) who mark ≡ true → may_leave (of_rows (attempt_kinds true)) (d.session who) who mark ≡ true
       also true mark e = e
       also false (tabled (waits v n at attempt)) e = absurd (cc)
       also false mark e = e
@@ -636,15 +636,15 @@ module _ {P : Type 0} (p : Mark → Bool) (wakes : (who : ℕ) → p (tabled (wa
   resumed-gives x w =
       let s : Session = (r.part behind).session w.who in
       let run : TurnGives p (turn_of w.who (attempted r w ((r.part x).attempt w.who) behind)) = turn_of-gives p w.who _ (given-settled ReplyHasMoments p (λ refusal. tt) plain w.who s _
-      (keeps.tells behind _ (gives-map ReplyHasMoments ReplyHasMoments (may_leave (of_rows (attempt_leaves true)) s w.who) p (λ reply has. has) (attempt-tried s w.who) _
+      (keeps.tells behind _ (gives-map ReplyHasMoments ReplyHasMoments (may_leave (of_rows (attempt_kinds true)) s w.who) p (λ reply has. has) (attempt-tried s w.who) _
       (gives-attempt w.who (r.part behind) ((r.rows behind).key w.who w.table w.key) w.table w.key ((r.part x).attempt w.who))))) in
       record { moments = run.moments; marks = each-front p (tabled (waited w.who)) _ (wakes w.who) run.marks }
     where
       behind : P
       behind = r.behind x (tabled (waited w.who))
 
-      attempt-tried : (s : Session) (who : ℕ) (mark : Mark) → may_leave (of_rows (attempt_leaves true)) s who mark ≡ true → p mark ≡ true
-      attempt-tried s who (queued mark) e = absurd (no-queued (attempt_leaves true) s who mark e)
+      attempt-tried : (s : Session) (who : ℕ) (mark : Mark) → may_leave (of_rows (attempt_kinds true)) s who mark ≡ true → p mark ≡ true
+      attempt-tried s who (queued mark) e = absurd (no-queued (attempt_kinds true) s who mark e)
       attempt-tried s who (sight_taken v) e = absurd (cc)
       attempt-tried s who (block_failed v) e = absurd (cc)
       attempt-tried s who (ended (of_session v) t false) e = absurd (cc)

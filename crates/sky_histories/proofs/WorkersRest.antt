@@ -58,7 +58,7 @@ use Rattle.sky_histories.proofs.LawfulTelling.{legal_behind}
 use Rattle.sky_histories.proofs.RetryCopies.{copies}
 use Rattle.sky_histories.proofs.RetriesBack.{AreBack, due-back}
 use Rattle.sky_histories.proofs.EventsBegun.{events-begun}
-use Rattle.sky_histories.proofs.StatementMarks.{EachMark, each-map, each-first, each-rest, each-given, AnyReply, Gives, gives-map, gives-tick, gives-tells, is_common, is_told, is_tick, gives-form, each-abort, each-failure, settling-gives}
+use Rattle.sky_histories.proofs.StatementMarks.{EachMark, each-map, each-first, each-rest, each-given, AnyReply, Gives, gives-map, gives-tick, gives-tells, is_told, is_tick, gives-form, each-abort, each-failure, settling-gives}
 
 -- no mark of a worker's transaction, and none by which a retry comes back
 abbrev pub is_no_work : Mark → Bool
@@ -66,10 +66,6 @@ is_no_work (began of_worker t) = false
 is_no_work (ended of_worker t committed) = false
 is_no_work (queued (returned retry moment)) = false
 is_no_work _ = true
-
-no_work-queues : (mark : QueueMark) → is_common mark ≡ true → is_no_work (queued mark) ≡ true
-no_work-queues (returned retry moment) e = absurd (cc)
-no_work-queues _ e = refl
 
 no_work-told : (mark : QueueMark) → is_told mark ≡ true → is_no_work (queued mark) ≡ true
 no_work-told (returned retry moment) e = absurd (cc)

@@ -1,9 +1,9 @@
 -- What a sink got of several texts.
-use Rattle.std.proofs.Common.{ℕ, ◌+◌, List, [], ◌++◌, refl, ap, ◌∙◌, sym, append_assoc, append-nil, take, drop}
+use Rattle.std.proofs.Common.{ℕ, ◌+◌, List, [], ◌++◌, refl, ap, ◌∙◌, append_assoc, append-nil, take, drop}
 use Rattle.std.proofs.lemmas.List.{take-append-drop}
 use Rattle.std.proofs.Math.Seq.{take-add}
 use Rattle.std.specs.Prelude.{Option}
-use Rattle.std.specs.Io.KnownBytes.{Appends, Keeps}
+use Rattle.std.specs.Io.KnownBytes.{Appends}
 use Rattle.std.proofs.KnownBytes as known
 use Rattle.sky_io.specs.Appends.{AppendsPrefix}
 
@@ -19,10 +19,6 @@ Appends-taken old mid new count more text first second = rw (take-add count more
 pub AppendsPrefix-nothing : (held : Option (List ℕ)) (text : List ℕ) → AppendsPrefix held held text
 AppendsPrefix-nothing held text = record { got = []; rest = text; appends = known.Appends-nil held; whole = refl }
 
--- a sink that keeps what it held got a prefix of any text
-pub AppendsPrefix-kept : (old new : Option (List ℕ)) (text : List ℕ) → Keeps old new → AppendsPrefix old new text
-AppendsPrefix-kept old new text kept = record { got = []; rest = text; appends = known.Appends-kept old old new [] (known.Appends-nil old) kept; whole = refl }
-
 -- a text is a prefix of itself followed by more
 pub AppendsPrefix-followed : (old new : Option (List ℕ)) (text more : List ℕ) → Appends old new text → AppendsPrefix old new (text ++ more)
 AppendsPrefix-followed old new text more appends = record { got = text; rest = more; appends = appends; whole = refl }
@@ -34,15 +30,6 @@ AppendsPrefix-taken old new count text appends = record { got = take count text;
 -- a text is a prefix of itself
 pub AppendsPrefix-whole : (old new : Option (List ℕ)) (text : List ℕ) → Appends old new text → AppendsPrefix old new text
 AppendsPrefix-whole old new text appends = record { got = text; rest = []; appends = appends; whole = append-nil text }
-
--- a prefix of a text is a prefix of the text followed by more
-pub AppendsPrefix-more : (old new : Option (List ℕ)) (text more : List ℕ) → AppendsPrefix old new text → AppendsPrefix old new (text ++ more)
-AppendsPrefix-more old new text more prefix = record {
-  got = prefix.got;
-  rest = prefix.rest ++ more;
-  appends = prefix.appends;
-  whole = sym (append_assoc prefix.got prefix.rest more) ∙ ap (λ t. t ++ more) prefix.whole;
-}
 
 -- a whole piece and then a prefix of the rest are a prefix of the whole
 pub AppendsPrefix-after : (old mid new : Option (List ℕ)) (piece rest : List ℕ) → Appends old mid piece → AppendsPrefix mid new rest → AppendsPrefix old new (piece ++ rest)

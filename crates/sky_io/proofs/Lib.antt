@@ -1,2 +1,1 @@
-pub mod RoseLemmas
 pub mod AppendsLemmas

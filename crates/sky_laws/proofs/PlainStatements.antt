@@ -4,7 +4,7 @@ use Rattle.std.proofs.Common.{◌≡◌, ℕ, ℤ, List, [], ◌∷◌, Bool, tr
 use Rattle.sky_val.specs.declared.val.Val.{Val}
 use Rattle.sky_model.specs.declared.stmt.Attempt.{Attempt}
 use Rattle.sky_model.specs.declared.stmt.DbStmt.{DbStmt}
-use Rattle.sky_model.specs.Permits.{MarkKinds, of_any, of_rows, attempt_leaves, may_put, may_leave, permit_of}
+use Rattle.sky_model.specs.Permits.{MarkKinds, of_any, of_rows, attempt_kinds, may_put, may_leave, permit_of}
 use Rattle.sky_model.specs.declared.reply.Refusal.{Refusal}
 use Rattle.sky_model.specs.History.{Mark, of_session, of_worker, ended, block_begun, block_failed, block_ended, queued, put, switching, switched, History, QueueMark, raised, second_step, ticked}
 use Rattle.sky_model.specs.Queues.{NamedQueue}
@@ -126,8 +126,8 @@ module _ (who : ℕ) where
   does-attempts d now shown table key attempt =
       let s : Session = d.part.session who in
       gives-tells (may_do s.block who) told AnyReply d now _
-      (gives-map ReplyHasMoments AnyReply (may_leave (of_rows (attempt_leaves true)) s who) (may_do s.block who) (λ reply has. tt)
-      (does-if (of_rows (attempt_leaves true)) (record { begins = refl; commits = refl; rotates = refl; switches = refl; brings_back = refl }) s who) _ (gives-attempt who d.part shown table key attempt))
+      (gives-map ReplyHasMoments AnyReply (may_leave (of_rows (attempt_kinds true)) s who) (may_do s.block who) (λ reply has. tt)
+      (does-if (of_rows (attempt_kinds true)) (record { begins = refl; commits = refl; rotates = refl; switches = refl; brings_back = refl }) s who) _ (gives-attempt who d.part shown table key attempt))
     where
       told : (mark : QueueMark) → is_told mark ≡ true → may_do (d.part.session who).block who (queued mark) ≡ true
       told (raised q value) e = refl

@@ -39,10 +39,6 @@ one-before t u (x ∷ xs) other has_t has_u isnt = grind (arith, nat_tests, one-
 
 -- ---- who has written a key
 
-or_false : (b : Bool) → (b || false) ≡ b
-or_false true = refl
-or_false false = refl
-
 turned_test : (t v : ℕ) (b : Bool) → (v == t) ≡ b → (t == v) ≡ b
 turned_test t v b e = grind (arith, nat_tests)
 

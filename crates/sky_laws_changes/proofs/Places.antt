@@ -76,10 +76,6 @@ rolled_back-since (later {h = h} {mark = mark} s) t e = rolled_back-behind h mar
 pub committed-ended : (h : History) → Legal h → (t : ℕ) → has_committed h t ≡ true → has_ended h t ≡ true
 committed-ended h l t e = (and_parts (has_ended h t) (not (has_rolled_back h t)) (sym (has_committed-ended h l t) ∙ e)).0
 
--- so one that hasn't ended hasn't
-pub running-uncommitted : (h : History) → Legal h → (t : ℕ) → has_ended h t ≡ false → has_committed h t ≡ false
-running-uncommitted h l t runs = false_from_ne_true (has_committed h t) (λ is. absurd (cc (sym runs ∙ committed-ended h l t is)))
-
 -- nor had it at an earlier place
 pub uncommitted-since : {k h : History} → Since k h → Legal h → (t : ℕ) → has_ended h t ≡ false → has_committed k t ≡ false
 uncommitted-since {k = k} {h = h} s l t runs = false_from_ne_true (has_committed k t) (λ is. absurd (cc (sym runs ∙ committed-ended h l t (committed-since s t is))))

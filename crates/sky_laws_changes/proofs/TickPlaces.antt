@@ -21,10 +21,6 @@ use Rattle.sky_laws_changes.proofs.ToldEvents.{is_event}
 
 -- ---- places
 
-from-nothing : (h : History) → Since [] h
-from-nothing [] = here
-from-nothing (mark ∷ h) = later (from-nothing h)
-
 pub tick-since : (q id : ℕ) (h : History) → Since (at_tick q id h) h
 tick-since q id [] = here
 tick-since q id (queued (made name t time) ∷ h) =

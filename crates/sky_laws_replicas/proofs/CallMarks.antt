@@ -17,7 +17,7 @@ use Rattle.sky_model.specs.StepQueue.{newest_id}
 use Rattle.sky_model.specs.StepConsumer.{opens_batch, takes_batch}
 use Rattle.sky_model.specs.StepApply.{applies_batch}
 use Rattle.sky_model.specs.StepCopy.{copy_write, copy_writes, deletions, insertions, rows_now, begins_copy, all_fit, copies_rows, given_up}
-use Rattle.sky_model.specs.CallPermits.{CallMarkKinds, none_of_calls, may_be_left, kinds_of_call}
+use Rattle.sky_model.specs.CallPermits.{CallMarkKinds, no_call_marks, may_be_left, kinds_of_call}
 use Rattle.sky_model.specs.StepNode.{NodeCall, joining, parting, fetching, finishing, making_root, making_leaf, adding, removing, moving, listing, unlisting, beginning_copy, copying_rows, ending_copy, giving_up_copy, applying, holding, letting_go, set_queue, joins, parts, table_number, may_serve, call_form, node_does}
 use Rattle.sky_histories.proofs.ApplyCalls.{is_for_applying, gives-applies}
 use Rattle.sky_histories.proofs.CopyCalls.{gives-there}
@@ -49,7 +49,7 @@ gives-takes : (d : Database) (queue : ℕ) (consumer : List ℕ) (sub : Subscrip
 gives-takes d queue consumer sub (Some batch) = (tt, tt)
 gives-takes d queue consumer sub None = gives-opens d queue consumer sub (tick (sub.position + 1) (d.queue queue).tick_list)
 
-for-applying : (mark : Mark) → is_for_applying mark ≡ true → may_be_left (record none_of_calls { works = true; applies = true }) mark ≡ true
+for-applying : (mark : Mark) → is_for_applying mark ≡ true → may_be_left (record no_call_marks { works = true; applies = true }) mark ≡ true
 for-applying (began of_worker t) e = refl
 for-applying (ended of_worker t committed) e = refl
 for-applying (tabled (wrote of_worker t table key old new)) e = refl

@@ -30,7 +30,7 @@ use Rattle.sky_model.proofs.Cases.{by_test}
 use Rattle.sky_histories.proofs.InCopyTables.{found}
 use Rattle.sky_laws.proofs.NodeLaws.{among-are}
 use Rattle.sky_laws_synced.proofs.FollowingCalls.{after_call}
-use Rattle.sky_model.specs.CallPermits.{none_of_calls, may_be_left}
+use Rattle.sky_model.specs.CallPermits.{no_call_marks, may_be_left}
 use Rattle.sky_laws_replicas.proofs.CallMarks.{each-does}
 
 -- ---- marks that leave a node as it is
@@ -51,7 +51,7 @@ node-still h (noded mark ∷ marks) each = absurd each
 node-still h (mark ∷ marks) each = node-still (mark ∷ h) marks each
 
 -- such are marks by which a copy begins, writes or is given up
-still-if : (begins writes gives : Bool) (mark : Mark) → may_be_left (record none_of_calls { begins_copy = begins; copies_row = writes; gives_up = gives }) mark ≡ true → is_still mark ≡ true
+still-if : (begins writes gives : Bool) (mark : Mark) → may_be_left (record no_call_marks { begins_copy = begins; copies_row = writes; gives_up = gives }) mark ≡ true → is_still mark ≡ true
 still-if begins writes gives (noded (restarted table)) e = refl
 still-if begins writes gives (noded (hold_begun hold)) e = refl
 still-if begins writes gives (noded (hold_ended hold)) e = refl

@@ -10,7 +10,7 @@ use Rattle.sky_model.specs.declared.reply.Reply.{Reply}
 use Rattle.sky_model.specs.declared.reply.Refusal.{Refusal}
 use Rattle.sky_model.specs.declared.reply.Refusal.TheVariants.{Canceled}
 use Rattle.sky_model.specs.History.{Mark, block_failed, sight_taken, tabled, waited, History}
-use Rattle.sky_model.specs.Permits.{MarkKinds, of_rows, attempt_leaves, may_leave, permit_of}
+use Rattle.sky_model.specs.Permits.{MarkKinds, of_rows, attempt_kinds, may_leave, permit_of}
 use Rattle.sky_model.specs.Sessions.{Block, outside, inside, failed, has_open, block, own_txid, Session, session}
 use Rattle.sky_model.specs.Locks.{waiting}
 use Rattle.sky_model.specs.State.{part_of, Database, database_of}
@@ -78,7 +78,7 @@ none-resumed h now w =
     let g : History = tabled (waited w.who) ∷ h in
     none-settled ReplyHasMoments w.who (session g w.who) _
     (gives-tells takes_none (λ mark _. refl) ReplyHasMoments (database_of g) now _
-    (gives-map ReplyHasMoments ReplyHasMoments _ takes_none (λ reply has. has) (none-if (of_rows (attempt_leaves true)) refl (session g w.who) w.who) _
+    (gives-map ReplyHasMoments ReplyHasMoments _ takes_none (λ reply has. has) (none-if (of_rows (attempt_kinds true)) refl (session g w.who) w.who) _
     (gives-attempt w.who (part_of g) ((shown_in g).rows.key w.who w.table w.key) w.table w.key ((part_of h).attempt w.who))))
 
 none-settles : (now : ℤ) (n : ℕ) (h : History) → EachMark takes_none (settles (within_part database_by_history now) n h).marks

@@ -1,5 +1,5 @@
 -- Small facts on lists and results.
-use Rattle.std.proofs.Common.{◌≡◌, ℕ, zero, suc, nat_eq, not, Some, subst, Bool, true, false, cond, List, [], ◌∷◌, ◌++◌, length, slice_set, Result, Ok, Err, refl, sym, ◌∙◌, ap, arith}
+use Rattle.std.proofs.Common.{◌≡◌, ℕ, zero, suc, nat_eq, not, Some, subst, true, false, cond, List, [], ◌∷◌, ◌++◌, length, slice_set, Result, Ok, Err, refl, sym, ◌∙◌, ap, arith}
 use Rattle.std.specs.Prelude.{◌==◌, OnOk, OnErr, filter, slice_get}
 use Rattle.std.specs.List.{IsDistinct, AllByRecursion, list_any, remove}
 use Rattle.std.proofs.lemmas.Bool.{eqb-true, eq-eqb, or_parts}
@@ -27,11 +27,6 @@ on_ok_then (Err e) f p = tt
 pub either_way : {X E P Q R : Type 0} (r : Result X E) → (P → R) → (Q → R) → OnOk r P → OnErr r Q → R
 either_way (Ok x) f g p q = f p
 either_way (Err e) f g p q = g q
-
--- what was put at a key and is replaced there leaves no trace
-pub put_away : {X : Type 0} (here : Bool) (last first rest : X) → cond here last (cond here first rest) ≡ cond here last rest
-put_away true last first rest = refl
-put_away false last first rest = refl
 
 -- the last item is replaced
 pub set-last : {X : Type 0} (xs : List X) (x y : X) → slice_set (xs ++ x ∷ []) (length xs) y ≡ xs ++ y ∷ []

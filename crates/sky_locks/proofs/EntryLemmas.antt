@@ -46,11 +46,6 @@ one_less (Some v ∷ es) zero w here = omega arith
 one_less (None ∷ es) (suc a) w here = one_less es a w here
 one_less (Some v ∷ es) (suc a) w here = let rest = one_less es a w here in omega arith
 
-pub none_less : (es : Entries) (a : ℕ) → entry_at es a ≡ None → slice_set es a None ≡ es
-none_less [] a none = refl
-none_less (e ∷ es) zero none = ap (λ f. f ∷ es) (sym none)
-none_less (e ∷ es) (suc a) none = ap (λ fs. e ∷ fs) (none_less es a none)
-
 -- ---- a session's entry
 
 pub entry-none : (es : Entries) (who : ℕ) → NoneOf who es → entry_of who (waiting_in es) ≡ None

@@ -24,10 +24,6 @@ pub come : (b : Bool) → cond (b && true) true false ≡ b
 come true = refl
 come false = refl
 
-pub come_and_gone : (b : Bool) → cond (b && true) false (cond (b && true) true false) ≡ false
-come_and_gone true = refl
-come_and_gone false = refl
-
 pub index-freed : (v w : Index) (old new : LockKey → Option ℕ) (who : ℕ) (key : LockKey)
     → ((s : ℕ) (q : LockKey) → w s q ≡ cond (s == who && eq_by_cmp lock_cmp key q) false (v s q))
     → ((q : LockKey) → new q ≡ cond (eq_by_cmp lock_cmp key q) None (old q))
@@ -51,22 +47,6 @@ index-held v w old new who key index held was kept s q =
       | true ↦ λ tie. ap (cond (s == who && true) true) (kept s q ∙ ap (λ k. is_holder s (old k)) (sym (lock_ties-is key q tie)) ∙ ap (is_holder s) was) ∙ come (s == who)
       | false ↦ λ _. and_no (s == who) true (v s q) ∙ kept s q
     ] refl ∙ ap (is_holder s) (sym (held q))
-
--- listed, and removed again
-pub index-restored : (v w x : Index) (old : LockKey → Option ℕ) (who : ℕ) (key : LockKey)
-    → ((s : ℕ) (q : LockKey) → w s q ≡ cond (s == who && eq_by_cmp lock_cmp key q) true (v s q))
-    → ((s : ℕ) (q : LockKey) → x s q ≡ cond (s == who && eq_by_cmp lock_cmp key q) false (w s q))
-    → old key ≡ None
-    → ((s : ℕ) (q : LockKey) → v s q ≡ is_holder s (old q))
-    → (s : ℕ) (q : LockKey) → x s q ≡ is_holder s (old q)
-index-restored v w x old who key come_in go_out was kept s q =
-    go_out s q ∙ ap (cond (s == who && eq_by_cmp lock_cmp key q) false) (come_in s q)
-    ∙ elim (eq_by_cmp lock_cmp key q) as (λ t. eq_by_cmp lock_cmp key q ≡ t → cond (s == who && t) false (cond (s == who && t) true (v s q)) ≡ is_holder s (old q)) [
-      | true ↦ λ tie.
-          let none : is_holder s (old q) ≡ false = ap (λ k. is_holder s (old k)) (sym (lock_ties-is key q tie)) ∙ ap (is_holder s) was in
-          ap (λ b. cond (s == who && true) false (cond (s == who && true) true b)) (kept s q ∙ none) ∙ come_and_gone (s == who) ∙ sym none
-      | false ↦ λ _. and_no (s == who) false (cond (s == who && false) true (v s q)) ∙ and_no (s == who) true (v s q) ∙ kept s q
-    ] refl
 
 -- the session that an index names is the holder
 pub holder_from_index : (s : ℕ) (o : Option ℕ) → is_holder s o ≡ true → o ≡ Some s

@@ -178,14 +178,6 @@ puts-written old placed key p was now here there own =
     puts-changed old (record { slots = with_value old.slots p now; places = old.places }) key p (Some now)
     (rewritten old.places old.slots placed key p now here (own ∙ ap (λ (s : Slot). s.key) same ∙ its.own))
 
-pub placed-written : (old : SlotsView) → IsPlaced old.places old.slots → (key : LockKey) (p : ℕ) (was now : Slot) → place_at old.places key ≡ Some p → slab_get old.slots p ≡ Some was → now.key ≡ was.key
-    → IsPlaced old.places (with_value old.slots p now)
-placed-written old placed key p was now here there own =
-    let its = its_slot old.places old.slots placed key p here in
-    let same : was ≡ its.slot = same_slot was its.slot (sym there ∙ its.there) in
-    placed-changed old.places old.places old.slots (with_value old.slots p now) key p (Some now) placed
-    (rewritten old.places old.slots placed key p now here (own ∙ ap (λ (s : Slot). s.key) same ∙ its.own))
-
 -- a key gets a slot
 pub inserted : (places places' : Places) (slots slots' : Slab Slot) → IsPlaced places slots → (key : LockKey) (p : ℕ) (now : Slot) → place_at places key ≡ None → slab_get slots p ≡ None → now.key ≡ key
     → ((q : LockKey) → place_at places' q ≡ cond (eq_by_cmp lock_cmp key q) (Some p) (place_at places q)) → Updates slots slots' p (Some now) → Changes places slots key p (Some now) places' slots'

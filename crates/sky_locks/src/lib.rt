@@ -2,7 +2,7 @@
 //!
 //! `Locks` is seen as the holder of each key, the wait queue in order of arrival, and the place of each key's slot, by
 //! which a caller that found it reads the holder and takes the key. A slot has for each key its holder and those that
-//! wait for it, and a map the slot's place; what a session holds, and when it came, is in vectors by its number, since
+//! wait for it, and a map gives the slot's place; what a session holds, and when it came, is in vectors by its number, since
 //! these numbers are small.
 //!
 //! Nothing here knows a transaction, a statement or the row of a key: a caller that ends a transaction gives its keys

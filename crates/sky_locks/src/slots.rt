@@ -78,7 +78,7 @@ impl Slots {
     pub(crate) fn place(&self, key: &LockKey) -> Option<usize>
         ensures { result ≡ place_at self.now.places key.now }
     {
-        // Sessions that write outside blocks hold no key, and then there is often none.
+        // Sessions that write outside blocks hold no key, so there is often no slot at all.
         if self.places.is_empty() {
             return None;
         }

@@ -5,6 +5,7 @@ use Rattle.sky_model.specs.StepNode.{NodeCall, joining, parting, fetching, finis
 
 -- ---- kinds of marks
 
+-- which kinds of marks a call for a node may leave
 pub record CallMarkKinds : Type 0 where
   -- a consumer joins; it leaves; it takes a batch; one is finished
   pub joins : Bool
@@ -33,8 +34,8 @@ pub record CallMarkKinds : Type 0 where
   pub holds : Bool
   pub lets_go : Bool
 
-abbrev pub none_of_calls : CallMarkKinds
-none_of_calls = record {
+abbrev pub no_call_marks : CallMarkKinds
+no_call_marks = record {
   joins = false;
   parts = false;
   takes = false;
@@ -93,21 +94,21 @@ may_be_left k _ = false
 -- ---- the calls
 
 abbrev pub kinds_of_call : NodeCall → CallMarkKinds
-kinds_of_call (joining consumer) = record none_of_calls { joins = true }
-kinds_of_call (parting consumer) = record none_of_calls { parts = true }
-kinds_of_call (fetching consumer) = record none_of_calls { takes = true }
-kinds_of_call (finishing batch) = record none_of_calls { finishes = true }
-kinds_of_call (making_root name queue now) = record none_of_calls { works = true; makes_root = true }
-kinds_of_call (making_leaf name provider tick) = record none_of_calls { makes_leaf = true }
-kinds_of_call (adding table) = record none_of_calls { adds = true }
-kinds_of_call (removing table) = record none_of_calls { removes = true; gives_up = true }
-kinds_of_call (moving table state) = record none_of_calls { moves = true; gives_up = true }
-kinds_of_call (listing table) = record none_of_calls { lists = true }
-kinds_of_call (unlisting table) = record none_of_calls { unlists = true }
-kinds_of_call (beginning_copy table) = record none_of_calls { begins_copy = true; copies_row = true }
-kinds_of_call (copying_rows table rows) = record none_of_calls { copies_row = true }
-kinds_of_call (ending_copy table snapshot tick) = record none_of_calls { ends_copy = true }
-kinds_of_call (giving_up_copy table) = record none_of_calls { gives_up = true }
-kinds_of_call (applying events pick tick) = record none_of_calls { works = true; applies = true }
-kinds_of_call holding = record none_of_calls { holds = true }
-kinds_of_call (letting_go hold) = record none_of_calls { lets_go = true }
+kinds_of_call (joining consumer) = record no_call_marks { joins = true }
+kinds_of_call (parting consumer) = record no_call_marks { parts = true }
+kinds_of_call (fetching consumer) = record no_call_marks { takes = true }
+kinds_of_call (finishing batch) = record no_call_marks { finishes = true }
+kinds_of_call (making_root name queue now) = record no_call_marks { works = true; makes_root = true }
+kinds_of_call (making_leaf name provider tick) = record no_call_marks { makes_leaf = true }
+kinds_of_call (adding table) = record no_call_marks { adds = true }
+kinds_of_call (removing table) = record no_call_marks { removes = true; gives_up = true }
+kinds_of_call (moving table state) = record no_call_marks { moves = true; gives_up = true }
+kinds_of_call (listing table) = record no_call_marks { lists = true }
+kinds_of_call (unlisting table) = record no_call_marks { unlists = true }
+kinds_of_call (beginning_copy table) = record no_call_marks { begins_copy = true; copies_row = true }
+kinds_of_call (copying_rows table rows) = record no_call_marks { copies_row = true }
+kinds_of_call (ending_copy table snapshot tick) = record no_call_marks { ends_copy = true }
+kinds_of_call (giving_up_copy table) = record no_call_marks { gives_up = true }
+kinds_of_call (applying events pick tick) = record no_call_marks { works = true; applies = true }
+kinds_of_call holding = record no_call_marks { holds = true }
+kinds_of_call (letting_go hold) = record no_call_marks { lets_go = true }

@@ -194,7 +194,7 @@ abbrev pub if_allowed : {P : Type 0} → Reader P → P → ℕ → ℕ → Chec
 if_allowed r p who d (Ok _) deed = deed
 if_allowed r p who d (Err refusal) deed = refused_in r p who d refusal
 
--- by the database that its session has open, if any: a statement that is allowed outside blocks alone does this
+-- what a statement that is allowed only outside blocks does, by the database that its session has open, if there is one
 abbrev pub if_outside : {P : Type 0} → Reader P → P → ℕ → (ℕ → Deed) → Option ℕ → Deed
 if_outside r p who deed None = refuses who NotOpen
 if_outside r p who deed (Some d) = if_allowed r p who d (allowed_outside ((r.world p).database d) who) (deed d)

@@ -186,12 +186,12 @@ abbrev pub permit : Where → MarkKinds → Permit
 permit place kinds = record { place = place; kinds = kinds }
 
 -- an attempt with a key, which may have to wait, and the events that record it
-abbrev pub attempt_leaves : Bool → MarkKinds
-attempt_leaves held = record no_more { takes_id = true; writes = true; waits_for = held; raises = true; puts = true }
+abbrev pub attempt_kinds : Bool → MarkKinds
+attempt_kinds held = record no_more { takes_id = true; writes = true; waits_for = held; raises = true; puts = true }
 
 -- those of a statement that resumes, whose refusal may abort its session's block
 abbrev pub of_resumed : MarkKinds
-of_resumed = record (of_rows (attempt_leaves true)) { looks = true; aborts = true; rolls_back = true }
+of_resumed = record (of_rows (attempt_kinds true)) { looks = true; aborts = true; rolls_back = true }
 
 -- on rows
 abbrev pub permit_of_row : RowStmt → Permit
@@ -206,9 +206,9 @@ permit_of_row TxidCurrent = permit WhenReading (record no_more { takes_id = true
 permit_of_row TxidCurrentSnapshot = permit WhenReading no_more
 permit_of_row (TxidVisibleInSnapshot txid snapshot) = permit WhenReading no_more
 permit_of_row (CreateTable table columns) = permit WhenOutside (record no_more { tables = true })
-permit_of_row (Insert table row) = permit WhenReading (attempt_leaves true)
-permit_of_row (Update table key sets) = permit WhenReading (attempt_leaves true)
-permit_of_row (Delete table key) = permit WhenReading (attempt_leaves true)
+permit_of_row (Insert table row) = permit WhenReading (attempt_kinds true)
+permit_of_row (Update table key sets) = permit WhenReading (attempt_kinds true)
+permit_of_row (Delete table key) = permit WhenReading (attempt_kinds true)
 permit_of_row (Get table key) = permit WhenReading no_more
 permit_of_row (Scan table) = permit WhenReading no_more
 

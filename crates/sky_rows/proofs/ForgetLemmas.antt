@@ -1,7 +1,7 @@
 -- A transaction's versions are removed, key by key.
 use Rattle.std.proofs.Common.{arith, ◌≡◌, ℕ, ◌+◌, Bool, true, false, cond, not, List, [], ◌∷◌, Ordering, Option, Some, None, nat_lt, ◌<◌, drop, get_or, length, refl, sym, ap, ◌∙◌}
 use Rattle.std.proofs.lemmas.List.{drop_more}
-use Rattle.std.specs.Prelude.{◌==◌, ◌||◌, ◌↔◌, ◌≢◌, IsTrue}
+use Rattle.std.specs.Prelude.{◌==◌, ◌||◌}
 use Rattle.std.specs.List.{list_any}
 use Rattle.std.specs.Option.{option_map_or}
 use Rattle.std.specs.Ordering.{nat_cmp, is_lt, is_eq, eq_by_cmp}
@@ -67,13 +67,6 @@ forgotten-none w t [] none kept = refl
 forgotten-none w t (e ∷ es) none kept = grind (arith, without-none t e.1 (kept.0.writers t (none e.0)), kept.0.some, forgotten-none w t es none kept.1)
 
 -- ---- at every key
-
--- what is left of a key's versions stays with the key, unless that is none
-pub entry_left : (k : List Val) (new : List Version) (es : Entries (List Version)) (b : Bool) → IsTrue b ↔ (new ≢ []) → cond b ((k, new) ∷ es) es ≡ and_entry k (unless_empty new) es
-entry_left k [] es true left = absurd (left.0 refl refl)
-entry_left k [] es false left = refl
-entry_left k (v ∷ new) es true left = refl
-entry_left k (v ∷ new) es false left = let kept : false ≡ true = left.1 (λ e. cc e) in absurd (cc kept)
 
 -- ---- the keys that are left
 

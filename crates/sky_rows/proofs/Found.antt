@@ -28,9 +28,6 @@ newest_from-none p newest (w ∷ ws) none = elim (p w.txid) as (λ b. newest_fro
   | false ↦ λ none. newest_from-none p newest ws none
 ] none
 
-pub newest_by-append : (p : ℕ → Bool) (vs ws : List Version) → newest_by p ws ≡ None → newest_by p (vs ++ ws) ≡ newest_by p vs
-newest_by-append p vs ws none = newest_from-append p None vs ws ∙ newest_from-none p (newest_by p vs) ws none
-
 pub newest_by-middle : (p : ℕ → Bool) (vs : List Version) (v : Version) (ws : List Version) → p v.txid ≡ true → newest_by p ws ≡ None → newest_by p (vs ++ v ∷ ws) ≡ Some v
 newest_by-middle p vs v ws passes none =
     newest_from-append p None vs (v ∷ ws) ∙ ap (λ b. newest_from p (cond b (Some v) (newest_by p vs)) ws) passes ∙ newest_from-none p (Some v) ws none

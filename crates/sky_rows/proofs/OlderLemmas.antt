@@ -212,19 +212,8 @@ empty_list older list filled none = at_list (list_of older.chains list) (filled.
     at_list None filled none = absurd (cc none)
     at_list (Some xs) filled none = ap Some (no_versions older.nodes xs (filled xs refl) (same_Some _ _ none))
 
-pub new_filled : (old new : OlderView) (list : ℕ) → list_of old.chains list ≡ None → ChainsChange old.chains list (Some []) new.chains → new.nodes ≡ old.nodes → new.chains.size ≡ old.chains.size → IsFilled old.chains old.nodes → IsFilled new.chains new.nodes
-new_filled old new list is chains nodes size filled = record {
-  wide = subst (λ n. n ≤ length new.nodes) (sym size) (subst (λ ns. old.chains.size ≤ length ns) (sym nodes) filled.wide);
-  filled = stay_filled old new list (Some []) chains (λ ys none. subst (AreFilled new.nodes) (same_Some _ _ none) tt) (λ l ys _ is. subst (λ ns. AreFilled ns ys) (sym nodes) (filled.filled l ys is));
-  unfilled = λ x gone. ap (λ ns. node_at ns x) nodes
-      ∙ filled.unfilled x (was_unlinked old.chains new.chains list (Some []) x chains (λ _. subst (λ o. Lacks x (unwrap_or o [])) (sym is) tt) gone);
-}
-
 pub made : (old new : OlderView) (list : ℕ) → ChainsChange old.chains list (Some []) new.chains → new.nodes ≡ old.nodes → Changes old list (Some []) new
 made old new list chains nodes = changed old new list (Some []) (Some []) chains refl (λ l _. ap (λ ns. option_map (versions_at_nodes ns) (list_of old.chains l)) nodes)
-
-pub no_list : (older : OlderView) (list : ℕ) → list_of older.chains list ≡ None → list_in older list ≡ None
-no_list older list none = ap (option_map (versions_at_nodes older.nodes)) none
 
 pub grown : (old new : OlderView) → new.chains.lists ≡ old.chains.lists → new.nodes ≡ old.nodes ++ None ∷ [] → Same old new
 grown old new lists nodes l = (λ i. option_map (versions_at_nodes (nodes i)) (list_of (record { lists = lists i; spare = 0; size = 0 }) l)) ∙ same_lists (list_of old.chains l)

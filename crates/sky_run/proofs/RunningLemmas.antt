@@ -13,6 +13,7 @@ use Rattle.sky_model.specs.Steps.{IsCallInForm}
 use Rattle.sky_model.proofs.Splitting.{IsUnbroken}
 use Rattle.sky_model.proofs.Scripts.{transcript_from-asks, transcript_from-idle, bad_line_from-asks, bad_line_from-idle, said-fits}
 use Rattle.sky_lines.specs.Reader.{Reader, TakesLine}
+use Rattle.pgq_db.specs.Seen.{seen_database}
 use Rattle.sky_world.specs.Seen.{seen_world}
 use Rattle.sky_run.specs.declared.run.Run.{Run}
 use Rattle.sky_run.specs.Running.{GoesOn, said_in, Called, Answers}
@@ -165,4 +166,4 @@ GoesOn-line old new after line line_taken answers g =
 
 -- a fresh run has read and written nothing
 pub Goes-start : (run : Run) (source held : Option (List ℕ)) (bytes : List ℕ) → IsFresh run → source ≡ Some bytes → Goes run source held held bytes
-Goes-start run source held bytes fresh told = rw (fresh.reader_is, fresh.gathered_is, fresh.number_is) (GoesOn-start (seen_world run.world) source held bytes fresh.world_is told)
+Goes-start run source held bytes fresh told = rw (fresh.reader_is, fresh.gathered_is, fresh.number_is) (GoesOn-start (seen_world seen_database run.world) source held bytes fresh.world_is told)

@@ -1,17 +1,18 @@
 -- How far a run has got, as the program keeps it.
 use Rattle.std.specs.Prelude.{◌≡◌, ℕ, ◌+◌, ◌≤◌, List, [], Option, None}
 use Rattle.sky_model.specs.World.{world_of}
+use Rattle.pgq_db.specs.Seen.{seen_database}
 use Rattle.sky_world.specs.Seen.{seen_world}
 use Rattle.sky_run.specs.declared.run.Run.{Run}
 use Rattle.sky_run.specs.Running.{GoesOn}
 
 -- the run has got so far
 abbrev pub Goes : Run → (source first held : Option (List ℕ)) → List ℕ → Type 0
-Goes run source first held bytes = GoesOn (seen_world run.world) run.number run.reader.taken run.reader.pending run.gathered.items source first held bytes
+Goes run source first held bytes = GoesOn (seen_world seen_database run.world) run.number run.reader.taken run.reader.pending run.gathered.items source first held bytes
 
 -- no line was taken
 pub record IsFresh (run : Run) : Type 0 where
-  pub world_is : seen_world run.world ≡ world_of []
+  pub world_is : seen_world seen_database run.world ≡ world_of []
   pub reader_is : run.reader ≡ record { pending = []; line = []; taken = 0; fault = None }
   pub gathered_is : run.gathered.items ≡ []
   pub number_is : run.number ≡ 1

@@ -14,20 +14,21 @@ ghost use Rattle.sky_run.specs.Running.{Answers, Called};
 use crate::answers::print_answers;
 use sky_model::{DbStmt, Replies, RowStmt, Stmt};
 use sky_script::{LineCause, Words, is_blank};
+use sky_store::Store;
 use sky_val::NoMemory;
 use sky_world::World;
 use std::alloc::{AllocError, Global};
 use std::mem;
 
 /// Answers what a line says, and appends the answers as they are printed. A blank line says nothing.
-pub(crate) fn answer_text(
+pub(crate) fn answer_text<D: Store>(
     alloc: Global,
     line: &str,
-    world: &mut World,
+    world: &mut World<D>,
     replies: &mut Replies,
     into: &mut Vec<u8>,
 ) -> Result<(), LineCause>
-    ensures answers { OnOk result (Answers (said_by (line_of line.now)) (seen_world world.old) (seen_world world.new) into.old.items into.new.items) }
+    ensures answers { OnOk result (Answers (said_by (line_of line.now)) (seen_world D.seen world.old) (seen_world D.seen world.new) into.old.items into.new.items) }
     ensures bad { IfErr result (λ cause. IsAnswer (Err cause) (line_of line.now)) }
     ensures err { OnErr result (into.new.items ≡ into.old.items) }
     // The prover knows this of a `str` that is an argument, and not of one that came in an `Option`.
@@ -46,17 +47,17 @@ pub(crate) fn answer_text(
 
 /// Answers a session's statement, of which these are the words. It is used where it was made: it is large, and moving it
 /// would take longer than many a statement runs.
-fn answer_words(
+fn answer_words<D: Store>(
     alloc: Global,
     who: &str,
     words: &mut Words,
-    world: &mut World,
+    world: &mut World<D>,
     replies: &mut Replies,
     into: &mut Vec<u8>,
 ) -> Result<(), LineCause>
     requires second { words.old.number ≡ 2 }
     requires form { (stmt : Stmt) → statement_of words.old.left ≡ Ok stmt → IsLineInForm (Run who.now stmt) }
-    ensures answers { OnOk result (Answers (said_by (run_of who.now (statement_of words.old.left))) (seen_world world.old) (seen_world world.new) into.old.items into.new.items) }
+    ensures answers { OnOk result (Answers (said_by (run_of who.now (statement_of words.old.left))) (seen_world D.seen world.old) (seen_world D.seen world.new) into.old.items into.new.items) }
     ensures bad { IfErr result (λ cause. IsAnswer (Err cause) (run_of who.now (statement_of words.old.left))) }
     ensures err { OnErr result (into.new.items ≡ into.old.items) }
 {
@@ -92,17 +93,17 @@ fn owns_nothing(parsed: &Result<Stmt, LineCause>) -> bool {
 }
 
 /// Answers a statement, unless it couldn't be parsed.
-fn answer_parsed(
+fn answer_parsed<D: Store>(
     alloc: Global,
     who: &str,
     parsed: &Result<Stmt, LineCause>,
-    world: &mut World,
+    world: &mut World<D>,
     replies: &mut Replies,
     into: &mut Vec<u8>,
 ) -> Result<(), LineCause>
     requires form { IfOk parsed.now (λ stmt. IsLineInForm (Run who.now stmt)) }
     ensures answers { (says : Result Stmt ℕ) → IsAnswer parsed.now says
-        → OnOk result (Answers (said_by (run_of who.now says)) (seen_world world.old) (seen_world world.new) into.old.items into.new.items) }
+        → OnOk result (Answers (said_by (run_of who.now says)) (seen_world D.seen world.old) (seen_world D.seen world.new) into.old.items into.new.items) }
     ensures bad { (says : Result Stmt ℕ) → IsAnswer parsed.now says → IfErr result (λ cause. IsAnswer (Err cause) (run_of who.now says)) }
     ensures err { OnErr result (into.new.items ≡ into.old.items) }
 {
@@ -116,17 +117,17 @@ fn answer_parsed(
 }
 
 /// Runs a statement of a session, and appends its answers. Those of the last statement make room for them.
-fn call(
+fn call<D: Store>(
     alloc: Global,
     who: &str,
     stmt: &Stmt,
-    world: &mut World,
+    world: &mut World<D>,
     replies: &mut Replies,
     into: &mut Vec<u8>,
 ) -> Result<(), NoMemory>
     requires name { is_name who.now ≡ true }
     requires form { IsInForm stmt.now }
-    ensures answers { OnOk result (Called (seen_world world.old) (seen_world world.new) (record { who = who.now; stmt = stmt.now }) into.old.items into.new.items) }
+    ensures answers { OnOk result (Called (seen_world D.seen world.old) (seen_world D.seen world.new) (record { who = who.now; stmt = stmt.now }) into.old.items into.new.items) }
     ensures err { OnErr result (into.new.items ≡ into.old.items) }
 {
     replies.clear();

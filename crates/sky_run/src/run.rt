@@ -7,6 +7,7 @@ ghost use Rattle.sky_model.specs.InForm.{IsInForm, IsLineInForm};
 ghost use Rattle.sky_model.specs.Transcript.{said_by, most_in_script};
 ghost use Rattle.sky_model.specs.World.{world_of};
 ghost use Rattle.sky_lines.specs.Reader.{is_at_hand};
+ghost use Rattle.pgq_db.specs.Seen.{seen_database};
 ghost use Rattle.sky_world.specs.Seen.{seen_world};
 ghost use Rattle.sky_run.specs.Running.{Answers, Called, said_in};
 ghost use Rattle.sky_run.specs.Goes.{IsFresh, Counts, Goes, SameButGathered};
@@ -14,6 +15,7 @@ ghost use Rattle.sky_run.specs.Ends.{Ends, IsBadLine, IsCut, end_of, end_by};
 
 use crate::calls::answer_text;
 use crate::end::End;
+use pgq_db::Db;
 use sky_io::{Sink, SinkFault, Source, write_all};
 use sky_lines::{LineFault, LineReader};
 use sky_model::{Cause, Replies};
@@ -50,7 +52,7 @@ pub fn run_lines<S: Source, O: Sink>(alloc: Global, src: &mut S, out: &mut O) ->
 #[derive(Drop)]
 struct Run {
     alloc: Global,
-    world: World,
+    world: World<Db>,
     reader: LineReader,
     // The answers of the last statement, whose memory the next ones reuse.
     replies: Replies,
@@ -160,7 +162,7 @@ impl Run {
     // Answers the line that was taken, which is parsed without being copied, and counts it.
     fn answer(&mut self) -> Result<(), End>
         requires { self.old.number ≤ most_in_script }
-        ensures answers { OnOk result (Answers (said_in self.old.reader.line) (seen_world self.old.world) (seen_world self.new.world) self.old.gathered.items self.new.gathered.items) }
+        ensures answers { OnOk result (Answers (said_in self.old.reader.line) (seen_world seen_database self.old.world) (seen_world seen_database self.new.world) self.old.gathered.items self.new.gathered.items) }
         ensures number { OnOk result (self.new.number ≡ self.old.number + 1) }
         ensures bad { IfErr result (λ end. IsBadLine end self.old.number (said_in self.old.reader.line)) }
         ensures err { OnErr result (self.new.gathered.items ≡ self.old.gathered.items) }

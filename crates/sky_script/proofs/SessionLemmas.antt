@@ -1,24 +1,10 @@
 -- The word that a line begins with if it is a session's: the name and a colon.
-use Rattle.std.proofs.Common.{◌≡◌, ◌==◌, ◌&&◌, ℕ, ◌+◌, ◌-◌, ◌<◌, true, false, List, [], ◌∷◌, ◌++◌, length, take, drop, get_or, refl, sym, ap, ◌∙◌, arith, Bool, Some, nat_le}
+use Rattle.std.proofs.Common.{◌≡◌, ◌==◌, ℕ, ◌+◌, ◌-◌, ◌<◌, true, false, List, [], ◌∷◌, ◌++◌, length, take, drop, get_or, refl, sym, ap, ◌∙◌, arith}
 use Rattle.std.proofs.lemmas.Bool.{and_parts, ne_eqb, false≢true}
 use Rattle.std.proofs.lemmas.List.{drop_more, take-append-drop}
-use Rattle.std.proofs.Math.Seq.{take-append_seam}
 use Rattle.std.specs.List.{list_all}
-use Rattle.sky_model.specs.Kinds.{begins_name, continues_name, is_name}
+use Rattle.sky_model.specs.Kinds.{continues_name}
 use Rattle.sky_model.specs.Words.{with_first, pieces, words}
-use Rattle.sky_model.specs.Grammar.{session_of, session_line, line_of_words, run_of, statement_of}
-
-and_true : (a : Bool) → (a && true) ≡ a
-and_true true = refl
-and_true false = refl
-
--- bytes that may each be in a name are one if they are few enough and the first may begin one
-pub name_by_first : (w bs : List ℕ) (b : ℕ) → w ≡ b ∷ bs → list_all continues_name w ≡ true → (nat_le (length w) 63 && begins_name b) ≡ is_name w
-name_by_first w bs b begins all =
-    let parts = and_parts (continues_name b) (list_all continues_name bs) (ap (list_all continues_name) (sym begins) ∙ all) in
-    ap (λ n. nat_le n 63 && begins_name b) (ap length begins)
-    ∙ ap (λ c. nat_le (length (b ∷ bs)) 63 && c) (sym (ap (λ r. begins_name b && r) parts.1 ∙ and_true (begins_name b)))
-    ∙ ap is_name (sym begins)
 
 -- a byte that may be in a name is none that may not
 continues_other : (b c : ℕ) → continues_name b ≡ true → continues_name c ≡ false → (b == c) ≡ false
@@ -47,12 +33,3 @@ count (b ∷ bs) = omega (arith, count bs)
 last_of : (name : List ℕ) → drop (length name) (name ++ 58 ∷ []) ≡ 58 ∷ []
 last_of [] = refl
 last_of (b ∷ bs) = last_of bs
-
--- a line that begins with the word of a name is that session's
-pub session_named : (name : List ℕ) (ws left : List (List ℕ)) → left ≡ (name ++ 58 ∷ []) ∷ ws → is_name name ≡ true → line_of_words left ≡ run_of name (statement_of ws)
-session_named name ws left begins named =
-    let n : length (name ++ 58 ∷ []) - 1 ≡ length name = omega (arith, count name) in
-    let back : drop (length (name ++ 58 ∷ []) - 1) (name ++ 58 ∷ []) ≡ 58 ∷ [] = ap (λ k. drop k (name ++ 58 ∷ [])) n ∙ last_of name in
-    let front : take (length (name ++ 58 ∷ []) - 1) (name ++ 58 ∷ []) ≡ name = ap (λ k. take k (name ++ 58 ∷ [])) n ∙ take-append_seam name (58 ∷ []) in
-    let whose : session_of (name ++ 58 ∷ []) ≡ Some name = rw (back, front, named) refl in
-    ap line_of_words begins ∙ ap (λ s. session_line s ws) whose

@@ -178,12 +178,6 @@ adds-refused {G} gate old mid new before middle after who refusal checked runs a
     subst (λ o. Adds gate (seen old.0, old.1) new before after (turn_of who (or_refused who ((seen old.0).session who) o))) (sym runs.ran.0.refused)
     (subst (λ (p : (RowPart × G) × RowStep). Adds gate p.0 new p.1 after (turn_of who (or_refused who (p.0.0.session who) (Err refusal)))) (λ i. ((runs.ran.0.same i, runs.passes i), runs.ran.1 i)) adds)
 
--- and one that isn't refused does what its outcome says
-pub adds-done : {G : Type 0} (gate : Gate G) (old new : RowStateView × G) (before after : RowStep) (who : ℕ) (checked : Checked Outcome) → Runs gate old new before after who (Ok tt) checked
-    → Adds gate (seen old.0, old.1) (seen new.0, new.1) before after (turn_of who (or_refused who ((seen old.0).session who) checked))
-adds-done gate old new before after who (Ok outcome) runs = record { replied = runs.ran.replied; told = runs.ran.told; changed = runs.ran.changed; passed = runs.passes }
-adds-done gate old new before after who (Err refusal) runs = absurd (cc (Does.accepted runs.ran))
-
 -- a statement whose block's snapshot was taken before it
 pub adds-made : {G : Type 0} (gate : Gate G) (g : G) (d mid : RowPart) (new : RowPart × G) (before after : RowStep) (who : ℕ) (stmt : RowStmt) → allowed (is_waiting who d.waiting) (d.session who).is_open (d.session who).block (where_of_row stmt) ≡ Ok tt
     → mid ≡ after_part_marks d (sight_marks d who (where_of_row stmt)) → Adds gate (mid, g) new before after (turn_of who (or_refused who (mid.session who) (gated gate g (row_form mid (rows_by mid) who stmt))))

@@ -21,13 +21,13 @@ ghost use Rattle.sky_model.specs.Calls.{row_turn};
 ghost use Rattle.sky_model.specs.RowCalls.{row_stepped, row_entered, row_failed, row_settled, rolled_back, txid_taken, single_ended, worker_begun, worker_ended, row_guarded};
 ghost use Rattle.sky_model.specs.RowSteps.{RowSteps};
 ghost use Rattle.sky_model.specs.Settling.{ready, settling, with_settling};
-ghost use Rattle.sky_session.specs.Committing.{commits_of, plan_of, committed_in};
+ghost use Rattle.sky_session.specs.Committing.{commits_of};
 ghost use Rattle.sky_session.specs.Effects.{with_effects};
 ghost use Rattle.sky_session.specs.Gives.{Settles, Gives, nothing};
 ghost use Rattle.sky_state.specs.Seen.{seen};
 
 use crate::answer::RowStep;
-use crate::committing::{CommitPlan, plan_commit};
+use crate::committing::check_commit;
 use crate::effect::Effects;
 use crate::own_transaction::{abort_block, admit, begin_own, commit_alone, next_txid, take_own};
 use crate::settling::settle_behind;
@@ -110,12 +110,12 @@ impl RowDb {
         self.state.is_waiting(who)
     }
 
-    /// What a `commit` of the session does now.
-    pub fn plan_commit(&self, who: SessionId) -> CommitPlan
-        ensures plan { result ≡ plan_of (seen self.now) who }
-        ensures txid { committed_in result ≡ commits_of (seen self.now) who }
+    /// The transaction that a `commit` of the session would make permanent now, if there is one, or why it would be
+    /// refused.
+    pub fn check_commit(&self, who: SessionId) -> Result<Option<u64>, Refusal>
+        ensures { result ≡ commits_of (seen self.now) who }
     {
-        plan_commit(&self.state, who)
+        check_commit(&self.state, who)
     }
 
     /// Whether the session is in a transaction block, an aborted one too.
@@ -187,20 +187,20 @@ impl RowDb {
         Ok(())
     }
 
-    /// A session's `commit`, by the plan for it, and the statements that it unblocks. Its answers and effects are added
-    /// to what was given before.
+    /// A session's `commit` that was checked, and the statements that it unblocks. Its answers and effects are added to
+    /// what was given before.
     pub fn commit_into<G: WriteGate>(
         &mut self,
         who: SessionId,
-        plan: CommitPlan,
+        checked: Result<Option<u64>, Refusal>,
         gate: &mut G,
         step: &mut RowStep,
     ) -> Result<(), NoMemory>
-        requires { plan ≡ plan_of (seen self.old) who }
+        requires { checked ≡ commits_of (seen self.old) who }
         ensures { OnOk result (Settles G.rule (seen self.old, gate.old) (seen self.new, gate.new) step.old step.new
             (row_stepped (room_of G.rule gate.old) who RowStmt.Commit) (row_turn (by_gate G.rule part_by_itself) (seen self.old, gate.old) who RowStmt.Commit)) }
     {
-        commit_answer(&mut self.state, who, plan, gate, step)?;
+        commit_answer(&mut self.state, who, checked, gate, step)?;
         settle_behind(&mut self.state, gate, step)?;
         Ok(())
     }

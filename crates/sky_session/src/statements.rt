@@ -15,16 +15,14 @@ ghost use Rattle.sky_model.specs.Calls.{row_form, row_statement};
 ghost use Rattle.sky_model.specs.Reader.{part_by_itself};
 ghost use Rattle.sky_model.specs.Settling.{turn_of};
 ghost use Rattle.sky_model.specs.Gates.{by_gate, passed_all};
-ghost use Rattle.sky_session.specs.Committing.{plan_of, planned};
+ghost use Rattle.sky_session.specs.Committing.{commits_of};
 ghost use Rattle.sky_session.specs.Effects.{with_effects};
-ghost use Rattle.sky_session.specs.declared.committing.CommitPlan.TheVariants.{Commits};
 ghost use Rattle.sky_session.specs.Gives.{Adds, Ran, Passes, Runs, Writes};
 ghost use Rattle.sky_session.specs.declared.answer.RowStep.{RowStep};
 ghost use Rattle.sky_state.specs.Views.{RowStateView};
 ghost use Rattle.sky_state.specs.Seen.{seen};
 
 use crate::answer::RowStep;
-use crate::committing::{CommitPlan, plan_of_block};
 use crate::effect::{Effect, Effects};
 use crate::own_transaction::{abort_block, admit, begin_own, commit_own, txid_for};
 use crate::row_statements::{create_table, delete, get, insert, scan, update};
@@ -55,20 +53,28 @@ pub(crate) fn own_answer<G: WriteGate>(
     Ok(())
 }
 
-/// The answer of a `commit`, by the plan for it, even if that is a refusal.
+/// The answer of a `commit` that was checked, even if that is a refusal.
 pub(crate) fn commit_answer<G: WriteGate>(
     state: &mut RowState,
     who: SessionId,
-    plan: CommitPlan,
+    checked: Result<Option<u64>, Refusal>,
     gate: &mut G,
     step: &mut RowStep,
 ) -> Result<(), NoMemory>
-    requires { plan ≡ plan_of (seen state.old) who }
+    requires { checked ≡ commits_of (seen state.old) who }
     ensures { OnOk result (Adds G.rule (seen state.old, gate.old) (seen state.new, gate.new) step.old step.new (turn_of who (row_statement (by_gate G.rule part_by_itself) (seen state.old, gate.old) who RowStmt.Commit))) }
 {
-    let ran = commit(state, who, plan, gate, step);
-    or_refuse(state, who, ran, gate, step)?;
-    Ok(())
+    match checked {
+        Ok(_) => {
+            let ran = commit(state, who, gate, step);
+            or_refuse(state, who, ran, gate, step)?;
+            Ok(())
+        }
+        Err(refusal) => {
+            refuse(state, who, refusal, gate, step)?;
+            Ok(())
+        }
+    }
 }
 
 /// Answers with the refusal, if a statement that was run is refused.
@@ -128,7 +134,7 @@ fn run_form<G: WriteGate>(
         RowStmt::Cancel => cancel(state, who, gate, step),
         RowStmt::Begin => begin(state, who, step),
         RowStmt::BeginRepeatableRead => begin_repeatable_read(state, who, step),
-        RowStmt::Commit => commit_unplanned(state, who, gate, step),
+        RowStmt::Commit => commit(state, who, gate, step),
         RowStmt::Rollback => rollback(state, who, gate, step),
         RowStmt::TxidCurrent => txid_current(state, who, step),
         RowStmt::TxidCurrentSnapshot => txid_current_snapshot(state, who, step),
@@ -221,10 +227,8 @@ fn begin_repeatable_read(
     Ok(step.answer(who, Reply::Begin)?)
 }
 
-/// `commit`, if no plan was made for it before.
-// Never inlined, so that no other statement has room for a plan, which is as large as a refusal.
-#[inline(never)]
-fn commit_unplanned<G: WriteGate>(
+/// `commit`: an aborted block is rolled back.
+fn commit<G: WriteGate>(
     state: &mut RowState,
     who: SessionId,
     gate: &mut G,
@@ -233,30 +237,13 @@ fn commit_unplanned<G: WriteGate>(
     ensures ran { Ran state.old state.new step.old step.new who result (commit who ((seen state.old).session who).txid ((seen state.old).session who).block) }
     ensures passes { Passes G.rule gate.old gate.new result (commit who ((seen state.old).session who).txid ((seen state.old).session who).block) }
 {
-    let plan = plan_of_block(state, who);
-    commit(state, who, plan, gate, step)
-}
-
-/// `commit`, by its plan.
-fn commit<G: WriteGate>(
-    state: &mut RowState,
-    who: SessionId,
-    plan: CommitPlan,
-    gate: &mut G,
-    step: &mut RowStep,
-) -> Result<(), Stop>
-    requires { (txid : Option ℕ) → plan ≡ Commits txid → txid ≡ ((seen state.old).session who).txid }
-    ensures ran { Ran state.old state.new step.old step.new who result (planned who ((seen state.old).session who).txid plan) }
-    ensures passes { Passes G.rule gate.old gate.new result (planned who ((seen state.old).session who).txid plan) }
-{
-    match plan {
-        CommitPlan::Refused(refusal) => Err(Stop::Refused(refusal)),
-        CommitPlan::NoBlock => Ok(step.answer(who, Reply::NoTransaction)?),
-        CommitPlan::Commits(txid) => {
-            commit_block(state, who, txid, &mut step.effects)?;
+    match state.block(who) {
+        Block::Outside => Ok(step.answer(who, Reply::NoTransaction)?),
+        Block::Inside => {
+            commit_block(state, who, &mut step.effects)?;
             Ok(step.answer(who, Reply::Commit)?)
         }
-        CommitPlan::RollsBack => {
+        Block::Failed => {
             roll_back_block(state, who, gate, &mut step.effects)?;
             Ok(step.answer(who, Reply::Rollback)?)
         }
@@ -281,17 +268,11 @@ fn rollback<G: WriteGate>(
 }
 
 /// The session's block ends, and its transaction commits, if it has an id.
-fn commit_block(
-    state: &mut RowState,
-    who: SessionId,
-    txid: Option<u64>,
-    effects: &mut Effects,
-) -> Result<(), NoMemory>
-    requires { txid ≡ ((seen state.old).session who).txid }
-    ensures marks { OnOk result (seen state.new ≡ after_part_marks (seen state.old) (leaves true who txid)) }
-    ensures told { OnOk result (effects.new ≡ with_effects effects.old (leaves true who txid)) }
+fn commit_block(state: &mut RowState, who: SessionId, effects: &mut Effects) -> Result<(), NoMemory>
+    ensures marks { OnOk result (seen state.new ≡ after_part_marks (seen state.old) (leaves true who ((seen state.old).session who).txid)) }
+    ensures told { OnOk result (effects.new ≡ with_effects effects.old (leaves true who ((seen state.old).session who).txid)) }
 {
-    if let Some(txid) = txid {
+    if let Some(txid) = state.own_txid(who) {
         state.committed(who, txid);
         effects.push(Effect::Committed(txid))?;
     }

@@ -1,23 +1,15 @@
 -- The marks of workers' transactions, in what the code keeps.
-use Rattle.std.proofs.Common.{◌≡◌, ℕ, ◌+◌, ◌<◌, List, [], ◌∷◌, ◌++◌, true, false, not, ◌&&◌, ◌||◌, ◌==◌, Option, filter, length, get_or, sym, ap, ◌∙◌}
+use Rattle.std.proofs.Common.{◌≡◌, ℕ, ◌<◌, List, true, false, not, ◌&&◌, ◌||◌, ◌==◌, Option, filter, length, get_or, sym, ap, ◌∙◌}
 use Rattle.sky_names.specs.Named.{NamedView}
 use Rattle.sky_val.specs.declared.val.Val.{Val}
 use Rattle.sky_keys.specs.Versions.{written, forgotten}
 use Rattle.sky_trans.specs.Trans.{TransView}
 use Rattle.sky_rows.specs.Table.{TableView}
-use Rattle.sky_model.specs.History.{of_worker, began, ended, tabled, wrote}
+use Rattle.sky_model.specs.History.{of_worker, ended, tabled, wrote}
 use Rattle.sky_model.specs.State.{changed_at, after_part}
 use Rattle.sky_state.specs.Views.{RowStateView}
 use Rattle.sky_state.proofs.SessionLists.{read-at}
 use Rattle.sky_state.specs.Seen.{no_table, columns_of, versions_of, wrote_in, seen}
-
--- a worker's transaction that begins runs
-pub work_begun-as : (v now : RowStateView) (trans : TransView) (workers : List ℕ) (t : ℕ) → v ≡ now
-    → trans ≡ record { next = v.trans.next + 1; running = v.trans.running ++ t ∷ [] } → workers ≡ v.workers ++ t ∷ []
-    → seen (record v { trans = trans; workers = workers }) ≡ after_part (seen now) (began of_worker t)
-work_begun-as v now trans workers t same more one =
-    (λ i. record (seen v) { next = (more i).next; running_ids = (more i).running; workers = one i })
-    ∙ ap (λ (w : RowStateView). after_part (seen w) (began of_worker t)) same
 
 -- a write counts its transaction as a writer of the table, and takes no key
 pub work_wrote-as : (v now : RowStateView) (tables : List TableView) (writers : List (ℕ × ℕ)) (t table : ℕ) (key : List Val) (old row : Option (List Val)) → v ≡ now

@@ -29,6 +29,7 @@ use Rattle.sky_world.specs.Works.{Works}
 use Rattle.sky_world.specs.Idle.{Skips}
 use Rattle.sky_world.proofs.Worlds.{after_facts-append}
 use Rattle.sky_world.proofs.Skipping.{is_late, is_in_time, idle-none, idle-late, way, IsSkipped, through-skipped}
+use Rattle.sky_model.specs.State.{Database}
 
 -- ---- the next moment
 
@@ -50,110 +51,115 @@ earlier-is P due other new both is_due is_other = subst (λ o. IfSome o P) (sym 
         by true = is_other
         by false = is_due
 
--- ---- the daemons at a moment
+module _ {D : Type 0} (seen : D → Database) where
+  -- ---- the daemons at a moment
 
--- the daemons of the databases from one on are still to work
-pub record IsWorking (start cur : StateView) (moment : ℤ) (d : ℕ) : Type 0 where
-  pub same : after_facts (seen_state start) (at_moment by_world moment (seen_state start)).facts
-      ≡ after_facts (seen_state cur) (daemons_work by_world (length start.databases.names - d) d (seen_state cur)).facts
-  pub now : cur.now ≡ moment
-  pub sessions : cur.sessions.names ≡ start.sessions.names
-  pub databases : cur.databases.names ≡ start.databases.names
-  pub whole : IsWhole cur
+  -- the daemons of the databases from one on are still to work
+  pub record IsWorking (start cur : StateView D) (moment : ℤ) (d : ℕ) : Type 0 where
+    pub same : after_facts (seen_state seen start) (at_moment by_world moment (seen_state seen start)).facts
+        ≡ after_facts (seen_state seen cur) (daemons_work by_world (length start.databases.names - d) d (seen_state seen cur)).facts
+    pub now : cur.now ≡ moment
+    pub sessions : cur.sessions.names ≡ start.sessions.names
+    pub databases : cur.databases.names ≡ start.databases.names
+    pub whole : IsWhole seen cur
 
-pub working-next : (start cur new : StateView) (moment : ℤ) (d : ℕ) → d < length start.databases.names → IsWorking start cur moment d → Works cur new (daemon_works by_world d (seen_state cur))
-    → IsWorking start new moment (d + 1)
-working-next start cur new moment d lt working works = record {
-  same = working.same
-      ∙ ap (λ n. after_facts (seen_state cur) (daemons_work by_world n d (seen_state cur)).facts) one
-      ∙ after_facts-append (seen_state cur) first.facts (daemons_work by_world left (d + 1) (after_facts (seen_state cur) first.facts)).facts
-      ∙ ap (λ w. after_facts w (daemons_work by_world left (d + 1) w).facts) (sym works.changed);
-  now = works.now ∙ working.now;
-  sessions = works.sessions ∙ working.sessions;
-  databases = works.databases ∙ working.databases;
-  whole = works.whole;
-}
-  where
-    left : ℕ
-    left = length start.databases.names - (d + 1)
+module _ {D : Type 0} {seen : D → Database} where
+  pub working-next : (start cur new : StateView D) (moment : ℤ) (d : ℕ) → d < length start.databases.names → IsWorking seen start cur moment d → Works seen cur new (daemon_works by_world d (seen_state seen cur))
+      → IsWorking seen start new moment (d + 1)
+  working-next start cur new moment d lt working works = record {
+    same = working.same
+        ∙ ap (λ n. after_facts (seen_state seen cur) (daemons_work by_world n d (seen_state seen cur)).facts) one
+        ∙ after_facts-append (seen_state seen cur) first.facts (daemons_work by_world left (d + 1) (after_facts (seen_state seen cur) first.facts)).facts
+        ∙ ap (λ w. after_facts w (daemons_work by_world left (d + 1) w).facts) (sym works.changed);
+    now = works.now ∙ working.now;
+    sessions = works.sessions ∙ working.sessions;
+    databases = works.databases ∙ working.databases;
+    whole = works.whole;
+  }
+    where
+      left : ℕ
+      left = length start.databases.names - (d + 1)
 
-    first : Deed
-    first = daemon_works by_world d (seen_state cur)
+      first : Deed
+      first = daemon_works by_world d (seen_state seen cur)
 
-    one : length start.databases.names - d ≡ suc left
-    one = omega (arith, lt)
+      one : length start.databases.names - d ≡ suc left
+      one = omega (arith, lt)
 
--- ---- from moment to moment
+module _ {D : Type 0} (seen : D → Database) where
+  -- ---- from moment to moment
 
--- the world once the clock is at a moment
-abbrev pub whole_way : StateView → ℤ → World
-whole_way start last = way last (unsigned_abs (last -ℤ start.now)) (seen_state start)
+  -- the world once the clock is at a moment
+  abbrev pub whole_way : StateView D → ℤ → World
+  whole_way start last = way last (unsigned_abs (last -ℤ start.now)) (seen_state seen start)
 
--- what is left to be done up to a moment ends where all does, however many more moments than there are it may take
-pub record IsGoing (start cur : StateView) (last : ℤ) : Type 0 where
-  pub left : ℕ
-  pub enough : unsigned_abs (last -ℤ cur.now) ≤ left
-  pub earlier : cur.now ≤ℤ last
-  pub same : whole_way start last ≡ way last left (seen_state cur)
-  pub sessions : cur.sessions.names ≡ start.sessions.names
-  pub whole : IsWhole cur
+module _ {D : Type 0} (seen : D → Database) where
+  -- what is left to be done up to a moment ends where all does, however many more moments than there are it may take
+  pub record IsGoing (start cur : StateView D) (last : ℤ) : Type 0 where
+    pub left : ℕ
+    pub enough : unsigned_abs (last -ℤ cur.now) ≤ left
+    pub earlier : cur.now ≤ℤ last
+    pub same : whole_way seen start last ≡ way last left (seen_state seen cur)
+    pub sessions : cur.sessions.names ≡ start.sessions.names
+    pub whole : IsWhole seen cur
 
-pub going-next : (start cur new : StateView) (last moment passed : ℤ) → IsGoing start cur last → Some moment ≡ next_due cur.now (seen_state cur).daemons (length cur.databases.names) → cur.now <ℤ moment → passed ≡ moment → moment ≤ℤ last
-    → seen_state new ≡ after_facts (seen_state cur) (at_moment by_world passed (seen_state cur)).facts → new.now ≡ passed → new.sessions.names ≡ cur.sessions.names → IsWhole new
-    → IsGoing start new last
-going-next start cur new last moment passed going due later same_moment le changed now sessions whole = by going.left going.enough going.same
-  where
-    first : Deed
-    first = at_moment by_world moment (seen_state cur)
+module _ {D : Type 0} {seen : D → Database} where
+  pub going-next : (start cur new : StateView D) (last moment passed : ℤ) → IsGoing seen start cur last → Some moment ≡ next_due cur.now (seen_state seen cur).daemons (length cur.databases.names) → cur.now <ℤ moment → passed ≡ moment → moment ≤ℤ last
+      → seen_state seen new ≡ after_facts (seen_state seen cur) (at_moment by_world passed (seen_state seen cur)).facts → new.now ≡ passed → new.sessions.names ≡ cur.sessions.names → IsWhole seen new
+      → IsGoing seen start new last
+  going-next start cur new last moment passed going due later same_moment le changed now sessions whole = by going.left going.enough going.same
+    where
+      first : Deed
+      first = at_moment by_world moment (seen_state seen cur)
 
-    by : (left : ℕ) → unsigned_abs (last -ℤ cur.now) ≤ left
-        → whole_way start last ≡ way last left (seen_state cur)
-        → IsGoing start new last
-    by zero enough same = absurd (omega (arith, ints, enough, later, le))
-    by (suc n) enough same = record {
-      left = n;
-      enough = subst (λ t. unsigned_abs (last -ℤ t) ≤ n) (sym (now ∙ same_moment)) (omega (arith, ints, enough, later, le));
-      earlier = subst (λ t. t ≤ℤ last) (sym (now ∙ same_moment)) le;
-      same = same
-          ∙ ap (λ o. stood (after_facts (seen_state cur) (goes_to by_world last (through by_world last n) (seen_state cur) o).facts)) (sym due)
-          ∙ ap (λ b. stood (after_facts (seen_state cur) (facts_of (if b then idles else followed by_world (seen_state cur) (through by_world last n) first)))) (is_in_time last moment le)
-          ∙ ap stood (after_facts-append (seen_state cur) first.facts (through by_world last n (after_facts (seen_state cur) first.facts)).facts)
-          ∙ ap (λ w. stood (after_facts w (through by_world last n w).facts)) (sym (changed ∙ ap (λ t. after_facts (seen_state cur) (at_moment by_world t (seen_state cur)).facts) same_moment));
-      sessions = sessions ∙ going.sessions;
-      whole = whole;
-    }
-      where
-        facts_of : Deed → List Fact
-        facts_of deed = deed.facts
+      by : (left : ℕ) → unsigned_abs (last -ℤ cur.now) ≤ left
+          → whole_way seen start last ≡ way last left (seen_state seen cur)
+          → IsGoing seen start new last
+      by zero enough same = absurd (omega (arith, ints, enough, later, le))
+      by (suc n) enough same = record {
+        left = n;
+        enough = subst (λ t. unsigned_abs (last -ℤ t) ≤ n) (sym (now ∙ same_moment)) (omega (arith, ints, enough, later, le));
+        earlier = subst (λ t. t ≤ℤ last) (sym (now ∙ same_moment)) le;
+        same = same
+            ∙ ap (λ o. stood (after_facts (seen_state seen cur) (goes_to by_world last (through by_world last n) (seen_state seen cur) o).facts)) (sym due)
+            ∙ ap (λ b. stood (after_facts (seen_state seen cur) (facts_of (if b then idles else followed by_world (seen_state seen cur) (through by_world last n) first)))) (is_in_time last moment le)
+            ∙ ap stood (after_facts-append (seen_state seen cur) first.facts (through by_world last n (after_facts (seen_state seen cur) first.facts)).facts)
+            ∙ ap (λ w. stood (after_facts w (through by_world last n w).facts)) (sym (changed ∙ ap (λ t. after_facts (seen_state seen cur) (at_moment by_world t (seen_state seen cur)).facts) same_moment));
+        sessions = sessions ∙ going.sessions;
+        whole = whole;
+      }
+        where
+          facts_of : Deed → List Fact
+          facts_of deed = deed.facts
 
-        stood : World → World
-        stood w = after_fact w (clock_at last)
+          stood : World → World
+          stood w = after_fact w (clock_at last)
 
--- moments at which daemons are idle are passed over
-pub going-skipped : NextDueIsFirst → (start cur new : StateView) (last : ℤ) → IsGoing start cur last → Skips cur new last → AreOnSince cur.now (seen_state cur).daemons → IsGoing start new last
-going-skipped law start cur new last going skips since = subst (λ v. IsGoing start v last) (sym skips.only) (record {
-  left = skipped.left;
-  enough = skipped.enough;
-  earlier = skips.most;
-  same = going.same ∙ skipped.same;
-  sessions = going.sessions;
-  whole = going.whole;
-})
-  where
-    skipped : IsSkipped (seen_state cur) last new.now going.left
-    skipped = through-skipped law last new.now going.left (seen_state cur) skips.later skips.most since going.enough skips.idle
+  -- moments at which daemons are idle are passed over
+  pub going-skipped : NextDueIsFirst → (start cur new : StateView D) (last : ℤ) → IsGoing seen start cur last → Skips seen cur new last → AreOnSince cur.now (seen_state seen cur).daemons → IsGoing seen start new last
+  going-skipped law start cur new last going skips since = subst (λ v. IsGoing seen start v last) (sym skips.only) (record {
+    left = skipped.left;
+    enough = skipped.enough;
+    earlier = skips.most;
+    same = going.same ∙ skipped.same;
+    sessions = going.sessions;
+    whole = going.whole;
+  })
+    where
+      skipped : IsSkipped (seen_state seen cur) last new.now going.left
+      skipped = through-skipped law last new.now going.left (seen_state seen cur) skips.later skips.most since going.enough skips.idle
 
--- there is no further moment: the clock is set to the last one
-going-last : (start cur new : StateView) (last : ℤ) (going : IsGoing start cur last) → through by_world last going.left (seen_state cur) ≡ idles → new ≡ record cur { now = last } → seen_state new ≡ whole_way start last
-going-last start cur new last going idle stands = ap seen_state stands ∙ ap (λ (deed : Deed). after_fact (after_facts (seen_state cur) deed.facts) (clock_at last)) (sym idle) ∙ sym going.same
+  -- there is no further moment: the clock is set to the last one
+  going-last : (start cur new : StateView D) (last : ℤ) (going : IsGoing seen start cur last) → through by_world last going.left (seen_state seen cur) ≡ idles → new ≡ record cur { now = last } → seen_state seen new ≡ whole_way seen start last
+  going-last start cur new last going idle stands = ap (seen_state seen) stands ∙ ap (λ (deed : Deed). after_fact (after_facts (seen_state seen cur) deed.facts) (clock_at last)) (sym idle) ∙ sym going.same
 
-pub going-none : (start cur new : StateView) (last : ℤ) → IsGoing start cur last → None ≡ next_due cur.now (seen_state cur).daemons (length cur.databases.names) → new ≡ record cur { now = last }
-    → seen_state new ≡ whole_way start last
-going-none start cur new last going none stands = going-last start cur new last going (idle-none last going.left (seen_state cur) none) stands
+  pub going-none : (start cur new : StateView D) (last : ℤ) → IsGoing seen start cur last → None ≡ next_due cur.now (seen_state seen cur).daemons (length cur.databases.names) → new ≡ record cur { now = last }
+      → seen_state seen new ≡ whole_way seen start last
+  going-none start cur new last going none stands = going-last start cur new last going (idle-none last going.left (seen_state seen cur) none) stands
 
-pub going-late : (start cur new : StateView) (last moment : ℤ) → IsGoing start cur last → Some moment ≡ next_due cur.now (seen_state cur).daemons (length cur.databases.names) → last <ℤ moment
-    → new ≡ record cur { now = last } → seen_state new ≡ whole_way start last
-going-late start cur new last moment going due late stands = going-last start cur new last going (idle-late last moment going.left (seen_state cur) due (is_late last moment late)) stands
+  pub going-late : (start cur new : StateView D) (last moment : ℤ) → IsGoing seen start cur last → Some moment ≡ next_due cur.now (seen_state seen cur).daemons (length cur.databases.names) → last <ℤ moment
+      → new ≡ record cur { now = last } → seen_state seen new ≡ whole_way seen start last
+  going-late start cur new last moment going due late stands = going-last start cur new last going (idle-late last moment going.left (seen_state seen cur) due (is_late last moment late)) stands
 
 -- ---- daemons answer nothing
 
@@ -222,48 +228,50 @@ through-silent : (last : ℤ) (n : ℕ) (w : World) → [] ≡ (through by_world
 through-silent last zero w = refl
 through-silent last (suc n) w = goes-silent last (through by_world last n) w (next_due w.now w.daemons (length w.databases)) (through-silent last n)
 
--- ---- the clock
+module _ {D : Type 0} {seen : D → Database} where
+  -- ---- the clock
 
--- a refusal
-adds-refusal : (v : StateView) (who : ℕ) (reply : Reply) (before after : List (ℕ × Reply)) → IsWhole v → who < length v.sessions.names → ReplyHasMoments reply → after ≡ before ++ (who, reply) ∷ [] → AddsDeed v v before after (answers_with who reply [])
-adds-refusal v who reply before after whole lt moments is = record {
-  answered = is;
-  known = All-from_recursion (λ (answer : ℕ × Reply). answer.0 < length v.sessions.names) ((who, reply) ∷ []) (lt, tt);
-  moments = All-from_recursion (λ (answer : ℕ × Reply). ReplyHasMoments answer.1) ((who, reply) ∷ []) (moments, tt);
-  changed = refl;
-  sessions = refl;
-  whole = whole;
-}
+  -- a refusal
+  adds-refusal : (v : StateView D) (who : ℕ) (reply : Reply) (before after : List (ℕ × Reply)) → IsWhole seen v → who < length v.sessions.names → ReplyHasMoments reply → after ≡ before ++ (who, reply) ∷ [] → AddsDeed seen v v before after (answers_with who reply [])
+  adds-refusal v who reply before after whole lt moments is = record {
+    answered = is;
+    known = All-from_recursion (λ (answer : ℕ × Reply). answer.0 < length v.sessions.names) ((who, reply) ∷ []) (lt, tt);
+    moments = All-from_recursion (λ (answer : ℕ × Reply). ReplyHasMoments answer.1) ((who, reply) ∷ []) (moments, tt);
+    changed = refl;
+    sessions = refl;
+    whole = whole;
+  }
 
 abbrev going_if : World → ℕ → ℤ → Bool → Deed
 going_if w who to late = if late then refuses who ClockSpent else followed by_world w (λ q. answers_with who (Moment to) (clock_at to ∷ [])) (through by_world to (unsigned_abs (to -ℤ w.now)) w)
 
--- the clock would pass its last moment
-pub clock-spent : (v : StateView) (who : ℕ) (time to : ℤ) (waits : Bool) (before after : List (ℕ × Reply)) → IsWhole v → who < length v.sessions.names → false ≡ waits → to ≡ v.now +ℤ time → last_moment <ℤ to
-    → after ≡ before ++ (who, Refused ClockSpent) ∷ [] → AddsDeed v v before after (clock by_world (seen_state v) who time waits)
-clock-spent v who time to waits before after whole lt free at late is =
-    subst (λ b. AddsDeed v v before after (clock by_world (seen_state v) who time b)) free
-    (subst (λ t. AddsDeed v v before after (clock_goes by_world (seen_state v) who t)) at
-    (subst (λ b. AddsDeed v v before after (going_if (seen_state v) who to b)) (sym (is_late last_moment to late)) (adds-refusal v who (Refused ClockSpent) before after whole lt tt is)))
+module _ {D : Type 0} {seen : D → Database} where
+  -- the clock would pass its last moment
+  pub clock-spent : (v : StateView D) (who : ℕ) (time to : ℤ) (waits : Bool) (before after : List (ℕ × Reply)) → IsWhole seen v → who < length v.sessions.names → false ≡ waits → to ≡ v.now +ℤ time → last_moment <ℤ to
+      → after ≡ before ++ (who, Refused ClockSpent) ∷ [] → AddsDeed seen v v before after (clock by_world (seen_state seen v) who time waits)
+  clock-spent v who time to waits before after whole lt free at late is =
+      subst (λ b. AddsDeed seen v v before after (clock by_world (seen_state seen v) who time b)) free
+      (subst (λ t. AddsDeed seen v v before after (clock_goes by_world (seen_state seen v) who t)) at
+      (subst (λ b. AddsDeed seen v v before after (going_if (seen_state seen v) who to b)) (sym (is_late last_moment to late)) (adds-refusal v who (Refused ClockSpent) before after whole lt tt is)))
 
--- the clock moves
-pub clock-moved : (v new : StateView) (who : ℕ) (time to : ℤ) (waits : Bool) (before after : List (ℕ × Reply)) → who < length v.sessions.names → false ≡ waits → to ≡ v.now +ℤ time → to ≤ℤ last_moment → HasMoment to
-    → seen_state new ≡ whole_way v to → new.sessions.names ≡ v.sessions.names → IsWhole new
-    → after ≡ before ++ (who, Moment to) ∷ [] → AddsDeed v new before after (clock by_world (seen_state v) who time waits)
-clock-moved v new who time to waits before after lt free at in_time printed changed sessions whole is =
-    subst (λ b. AddsDeed v new before after (clock by_world (seen_state v) who time b)) free
-    (subst (λ t. AddsDeed v new before after (clock_goes by_world (seen_state v) who t)) at
-    (subst (λ b. AddsDeed v new before after (going_if (seen_state v) who to b)) (sym (is_in_time last_moment to in_time)) (record {
-      answered = is ∙ ap (λ answers. before ++ (answers ++ (who, Moment to) ∷ [])) silent;
-      known = subst (λ answers. All (λ (answer : ℕ × Reply). answer.0 < length v.sessions.names) (answers ++ (who, Moment to) ∷ [])) silent
-          (All-from_recursion (λ (answer : ℕ × Reply). answer.0 < length v.sessions.names) ((who, Moment to) ∷ []) (lt, tt));
-      moments = subst (λ answers. HaveMoments (answers ++ (who, Moment to) ∷ [])) silent
-          (All-from_recursion (λ (answer : ℕ × Reply). ReplyHasMoments answer.1) ((who, Moment to) ∷ []) (printed, tt));
-      changed = changed
-          ∙ sym (after_facts-append (seen_state v) (through by_world to (unsigned_abs (to -ℤ v.now)) (seen_state v)).facts (clock_at to ∷ []));
-      sessions = sessions;
-      whole = whole;
-    })))
-  where
-    silent : [] ≡ (through by_world to (unsigned_abs (to -ℤ v.now)) (seen_state v)).answers
-    silent = through-silent to (unsigned_abs (to -ℤ v.now)) (seen_state v)
+  -- the clock moves
+  pub clock-moved : (v new : StateView D) (who : ℕ) (time to : ℤ) (waits : Bool) (before after : List (ℕ × Reply)) → who < length v.sessions.names → false ≡ waits → to ≡ v.now +ℤ time → to ≤ℤ last_moment → HasMoment to
+      → seen_state seen new ≡ whole_way seen v to → new.sessions.names ≡ v.sessions.names → IsWhole seen new
+      → after ≡ before ++ (who, Moment to) ∷ [] → AddsDeed seen v new before after (clock by_world (seen_state seen v) who time waits)
+  clock-moved v new who time to waits before after lt free at in_time printed changed sessions whole is =
+      subst (λ b. AddsDeed seen v new before after (clock by_world (seen_state seen v) who time b)) free
+      (subst (λ t. AddsDeed seen v new before after (clock_goes by_world (seen_state seen v) who t)) at
+      (subst (λ b. AddsDeed seen v new before after (going_if (seen_state seen v) who to b)) (sym (is_in_time last_moment to in_time)) (record {
+        answered = is ∙ ap (λ answers. before ++ (answers ++ (who, Moment to) ∷ [])) silent;
+        known = subst (λ answers. All (λ (answer : ℕ × Reply). answer.0 < length v.sessions.names) (answers ++ (who, Moment to) ∷ [])) silent
+            (All-from_recursion (λ (answer : ℕ × Reply). answer.0 < length v.sessions.names) ((who, Moment to) ∷ []) (lt, tt));
+        moments = subst (λ answers. HaveMoments (answers ++ (who, Moment to) ∷ [])) silent
+            (All-from_recursion (λ (answer : ℕ × Reply). ReplyHasMoments answer.1) ((who, Moment to) ∷ []) (printed, tt));
+        changed = changed
+            ∙ sym (after_facts-append (seen_state seen v) (through by_world to (unsigned_abs (to -ℤ v.now)) (seen_state seen v)).facts (clock_at to ∷ []));
+        sessions = sessions;
+        whole = whole;
+      })))
+    where
+      silent : [] ≡ (through by_world to (unsigned_abs (to -ℤ v.now)) (seen_state seen v)).answers
+      silent = through-silent to (unsigned_abs (to -ℤ v.now)) (seen_state seen v)

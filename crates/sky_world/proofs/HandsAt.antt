@@ -9,7 +9,7 @@ use Rattle.std.proofs.Math.Seq.{get_or-append_seam}
 use Rattle.std.specs.List.{position_or_len}
 use Rattle.sky_names.proofs.PlaceLemmas.{bytes_eq_refl, same_name}
 use Rattle.sky_model.specs.Hands.{BatchHand, Hand}
-use Rattle.sky_model.specs.State.{changed_at, changed_for}
+use Rattle.sky_model.specs.State.{Database, changed_at, changed_for}
 use Rattle.sky_model.specs.History.{in_hand, batch_in_hand}
 use Rattle.sky_model.specs.World.{after_facts}
 use Rattle.sky_model.proofs.Cases.{by_test}
@@ -198,24 +198,25 @@ batch-back d batch f is = λ i e. by e (d == e) refl i
     by e true it = let number : d ≡ e = grind (arith, nat_tests, it) in sym is ∙ ap f number
     by e false it = refl
 
--- ---- in the world
+module _ {D : Type 0} {seen : D → Database} where
+  -- ---- in the world
 
--- a worker has nothing in hand
-pub emptied-there : (v now : StateView) (d : ℕ) (table : List ℕ) (hands : List HandAt) → v ≡ now → hand_at hands ≡ changed_at d (changed_for table (λ _. None)) (hand_at v.hands) → IsWhole now
-    → Happened now (record v { hands = hands }) (in_hand d table None ∷ [])
-emptied-there v now d table hands same is whole = record {
-  changed = (λ i. record (seen_state v) { hands = is i }) ∙ ap (λ (w : StateView). after_facts (seen_state w) (in_hand d table None ∷ [])) same;
-  sessions = ap (λ (w : StateView). w.sessions.names) same;
-  databases = ap (λ (w : StateView). w.databases.names) same;
-  whole = subst IsWhole (sym same) whole;
-}
+  -- a worker has nothing in hand
+  pub emptied-there : (v now : StateView D) (d : ℕ) (table : List ℕ) (hands : List HandAt) → v ≡ now → hand_at hands ≡ changed_at d (changed_for table (λ _. None)) (hand_at v.hands) → IsWhole seen now
+      → Happened seen now (record v { hands = hands }) (in_hand d table None ∷ [])
+  emptied-there v now d table hands same is whole = record {
+    changed = (λ i. record (seen_state seen v) { hands = is i }) ∙ ap (λ (w : StateView D). after_facts (seen_state seen w) (in_hand d table None ∷ [])) same;
+    sessions = ap (λ (w : StateView D). w.sessions.names) same;
+    databases = ap (λ (w : StateView D). w.databases.names) same;
+    whole = subst (IsWhole seen) (sym same) whole;
+  }
 
--- the worker of a leaf has
-pub batch-emptied : (v now : StateView) (d : ℕ) (batches : List (ℕ × BatchHand)) → v ≡ now → batch_at batches ≡ changed_at d (λ _. None) (batch_at v.batches) → IsWhole now
-    → Happened now (record v { batches = batches }) (batch_in_hand d None ∷ [])
-batch-emptied v now d batches same is whole = record {
-  changed = (λ i. record (seen_state v) { batches = is i }) ∙ ap (λ (w : StateView). after_facts (seen_state w) (batch_in_hand d None ∷ [])) same;
-  sessions = ap (λ (w : StateView). w.sessions.names) same;
-  databases = ap (λ (w : StateView). w.databases.names) same;
-  whole = subst IsWhole (sym same) whole;
-}
+  -- the worker of a leaf has
+  pub batch-emptied : (v now : StateView D) (d : ℕ) (batches : List (ℕ × BatchHand)) → v ≡ now → batch_at batches ≡ changed_at d (λ _. None) (batch_at v.batches) → IsWhole seen now
+      → Happened seen now (record v { batches = batches }) (batch_in_hand d None ∷ [])
+  batch-emptied v now d batches same is whole = record {
+    changed = (λ i. record (seen_state seen v) { batches = is i }) ∙ ap (λ (w : StateView D). after_facts (seen_state seen w) (batch_in_hand d None ∷ [])) same;
+    sessions = ap (λ (w : StateView D). w.sessions.names) same;
+    databases = ap (λ (w : StateView D). w.databases.names) same;
+    whole = subst (IsWhole seen) (sym same) whole;
+  }

@@ -12,7 +12,7 @@ use Rattle.sky_histories.proofs.RowStanding.{part-behind}
 use Rattle.sky_histories.proofs.StatementMarks.{EachMark}
 use Rattle.sky_histories.proofs.DaemonTurns.{each-daemon_does}
 use Rattle.sky_histories.proofs.NodeCalls.{is_for_nodes, each-node}
-use Rattle.pgq_db.specs.Served.{Serves}
+use Rattle.sky_store.specs.Served.{Serves}
 
 -- ---- marks that leave them so
 

@@ -1,5 +1,5 @@
 -- What the clock passes over: at a moment at which no daemon changes anything only the clock is set, and the moments after it are due as before.
-use Rattle.std.proofs.Common.{◌≡◌, ℕ, zero, suc, ◌+◌, ◌<◌, ◌≤◌, List, [], ◌∷◌, ◌++◌, Bool, true, false, Option, Some, None, map, length, refl, sym, ◌∙◌, ap, subst, arith, if◌then◌else◌, IfSome, ℤ, pos, ◌-ℤ◌, ◌≤ℤ◌, ◌<ℤ◌, int_lt, unsigned_abs}
+use Rattle.std.proofs.Common.{◌≡◌, ℕ, zero, suc, ◌+◌, ◌≤◌, List, [], ◌∷◌, ◌++◌, Bool, true, false, Option, Some, None, map, length, refl, sym, ◌∙◌, ap, subst, arith, if◌then◌else◌, IfSome, ℤ, pos, ◌-ℤ◌, ◌≤ℤ◌, ◌<ℤ◌, int_lt, unsigned_abs}
 use Rattle.std.proofs.lemmas.Int.{ints}
 use Rattle.sky_model.specs.declared.daemon.DaemonPart.{DaemonPart}
 use Rattle.sky_model.specs.declared.daemon.DaemonPart.TheVariants.{Tick, Retry, Maintain}
@@ -10,12 +10,13 @@ use Rattle.sky_model.specs.Settling.{Turn}
 use Rattle.sky_model.specs.Daemon.{daemon_does, is_due_at, next_due}
 use Rattle.sky_model.specs.Clock.{deed_in, part_works, daemon_works, daemons_work, at_moment, goes_to, through}
 use Rattle.sky_model.specs.LawsOfDaemons.{AreOnSince, IsDue, IsFirstDue, IsNextDue, NextDueIsFirst}
-use Rattle.pgq_db.specs.Idle.{IsIdleUntil}
+use Rattle.sky_store.specs.Idle.{IsIdleUntil}
 use Rattle.sky_world.specs.Views.{StateView}
 use Rattle.sky_world.specs.Seen.{seen_state}
 use Rattle.sky_world.specs.Daemons.{StartedBy}
 use Rattle.sky_world.specs.Idle.{AreIdle, Skips}
 use Rattle.sky_world.proofs.Daemons.{daemon-within}
+use Rattle.sky_model.specs.State.{Database}
 
 -- ---- tests
 
@@ -190,44 +191,46 @@ through-skipped law last now (suc n) w le most since enough idle =
             (λ x after before due. let least : m ≤ℤ x = first.first x Tick after due in absurd (omega (arith, ints, late, least, before)))
         in_time false early = passes early (int_lt now m) refl
 
--- ---- what is passed over in turn
+module _ {D : Type 0} {seen : D → Database} where
+  -- ---- what is passed over in turn
 
-pub skips-none : (v : StateView) (last : ℤ) → v.now ≤ℤ last → Skips v v last
-skips-none v last le = record {
-  only = refl;
-  later = omega (arith, ints);
-  most = le;
-  idle = λ moment lt at. absurd (omega (arith, ints, lt, at));
-}
+  pub skips-none : (v : StateView D) (last : ℤ) → v.now ≤ℤ last → Skips seen v v last
+  skips-none v last le = record {
+    only = refl;
+    later = omega (arith, ints);
+    most = le;
+    idle = λ moment lt at. absurd (omega (arith, ints, lt, at));
+  }
 
-pub skips-to : (old new : StateView) (to last : ℤ) → new ≡ record old { now = to } → old.now ≤ℤ to → to ≤ℤ last → AreIdle to (seen_state old) → Skips old new last
-skips-to old new to last stands le most idle = subst (λ v. Skips old v last) (sym stands) (record {
-  only = refl;
-  later = le;
-  most = most;
-  idle = λ moment lt at d low. earlier moment at ((seen_state old).daemons d) d (idle d low);
-})
-  where
-    earlier : (moment : ℤ) → moment ≤ℤ to → (o : Option ℤ) (d : ℕ) → IfSome o (λ start. IsIdleUntil to ((seen_state old).database d)) → IfSome o (λ start. IsIdleUntil moment ((seen_state old).database d))
-    earlier moment at None d idle = tt
-    earlier moment at (Some start) d idle = λ part x before. idle part x (omega (arith, ints, before, at))
+  pub skips-to : (old new : StateView D) (to last : ℤ) → new ≡ record old { now = to } → old.now ≤ℤ to → to ≤ℤ last → AreIdle to (seen_state seen old) → Skips seen old new last
+  skips-to old new to last stands le most idle = subst (λ v. Skips seen old v last) (sym stands) (record {
+    only = refl;
+    later = le;
+    most = most;
+    idle = λ moment lt at d low. earlier moment at ((seen_state seen old).daemons d) d (idle d low);
+  })
+    where
+      earlier : (moment : ℤ) → moment ≤ℤ to → (o : Option ℤ) (d : ℕ) → IfSome o (λ start. IsIdleUntil to ((seen_state seen old).database d)) → IfSome o (λ start. IsIdleUntil moment ((seen_state seen old).database d))
+      earlier moment at None d idle = tt
+      earlier moment at (Some start) d idle = λ part x before. idle part x (omega (arith, ints, before, at))
 
-pub skips-then : (old mid new : StateView) (last : ℤ) → Skips old mid last → Skips mid new last → Skips old new last
-skips-then old mid new last one two = record {
-  only = two.only ∙ ap (λ (v : StateView). record v { now = new.now }) one.only;
-  later = (let first : old.now ≤ℤ mid.now = one.later in let second : mid.now ≤ℤ new.now = two.later in omega (arith, ints, first, second));
-  most = two.most;
-  idle = λ moment lt at. by moment lt at (int_lt mid.now moment) refl;
-}
-  where
-    by : (moment : ℤ) → old.now <ℤ moment → moment ≤ℤ new.now → (b : Bool) → int_lt mid.now moment ≡ b → AreIdle moment (seen_state old)
-    by moment lt at true e = subst (λ (v : StateView). AreIdle moment (seen_state v)) one.only (two.idle moment (omega (arith, ints, e)) at)
-    by moment lt at false e = one.idle moment lt (omega (arith, ints, e))
+  pub skips-then : (old mid new : StateView D) (last : ℤ) → Skips seen old mid last → Skips seen mid new last → Skips seen old new last
+  skips-then old mid new last one two = record {
+    only = two.only ∙ ap (λ (v : StateView D). record v { now = new.now }) one.only;
+    later = (let first : old.now ≤ℤ mid.now = one.later in let second : mid.now ≤ℤ new.now = two.later in omega (arith, ints, first, second));
+    most = two.most;
+    idle = λ moment lt at. by moment lt at (int_lt mid.now moment) refl;
+  }
+    where
+      by : (moment : ℤ) → old.now <ℤ moment → moment ≤ℤ new.now → (b : Bool) → int_lt mid.now moment ≡ b → AreIdle moment (seen_state seen old)
+      by moment lt at true e = subst (λ (v : StateView D). AreIdle moment (seen_state seen v)) one.only (two.idle moment (omega (arith, ints, e)) at)
+      by moment lt at false e = one.idle moment lt (omega (arith, ints, e))
 
--- the daemons that are on were started by now
-pub since-started : (v now : StateView) → v ≡ now → StartedBy v.now v.daemons → AreOnSince now.now (seen_state now).daemons
-since-started v now same started = subst (λ (w : StateView). AreOnSince w.now (seen_state w).daemons) same (λ d. by ((seen_state v).daemons d) (started d))
-  where
-    by : (o : Option ℤ) → IfSome o (λ start. (pos 0 ≤ℤ start) × (start ≤ℤ v.now)) → IfSome o (λ start. start ≤ℤ v.now)
-    by None known = tt
-    by (Some start) known = known.1
+module _ {D : Type 0} (seen : D → Database) where
+  -- the daemons that are on were started by now
+  pub since-started : (v now : StateView D) → v ≡ now → StartedBy v.now v.daemons → AreOnSince now.now (seen_state seen now).daemons
+  since-started v now same started = subst (λ (w : StateView D). AreOnSince w.now (seen_state seen w).daemons) same (λ d. by ((seen_state seen v).daemons d) (started d))
+    where
+      by : (o : Option ℤ) → IfSome o (λ start. (pos 0 ≤ℤ start) × (start ≤ℤ v.now)) → IfSome o (λ start. start ≤ℤ v.now)
+      by None known = tt
+      by (Some start) known = known.1

@@ -1,7 +1,6 @@
 -- What holds of the state of a world as long as memory hasn't run out, after what the code changed in it.
-use Rattle.std.proofs.Common.{◌≡◌, ℕ, ℤ, ◌<◌, ◌≤◌, List, [], ◌∷◌, ◌++◌, None, length, get_or, refl, sym, ◌∙◌, ap, subst, arith, All}
+use Rattle.std.proofs.Common.{◌≡◌, ℕ, ℤ, ◌<◌, ◌≤◌, List, [], ◌∷◌, ◌++◌, None, length, get_or, sym, ◌∙◌, ap, subst, arith, All}
 use Rattle.std.proofs.lemmas.List.Elements.{All-nil, All-append, All-set, All-get_or, All-from_recursion, All-weaker}
-use Rattle.std.proofs.lemmas.Option.{get_or_from_slice_get, slice_get_read}
 use Rattle.sky_names.specs.Named.{with_value}
 use Rattle.sky_keys.specs.Waits.{Waiting}
 use Rattle.sky_model.specs.declared.daemon.DaemonPart.{DaemonPart}
@@ -14,11 +13,9 @@ use Rattle.sky_model.specs.StepNode.{NodeCall, node_does}
 use Rattle.sky_model.specs.DatabaseCalls.{DatabaseCall, IsDatabaseCallInForm, worked, served}
 use Rattle.sky_model.specs.DatabaseSteps.{DatabaseSteps}
 use Rattle.sky_histories.proofs.MadeCopies.{made-after}
-use Rattle.pgq_db.specs.Views.{DbView}
-use Rattle.pgq_db.specs.Seen.{seen_database, no_database}
-use Rattle.pgq_db.specs.Served.{Serves}
-use Rattle.pgq_db.specs.Waiters.{WaitersWithin, StaysWithin}
-use Rattle.pgq_db.proofs.NodeSteps.{serves-steps}
+use Rattle.sky_store.specs.Served.{Serves}
+use Rattle.sky_store.specs.Waiters.{WaitersWithin, StaysWithin}
+use Rattle.sky_store.proofs.Serving.{serves-steps}
 use Rattle.sky_world.specs.Views.{StateView}
 use Rattle.sky_world.specs.Whole.{IsWholeIn, AreWhole, IsWhole}
 use Rattle.sky_world.proofs.Resting.{waits-served, ready-served, ready-worked}
@@ -74,50 +71,49 @@ more-sessions sessions more d le whole = record {
   made = whole.made;
 }
 
--- ---- all of them
+module _ {D : Type 0} (seen : D → Database) where
+  -- ---- all of them
 
-abbrev pub HasWhole : ℕ → DbView → Type 0
-HasWhole sessions d = IsWholeIn sessions (seen_database d)
+  abbrev pub HasWhole : ℕ → D → Type 0
+  HasWhole sessions d = IsWholeIn sessions (seen d)
 
-pub whole-more : (sessions more : ℕ) (stores : List DbView) → sessions ≤ more → AreWhole sessions stores → AreWhole more stores
-whole-more sessions more stores le whole = record { each = All-weaker (HasWhole sessions) (HasWhole more) (λ d is. more-sessions sessions more (seen_database d) le is) stores whole.each }
+module _ {D : Type 0} {seen : D → Database} where
+  pub whole-more : (sessions more : ℕ) (stores : List D) → sessions ≤ more → AreWhole seen sessions stores → AreWhole seen more stores
+  whole-more sessions more stores le whole = record { each = All-weaker (HasWhole seen sessions) (HasWhole seen more) (λ d is. more-sessions sessions more (seen d) le is) stores whole.each }
 
--- with a new database
-pub whole-founded : (sessions : ℕ) (old longer : List DbView) (new : DbView) → longer ≡ old ++ new ∷ [] → seen_database new ≡ database_of [] → AreWhole sessions old → AreWhole sessions longer
-whole-founded sessions old longer new is empty whole = record {
-  each = subst (All (HasWhole sessions)) (sym is)
-      (All-append (HasWhole sessions) old (new ∷ []) whole.each (All-from_recursion (HasWhole sessions) (new ∷ []) (whole-new sessions (seen_database new) empty, tt)));
-}
+  -- with a new database
+  pub whole-founded : (sessions : ℕ) (old longer : List D) (new : D) → longer ≡ old ++ new ∷ [] → seen new ≡ database_of [] → AreWhole seen sessions old → AreWhole seen sessions longer
+  whole-founded sessions old longer new is empty whole = record {
+    each = subst (All (HasWhole seen sessions)) (sym is)
+        (All-append (HasWhole seen sessions) old (new ∷ []) whole.each (All-from_recursion (HasWhole seen sessions) (new ∷ []) (whole-new sessions (seen new) empty, tt)));
+  }
 
--- the one that is kept at a place
-pub whole-at : (sessions d : ℕ) (stores : List DbView) (old : DbView) → d < length stores → old ≡ get_or stores d old → AreWhole sessions stores → IsWholeIn sessions (seen_database old)
-whole-at sessions d stores old lt at whole = subst (HasWhole sessions) there (All-get_or (HasWhole sessions) stores d no_database lt whole.each)
-  where
-    there : get_or stores d no_database ≡ old
-    there = get_or_from_slice_get stores d old no_database (slice_get_read stores (length stores) d old refl lt at)
+  -- the one that is kept at a place
+  pub whole-at : (sessions d : ℕ) (stores : List D) (old : D) → d < length stores → old ≡ get_or stores d old → AreWhole seen sessions stores → IsWholeIn sessions (seen old)
+  whole-at sessions d stores old lt at whole = subst (HasWhole seen sessions) (sym at) (All-get_or (HasWhole seen sessions) stores d old lt whole.each)
 
-pub whole-there : (v now : StateView) (d : ℕ) (old : DbView) → v ≡ now → d < length v.databases.values → old ≡ get_or v.databases.values d old → IsWhole now → IsWholeIn (length now.sessions.names) (seen_database old)
-whole-there v now d old same lt at whole =
-    subst (λ (w : StateView). IsWholeIn (length w.sessions.names) (seen_database old)) same
-    (whole-at (length v.sessions.names) d v.databases.values old lt at (subst IsWhole (sym same) whole))
+  pub whole-there : (v now : StateView D) (d : ℕ) (old : D) → v ≡ now → d < length v.databases.values → old ≡ get_or v.databases.values d old → IsWhole seen now → IsWholeIn (length now.sessions.names) (seen old)
+  whole-there v now d old same lt at whole =
+      subst (λ (w : StateView D). IsWholeIn (length w.sessions.names) (seen old)) same
+      (whole-at (length v.sessions.names) d v.databases.values old lt at (subst (IsWhole seen) (sym same) whole))
 
--- with a database of which it still holds
-pub whole-with : (v now : StateView) (d : ℕ) (old new : DbView) → v ≡ now → d < length v.databases.values → old ≡ get_or v.databases.values d old → IsWhole now
-    → (IsWholeIn (length now.sessions.names) (seen_database old) → IsWholeIn (length now.sessions.names) (seen_database new)) → IsWhole (record v { databases = with_value v.databases d new })
-whole-with v now d old new same lt at whole keeps = record {
-  each = All-set (HasWhole (length v.sessions.names)) v.databases.values d new
-      (subst (λ (w : StateView). IsWholeIn (length w.sessions.names) (seen_database new)) (sym same) (keeps (whole-there v now d old same lt at whole)))
-      (subst IsWhole (sym same) whole).each;
-}
+  -- with a database of which it still holds
+  pub whole-with : (v now : StateView D) (d : ℕ) (old new : D) → v ≡ now → d < length v.databases.values → old ≡ get_or v.databases.values d old → IsWhole seen now
+      → (IsWholeIn (length now.sessions.names) (seen old) → IsWholeIn (length now.sessions.names) (seen new)) → IsWhole seen (record v { databases = with_value v.databases d new })
+  whole-with v now d old new same lt at whole keeps = record {
+    each = All-set (HasWhole seen (length v.sessions.names)) v.databases.values d new
+        (subst (λ (w : StateView D). IsWholeIn (length w.sessions.names) (seen new)) (sym same) (keeps (whole-there v now d old same lt at whole)))
+        (subst (IsWhole seen) (sym same) whole).each;
+  }
 
--- after a call that answers sessions
-pub whole-called : (v now : StateView) (d who : ℕ) (old new : DbView) (replies : List (ℕ × Reply)) (call : DatabaseCall) (turn : Turn) → v ≡ now → d < length v.databases.values → old ≡ get_or v.databases.values d old → IsWhole now
-    → who < length now.sessions.names → StaysWithin (seen_database old) (seen_database new) who replies → ready (seen_database new).part ≡ None → IsDatabaseCallInForm call → DatabaseSteps (seen_database old) (seen_database new) call turn
-    → IsWhole (record v { databases = with_value v.databases d new })
-whole-called v now d who old new replies call turn same lt at whole known stays rests form steps =
-    whole-with v now d old new same lt at whole (whole-answered (length now.sessions.names) who (seen_database old) (seen_database new) replies call turn known stays rests form steps)
+  -- after a call that answers sessions
+  pub whole-called : (v now : StateView D) (d who : ℕ) (old new : D) (replies : List (ℕ × Reply)) (call : DatabaseCall) (turn : Turn) → v ≡ now → d < length v.databases.values → old ≡ get_or v.databases.values d old → IsWhole seen now
+      → who < length now.sessions.names → StaysWithin (seen old) (seen new) who replies → ready (seen new).part ≡ None → IsDatabaseCallInForm call → DatabaseSteps (seen old) (seen new) call turn
+      → IsWhole seen (record v { databases = with_value v.databases d new })
+  whole-called v now d who old new replies call turn same lt at whole known stays rests form steps =
+      whole-with v now d old new same lt at whole (whole-answered (length now.sessions.names) who (seen old) (seen new) replies call turn known stays rests form steps)
 
--- each of them is known
-pub known-there : (v now : StateView) (d who : ℕ) (old new : DbView) (replies : List (ℕ × Reply)) → v ≡ now → d < length v.databases.values → old ≡ get_or v.databases.values d old → IsWhole now → who < length now.sessions.names
-    → StaysWithin (seen_database old) (seen_database new) who replies → All (λ (answer : ℕ × Reply). answer.0 < length now.sessions.names) replies
-known-there v now d who old new replies same lt at whole known stays = stays.answers (length now.sessions.names) known (whole-there v now d old same lt at whole).waiters
+  -- each of them is known
+  pub known-there : (v now : StateView D) (d who : ℕ) (old new : D) (replies : List (ℕ × Reply)) → v ≡ now → d < length v.databases.values → old ≡ get_or v.databases.values d old → IsWhole seen now → who < length now.sessions.names
+      → StaysWithin (seen old) (seen new) who replies → All (λ (answer : ℕ × Reply). answer.0 < length now.sessions.names) replies
+  known-there v now d who old new replies same lt at whole known stays = stays.answers (length now.sessions.names) known (whole-there v now d old same lt at whole).waiters

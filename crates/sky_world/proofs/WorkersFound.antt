@@ -83,13 +83,14 @@ restarts-by_leaf w name = in-leaf w name (λ d n. restarts d name n) (λ d l. Ok
     each d (of_root r) = refl
     each d (of_leaf l) = refl
 
-pub restarted : (old new : StateView) (name : List ℕ) (d : ℕ) (l : Leaf) → leaf_called (seen_state old) name ≡ Ok (d, l) → Happened old new (batch_in_hand d None ∷ []) → Does old new Done (restart (seen_state old) name)
-restarted old new name d l is happened = record {
-  facts = batch_in_hand d None ∷ [];
-  outcome = restarts-by_leaf (seen_state old) name ∙ ap (λ c. c >>= (λ x. Ok (batch_lost x.0))) is;
-  moments = tt;
-  happened = happened;
-}
+module _ {D : Type 0} {seen : D → Database} where
+  pub restarted : (old new : StateView D) (name : List ℕ) (d : ℕ) (l : Leaf) → leaf_called (seen_state seen old) name ≡ Ok (d, l) → Happened seen old new (batch_in_hand d None ∷ []) → Does seen old new Done (restart (seen_state seen old) name)
+  restarted old new name d l is happened = record {
+    facts = batch_in_hand d None ∷ [];
+    outcome = restarts-by_leaf (seen_state seen old) name ∙ ap (λ c. c >>= (λ x. Ok (batch_lost x.0))) is;
+    moments = tt;
+    happened = happened;
+  }
 
 -- ---- columns that are the same
 

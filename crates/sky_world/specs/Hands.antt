@@ -19,10 +19,10 @@ is_hand_of database table x = x.database == database && bytes_eq table x.table
 abbrev pub hand_at : List HandAt → (database : ℕ) → (table : List ℕ) → Option Hand
 hand_at hands database table = option_and_then HandAt.hand (find (is_hand_of database table) hands)
 
--- the worker at a place; past the last place there is none
 abbrev pub no_worker : HandAt
 no_worker = record { database = 0; table = []; hand = None }
 
+-- the worker at a place; past the last place there is none
 abbrev pub worker_at : List HandAt → (place : ℕ) → HandAt
 worker_at hands place = slice_index_or hands place no_worker
 

@@ -2,7 +2,8 @@
 use Rattle.std.specs.Prelude.{◌≡◌, ℕ, ◌<◌, ℤ, pos, ◌+ℤ◌, ◌≤ℤ◌, ◌<ℤ◌, length, IfSome}
 use Rattle.sky_model.specs.Moment.{last_moment}
 use Rattle.sky_model.specs.World.{World}
-use Rattle.pgq_db.specs.Idle.{IsIdleUntil}
+use Rattle.sky_store.specs.Idle.{IsIdleUntil}
+use Rattle.sky_model.specs.State.{Database}
 use Rattle.sky_world.specs.Views.{StateView}
 use Rattle.sky_world.specs.Seen.{seen_state}
 
@@ -19,8 +20,8 @@ abbrev pub IsReach : ℤ → Type 0
 IsReach leap = (pos 1_000_000 ≤ℤ leap) × (leap ≤ℤ (last_moment +ℤ last_moment))
 
 -- only the clock is moved on, not beyond a moment, and no daemon changes anything on the way
-pub record Skips (old new : StateView) (last : ℤ) : Type 0 where
+pub record Skips {D : Type 0} (seen : D → Database) (old new : StateView D) (last : ℤ) : Type 0 where
   pub only : new ≡ record old { now = new.now }
   pub later : old.now ≤ℤ new.now
   pub most : new.now ≤ℤ last
-  pub idle : (moment : ℤ) → old.now <ℤ moment → moment ≤ℤ new.now → AreIdle moment (seen_state old)
+  pub idle : (moment : ℤ) → old.now <ℤ moment → moment ≤ℤ new.now → AreIdle moment (seen_state seen old)

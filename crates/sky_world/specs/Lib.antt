@@ -1,5 +1,4 @@
 pub mod Hands
-pub mod Databases
 pub mod Views
 pub mod Seen
 pub mod Homes
@@ -12,3 +11,4 @@ pub mod Nodes
 pub mod Outside
 pub mod Workers
 pub mod Idle
+pub mod Databases

@@ -2,14 +2,14 @@
 use Rattle.std.specs.Prelude.{ℕ, ℤ, Bool, List, Option}
 use Rattle.sky_names.specs.Named.{NamedView}
 use Rattle.sky_model.specs.Hands.{BatchHand}
-use Rattle.pgq_db.specs.Views.{DbView}
 use Rattle.sky_world.specs.Hands.{HandAt}
 
-pub record StateView : Type 0 where
+-- by what the code keeps of a database
+pub record StateView (D : Type 0) : Type 0 where
   pub now : ℤ
   -- the database that each session has open
   pub sessions : NamedView (Option ℕ)
-  pub databases : NamedView DbView
+  pub databases : NamedView D
   -- the databases whose daemon is on, each with the moment at which it was started
   pub daemons : List (ℕ × ℤ)
   -- the databases that have a node, in the order in which they got it
@@ -19,7 +19,7 @@ pub record StateView : Type 0 where
   -- the databases whose leaf's worker has a batch in hand, each with it
   pub batches : List (ℕ × BatchHand)
 
-pub record WorldView : Type 0 where
-  pub state : StateView
+pub record WorldView (D : Type 0) : Type 0 where
+  pub state : StateView D
   -- whether memory ran out once
   pub has_failed : Bool

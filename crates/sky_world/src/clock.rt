@@ -18,11 +18,12 @@ ghost use Rattle.sky_world.specs.Adds.{AddsDeed};
 ghost use Rattle.sky_world.specs.Nodes.{Happened};
 ghost use Rattle.sky_world.specs.Works.{Works};
 ghost use Rattle.sky_world.specs.Whole.{IsWhole};
-ghost use Rattle.pgq_db.specs.Idle.{IsIdleUntil};
+ghost use Rattle.sky_store.specs.Idle.{IsIdleUntil};
 ghost use Rattle.sky_world.specs.Idle.{AreIdle, IsLeap, IsReach, Skips};
 
 use crate::state::State;
 use sky_model::{DaemonPart, Refusal, Replies, Reply, WorldStmt};
+use sky_store::Store;
 use sky_val::{NoMemory, SessionId};
 
 /// The last moment of the clock, in the year 2043.
@@ -34,7 +35,7 @@ const SECOND: u64 = 1_000_000;
 /// The leap with which skipping begins, in microseconds, and the longest that isn't halved any more: a second.
 const LEAST_REACH: i64 = 1_000_000;
 
-impl State {
+impl<D: Store> State<D> {
     /// Runs a statement on the clock or on the daemon of its session's database.
     pub(crate) fn run_in_world(
         &mut self,
@@ -44,8 +45,8 @@ impl State {
     ) -> Result<(), NoMemory>
         requires who { who < length self.old.sessions.names }
         requires form { IsWorldInForm stmt }
-        requires whole { IsWhole self.old }
-        ensures { OnOk result (AddsDeed self.old self.new replies.old replies.new (world_stmt_does by_world (seen_state self.old) who stmt ((seen_state self.old).homes who))) }
+        requires whole { IsWhole D.seen self.old }
+        ensures { OnOk result (AddsDeed D.seen self.old self.new replies.old replies.new (world_stmt_does by_world (seen_state D.seen self.old) who stmt ((seen_state D.seen self.old).homes who))) }
     {
         match stmt {
             WorldStmt::Clock { time } => self.move_clock(who, time, replies),
@@ -57,8 +58,8 @@ impl State {
     /// Runs `pgqd on`.
     fn pgqd_on(&mut self, who: SessionId, replies: &mut Replies) -> Result<(), NoMemory>
         requires who { who < length self.old.sessions.names }
-        requires whole { IsWhole self.old }
-        ensures { OnOk result (AddsDeed self.old self.new replies.old replies.new (world_stmt_does by_world (seen_state self.old) who PgqdOn ((seen_state self.old).homes who))) }
+        requires whole { IsWhole D.seen self.old }
+        ensures { OnOk result (AddsDeed D.seen self.old self.new replies.old replies.new (world_stmt_does by_world (seen_state D.seen self.old) who PgqdOn ((seen_state D.seen self.old).homes who))) }
     {
         let Some(database) = self.enter_outside(who, replies)? else {
             return Ok(());
@@ -71,8 +72,8 @@ impl State {
     /// Runs `pgqd off`.
     fn pgqd_off(&mut self, who: SessionId, replies: &mut Replies) -> Result<(), NoMemory>
         requires who { who < length self.old.sessions.names }
-        requires whole { IsWhole self.old }
-        ensures { OnOk result (AddsDeed self.old self.new replies.old replies.new (world_stmt_does by_world (seen_state self.old) who PgqdOff ((seen_state self.old).homes who))) }
+        requires whole { IsWhole D.seen self.old }
+        ensures { OnOk result (AddsDeed D.seen self.old self.new replies.old replies.new (world_stmt_does by_world (seen_state D.seen self.old) who PgqdOff ((seen_state D.seen self.old).homes who))) }
     {
         let Some(database) = self.enter_outside(who, replies)? else {
             return Ok(());
@@ -84,8 +85,8 @@ impl State {
 
     /// Switches the daemon of a database on, from the present moment, unless it is on already.
     fn start_daemon(&mut self, database: usize) -> Result<(), NoMemory>
-        requires { IsWhole self.old }
-        ensures { OnOk result (Happened self.old self.new (on_unless database ((seen_state self.old).daemons database))) }
+        requires { IsWhole D.seen self.old }
+        ensures { OnOk result (Happened D.seen self.old self.new (on_unless database ((seen_state D.seen self.old).daemons database))) }
     {
         if self.daemons.contains_key(&database) {
             return Ok(());
@@ -96,8 +97,8 @@ impl State {
 
     /// Switches it off.
     fn stop_daemon(&mut self, database: usize)
-        requires { IsWhole self.old }
-        ensures { Happened self.old self.new (daemon_off database ∷ []) }
+        requires { IsWhole D.seen self.old }
+        ensures { Happened D.seen self.old self.new (daemon_off database ∷ []) }
     {
         self.daemons.remove(&database);
     }
@@ -112,9 +113,9 @@ impl State {
     ) -> Result<(), NoMemory>
         requires who { who < length self.old.sessions.names }
         requires time { IsOf Advance time }
-        requires whole { IsWhole self.old }
-        ensures { OnOk result (AddsDeed self.old self.new replies.old replies.new
-            (clock by_world (seen_state self.old) who time (waits_at (seen_state self.old) who ((seen_state self.old).homes who)))) }
+        requires whole { IsWhole D.seen self.old }
+        ensures { OnOk result (AddsDeed D.seen self.old self.new replies.old replies.new
+            (clock by_world (seen_state D.seen self.old) who time (waits_at (seen_state D.seen self.old) who ((seen_state D.seen self.old).homes who)))) }
     {
         if self.is_waiting(who) {
             replies.push(who, Reply::Refused(Refusal::Busy))?;
@@ -144,11 +145,11 @@ impl State {
     fn work_until(&mut self, last: i64) -> Result<(), NoMemory>
         requires last { IsTime last }
         requires later { self.old.now ≤ℤ last }
-        requires whole { IsWhole self.old }
-        ensures changed { OnOk result (seen_state self.new
-            ≡ after_fact (after_facts (seen_state self.old) (through by_world last (unsigned_abs (last -ℤ self.old.now)) (seen_state self.old)).facts) (clock_at last)) }
+        requires whole { IsWhole D.seen self.old }
+        ensures changed { OnOk result (seen_state D.seen self.new
+            ≡ after_fact (after_facts (seen_state D.seen self.old) (through by_world last (unsigned_abs (last -ℤ self.old.now)) (seen_state D.seen self.old)).facts) (clock_at last)) }
         ensures sessions { OnOk result (self.new.sessions.names ≡ self.old.sessions.names) }
-        ensures whole { OnOk result (IsWhole self.new) }
+        ensures whole { OnOk result (IsWhole D.seen self.new) }
     {
         let mut reach = LEAST_REACH;
         while let Some(moment) = self.next_due() {
@@ -168,8 +169,8 @@ impl State {
         requires reach { IsReach reach }
         requires last { IsTime last }
         requires later { self.old.now ≤ℤ last }
-        ensures skips { Skips self.old self.new last }
-        ensures since { AreOnSince self.old.now (seen_state self.old).daemons }
+        ensures skips { Skips D.seen self.old self.new last }
+        ensures since { AreOnSince self.old.now (seen_state D.seen self.old).daemons }
         ensures reach { IsReach result }
     {
         let start = self.clock;
@@ -183,7 +184,7 @@ impl State {
         requires reach { IsReach reach }
         requires last { IsTime last }
         requires later { self.old.now ≤ℤ last }
-        ensures skips { Skips self.old self.new last }
+        ensures skips { Skips D.seen self.old self.new last }
         ensures leap { IsReach result }
     {
         if !self.skip(reach, last) {
@@ -196,7 +197,7 @@ impl State {
     fn skip_doubling(&mut self, last: i64) -> i64
         requires last { IsTime last }
         requires later { self.old.now ≤ℤ last }
-        ensures skips { Skips self.old self.new last }
+        ensures skips { Skips D.seen self.old self.new last }
         ensures leap { IsReach result }
     {
         let mut leap = LEAST_REACH;
@@ -211,7 +212,7 @@ impl State {
         requires whole { IsReach whole }
         requires last { IsTime last }
         requires later { self.old.now ≤ℤ last }
-        ensures { Skips self.old self.new last }
+        ensures { Skips D.seen self.old self.new last }
     {
         let mut leap = whole;
         while leap > LEAST_REACH {
@@ -226,7 +227,7 @@ impl State {
         requires leap { IsLeap leap }
         requires last { IsTime last }
         requires later { self.old.now ≤ℤ last }
-        ensures skips { Skips self.old self.new last }
+        ensures skips { Skips D.seen self.old self.new last }
         ensures moved { result ≡ true → self.new.now ≡ self.old.now +ℤ leap }
         ensures short { result ≡ true → leap ≤ℤ last_moment }
     {
@@ -241,7 +242,7 @@ impl State {
     /// Whether no daemon that is on would change anything at a moment, or at one before it.
     fn is_idle_until(&self, moment: i64) -> bool
         requires { IsTime moment }
-        ensures { result ≡ true → AreIdle moment (seen_state self.now) }
+        ensures { result ≡ true → AreIdle moment (seen_state D.seen self.now) }
     {
         for database in 0..self.databases.len() {
             if !self.is_idle_in(database, moment) {
@@ -255,14 +256,14 @@ impl State {
     fn is_idle_in(&self, database: usize, moment: i64) -> bool
         requires database { database < length self.now.databases.names }
         requires time { IsTime moment }
-        ensures { result ≡ true → IfSome ((seen_state self.now).daemons database) (λ start. IsIdleUntil moment ((seen_state self.now).database database)) }
+        ensures { result ≡ true → IfSome ((seen_state D.seen self.now).daemons database) (λ start. IsIdleUntil moment ((seen_state D.seen self.now).database database)) }
     {
         !self.daemons.contains_key(&database) || self.store(database).is_idle_until(moment)
     }
 
     /// The first moment after the present one at which a daemon is due.
     fn next_due(&self) -> Option<i64>
-        ensures next { result ≡ next_due self.now.now (seen_state self.now).daemons (length self.now.databases.names) }
+        ensures next { result ≡ next_due self.now.now (seen_state D.seen self.now).daemons (length self.now.databases.names) }
         ensures later { IfSome result (λ moment. self.now.now <ℤ moment) }
         ensures time { IfSome result HasMoment }
     {
@@ -275,7 +276,7 @@ impl State {
 
     /// The same for the daemon of a database alone.
     fn first_due(&self, database: usize) -> Option<i64>
-        ensures first { result ≡ option_map (first_after self.now.now) ((seen_state self.now).daemons database) }
+        ensures first { result ≡ option_map (first_after self.now.now) ((seen_state D.seen self.now).daemons database) }
         ensures later { IfSome result (λ moment. self.now.now <ℤ moment) }
         ensures time { IfSome result HasMoment }
     {
@@ -287,11 +288,11 @@ impl State {
     fn work_at(&mut self, moment: i64) -> Result<(), NoMemory>
         requires time { IsTime moment }
         requires later { self.old.now ≤ℤ moment }
-        requires whole { IsWhole self.old }
-        ensures changed { OnOk result (seen_state self.new ≡ after_facts (seen_state self.old) (at_moment by_world moment (seen_state self.old)).facts) }
+        requires whole { IsWhole D.seen self.old }
+        ensures changed { OnOk result (seen_state D.seen self.new ≡ after_facts (seen_state D.seen self.old) (at_moment by_world moment (seen_state D.seen self.old)).facts) }
         ensures now { OnOk result (self.new.now ≡ moment) }
         ensures sessions { OnOk result (self.new.sessions.names ≡ self.old.sessions.names) }
-        ensures whole { OnOk result (IsWhole self.new) }
+        ensures whole { OnOk result (IsWhole D.seen self.new) }
     {
         self.stand_at(moment);
         for database in 0..self.databases.len() {
@@ -303,8 +304,8 @@ impl State {
     /// The daemon of a database, if it is on, does those parts of its work that are due, in their order.
     fn work_in(&mut self, database: usize) -> Result<(), NoMemory>
         requires database { database < length self.old.databases.names }
-        requires whole { IsWhole self.old }
-        ensures { OnOk result (Works self.old self.new (daemon_works by_world database (seen_state self.old))) }
+        requires whole { IsWhole D.seen self.old }
+        ensures { OnOk result (Works D.seen self.old self.new (daemon_works by_world database (seen_state D.seen self.old))) }
     {
         let Some(start) = self.daemons.get(&database) else {
             return Ok(());
@@ -319,10 +320,10 @@ impl State {
     /// The daemon of a database, which was started at a moment, does a part of its work, if that is due.
     fn work_part(&mut self, database: usize, part: DaemonPart, start: i64) -> Result<(), NoMemory>
         requires database { database < length self.old.databases.names }
-        requires started { (seen_state self.old).daemons database ≡ Some start }
+        requires started { (seen_state D.seen self.old).daemons database ≡ Some start }
         requires time { IsTime start }
-        requires whole { IsWhole self.old }
-        ensures works { OnOk result (Works self.old self.new (part_works by_world database part (seen_state self.old))) }
+        requires whole { IsWhole D.seen self.old }
+        ensures works { OnOk result (Works D.seen self.old self.new (part_works by_world database part (seen_state D.seen self.old))) }
         ensures daemons { OnOk result (self.new.daemons ≡ self.old.daemons) }
     {
         if !is_due(self.clock, part, start) {
@@ -334,9 +335,9 @@ impl State {
 
     fn do_part(&mut self, database: usize, part: DaemonPart) -> Result<(), NoMemory>
         requires database { database < length self.old.databases.names }
-        requires due { is_due_at self.old.now part ((seen_state self.old).daemons database) ≡ true }
-        requires whole { IsWhole self.old }
-        ensures works { OnOk result (Works self.old self.new (part_works by_world database part (seen_state self.old))) }
+        requires due { is_due_at self.old.now part ((seen_state D.seen self.old).daemons database) ≡ true }
+        requires whole { IsWhole D.seen self.old }
+        ensures works { OnOk result (Works D.seen self.old self.new (part_works by_world database part (seen_state D.seen self.old))) }
         ensures daemons { OnOk result (self.new.daemons ≡ self.old.daemons) }
     {
         let store = self.databases.get_mut(database);
@@ -346,7 +347,7 @@ impl State {
 
     fn is_waiting(&self, who: SessionId) -> bool
         requires { who < length self.now.sessions.names }
-        ensures { result ≡ waits_at (seen_state self.now) who ((seen_state self.now).homes who) }
+        ensures { result ≡ waits_at (seen_state D.seen self.now) who ((seen_state D.seen self.now).homes who) }
     {
         match self.home(who) {
             Some(database) => self.store(database).waits(who),

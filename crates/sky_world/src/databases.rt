@@ -6,37 +6,35 @@ ghost use Rattle.sky_names.specs.Named.{with_value};
 ghost use Rattle.sky_names.specs.Places.{place_of};
 ghost use Rattle.sky_world.specs.Databases.{with_stores};
 
-use pgq_db::Db;
 use sky_names::Names;
+use sky_store::Store;
 use sky_val::{NoMemory, Text};
 use std::alloc::Global;
 use std::marker::Model;
 
 /// Databases in the order in which they were made, each under a name of its own. A database's number is its place.
 #[derive(Drop)]
-pub(crate) struct Databases {
+pub(crate) struct Databases<D: Store> {
     names: Names,
-    stores: Vec<Db>,
+    stores: Vec<D>,
 }
 
-impl Model for Databases {
+impl<D: Store> Model for Databases<D> {
     ghost use Rattle.std.specs.Prelude.{◌≡◌, length};
     ghost use Rattle.sky_names.specs.Named.{NamedView};
-    ghost use Rattle.pgq_db.specs.Views.{DbView};
 
-    ghost Value = { NamedView DbView };
+    ghost Value = { NamedView D };
 
     ghost view = { λ d. record { names = d.names; values = d.stores.items } };
 
     ghost invariant = { λ d. length d.stores.items ≡ length d.names };
 }
 
-impl Databases {
-    ghost use Rattle.pgq_db.specs.contracts.db.Db.{the_row as db};
+impl<D: Store> Databases<D> {
     ghost use Rattle.sky_world.specs.contracts.databases.Databases.{the_row};
 
     /// None yet.
-    pub(crate) fn new(alloc: Global) -> Databases
+    pub(crate) fn new(alloc: Global) -> Databases<D>
         ensures { result ≡ record { names = []; values = [] } }
     {
         Databases {
@@ -62,7 +60,7 @@ impl Databases {
     }
 
     /// The database of this number.
-    pub(crate) fn get(&self, number: usize) -> &Db
+    pub(crate) fn get(&self, number: usize) -> &D
         requires { number < length self.now.names }
         ensures value { result.now ≡ slice_index_or self.now.values number result.now }
         ensures within { number < length self.now.values }
@@ -71,9 +69,9 @@ impl Databases {
     }
 
     /// The database of this number, to be changed.
-    pub(crate) fn get_mut(&mut self, number: usize) -> &mut Db
+    pub(crate) fn get_mut(&mut self, number: usize) -> &mut D
         requires { number < length self.old.names }
-        ensures* writes_back { sem 𝓛 (Lends the_row db self.entry result (λ store. with_value self.old number store)) }
+        ensures* writes_back { sem 𝓛 (Lends (the_row D.row D.Store) D.row self.entry result (λ store. with_value self.old number store)) }
         ensures value { result.now ≡ slice_index_or self.old.values number result.now }
         ensures within { number < length self.old.values }
     {
@@ -81,8 +79,8 @@ impl Databases {
     }
 
     /// All of them, each at the place that is its number, to be changed.
-    pub(crate) fn stores_mut(&mut self) -> &mut [Db]
-        ensures* writes_back { sem 𝓛 (Lends the_row (Array db 0) self.entry result (λ stores. with_stores self.old stores)) }
+    pub(crate) fn stores_mut(&mut self) -> &mut [D]
+        ensures* writes_back { sem 𝓛 (Lends (the_row D.row D.Store) (Array D.row 0) self.entry result (λ stores. with_stores self.old stores)) }
         ensures stores { result.now ≡ self.old.values }
         ensures as_many { length self.old.values ≡ length self.old.names }
     {
@@ -90,7 +88,7 @@ impl Databases {
     }
 
     /// Adds a database of a new name.
-    pub(crate) fn add(&mut self, name: Text, store: Db) -> Result<(), NoMemory>
+    pub(crate) fn add(&mut self, name: Text, store: D) -> Result<(), NoMemory>
         requires new { place_of name self.old.names ≡ None }
         requires room { length self.old.names < 2 ^ 32 - 1 }
         ensures added { OnOk result (self.new ≡ record { names = self.old.names ++ name ∷ []; values = self.old.values ++ store ∷ [] }) }

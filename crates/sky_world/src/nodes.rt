@@ -22,12 +22,12 @@ use crate::state::State;
 use londiste_copy::copy_consumer;
 use londiste_replay::is_on_way;
 use londiste_state::{Leaf, Node};
-use pgq_db::{JoinFault, MakeRootFault, RootFault};
 use sky_model::{Limit, NodeStmt, Refusal, Replies, Reply, Stop};
+use sky_store::{JoinFault, MakeRootFault, RootFault, Store};
 use sky_val::{Column, NoMemory, SessionId, Text};
 use std::alloc::{AllocError, Global};
 
-impl State {
+impl<D: Store> State<D> {
     /// Runs a statement on nodes, unless its session may not make it.
     pub(crate) fn run_on_nodes(
         &mut self,
@@ -36,8 +36,8 @@ impl State {
         replies: &mut Replies,
     ) -> Result<(), NoMemory>
         requires who { who < length self.old.sessions.names }
-        requires whole { IsWhole self.old }
-        ensures { OnOk result (AddsDeed self.old self.new replies.old replies.new (node_stmt_does by_world (seen_state self.old) who stmt.now ((seen_state self.old).homes who))) }
+        requires whole { IsWhole D.seen self.old }
+        ensures { OnOk result (AddsDeed D.seen self.old self.new replies.old replies.new (node_stmt_does by_world (seen_state D.seen self.old) who stmt.now ((seen_state D.seen self.old).homes who))) }
     {
         let Some(database) = self.enter_outside(who, replies)? else {
             return Ok(());
@@ -56,8 +56,8 @@ impl State {
     ) -> Result<(), NoMemory>
         requires who { who < length self.old.sessions.names }
         requires database { database < length self.old.databases.names }
-        requires whole { IsWhole self.old }
-        ensures { OnOk result (AddsDeed self.old self.new replies.old replies.new (world_does who (node_form (seen_state self.old) database stmt.now))) }
+        requires whole { IsWhole D.seen self.old }
+        ensures { OnOk result (AddsDeed D.seen self.old self.new replies.old replies.new (world_does who (node_form (seen_state D.seen self.old) database stmt.now))) }
     {
         match self.run_form(database, stmt) {
             Ok(given) => {
@@ -75,9 +75,9 @@ impl State {
     /// Runs a statement on nodes. A worker's move has its answers as a list; any other statement has one.
     fn run_form(&mut self, database: usize, stmt: &NodeStmt) -> Result<Vec<Reply>, Stop>
         requires database { database < length self.old.databases.names }
-        requires whole { IsWhole self.old }
-        ensures ok { IfOk result (λ given. DoesAll self.old self.new given.items (node_form (seen_state self.old) database stmt.now)) }
-        ensures err { IfErr result (λ stop. Stopped self.old self.new stop (node_form (seen_state self.old) database stmt.now)) }
+        requires whole { IsWhole D.seen self.old }
+        ensures ok { IfOk result (λ given. DoesAll D.seen self.old self.new given.items (node_form (seen_state D.seen self.old) database stmt.now)) }
+        ensures err { IfErr result (λ stop. Stopped D.seen self.old self.new stop (node_form (seen_state D.seen self.old) database stmt.now)) }
     {
         let alloc = self.alloc;
         match stmt {
@@ -102,8 +102,8 @@ impl State {
     /// Runs `create_root`: the session's database gets a root, and the queue of its set.
     fn create_root(&mut self, database: usize, name: &Text, queue: &Text) -> Result<Reply, Stop>
         requires database { database < length self.old.databases.names }
-        requires whole { IsWhole self.old }
-        ensures { Ran self.old self.new result (create_root (seen_state self.old) database name.now queue.now) }
+        requires whole { IsWhole D.seen self.old }
+        ensures { Ran D.seen self.old self.new result (create_root (seen_state D.seen self.old) database name.now queue.now) }
     {
         self.check_new(database, name)?;
         self.make_root(database, name, queue)
@@ -112,9 +112,9 @@ impl State {
     /// Whether a database may get a node of this name: no database has one of the name, and this one has none.
     fn check_new(&self, database: usize, name: &Text) -> Result<(), Stop>
         requires { database < length self.now.databases.names }
-        ensures ok { OnOk result (refuses_new (seen_state self.now) database name.now ≡ Ok tt) }
-        ensures bare { OnOk result (((seen_state self.now).database database).node ≡ None) }
-        ensures err { IfErr result (λ stop. StopsAs stop (refuses_new (seen_state self.now) database name.now)) }
+        ensures ok { OnOk result (refuses_new (seen_state D.seen self.now) database name.now ≡ Ok tt) }
+        ensures bare { OnOk result (((seen_state D.seen self.now).database database).node ≡ None) }
+        ensures err { IfErr result (λ stop. StopsAs stop (refuses_new (seen_state D.seen self.now) database name.now)) }
     {
         if self.find_node(name).is_some() || self.store(database).node().is_some() {
             let name = name.copy(self.alloc)?;
@@ -126,9 +126,9 @@ impl State {
     /// Makes a root in a database that has no node.
     fn make_root(&mut self, database: usize, name: &Text, queue: &Text) -> Result<Reply, Stop>
         requires database { database < length self.old.databases.names }
-        requires bare { ((seen_state self.old).database database).node ≡ None }
-        requires whole { IsWhole self.old }
-        ensures { Ran self.old self.new result (root_of database (makes_root ((seen_state self.old).database database) (seen_state self.old).now name.now queue.now)) }
+        requires bare { ((seen_state D.seen self.old).database database).node ≡ None }
+        requires whole { IsWhole D.seen self.old }
+        ensures { Ran D.seen self.old self.new result (root_of database (makes_root ((seen_state D.seen self.old).database database) (seen_state D.seen self.old).now name.now queue.now)) }
     {
         let alloc = self.alloc;
         let store = self.databases.get_mut(database);
@@ -152,8 +152,8 @@ impl State {
     /// Runs `create_leaf`: the leaf's consumer joins the queue of the provider, whose newest tick becomes the leaf's.
     fn create_leaf(&mut self, database: usize, name: &Text, provider: &Text) -> Result<Reply, Stop>
         requires database { database < length self.old.databases.names }
-        requires whole { IsWhole self.old }
-        ensures { Ran self.old self.new result (create_leaf (seen_state self.old) database name.now provider.now) }
+        requires whole { IsWhole D.seen self.old }
+        ensures { Ran D.seen self.old self.new result (create_leaf (seen_state D.seen self.old) database name.now provider.now) }
     {
         let from = self.provider_for(database, name, provider)?;
         let tick = self.join(from, name)?;
@@ -164,11 +164,11 @@ impl State {
     /// The database of a leaf's provider, if the leaf may be made.
     fn provider_for(&self, database: usize, name: &Text, provider: &Text) -> Result<usize, Stop>
         requires { database < length self.now.databases.names }
-        ensures ok { IfOk result (λ from. create_leaf (seen_state self.now) database name.now provider.now ≡ leaf_from (seen_state self.now) database name.now provider.now from) }
-        ensures err { IfErr result (λ stop. StopsAs stop (create_leaf (seen_state self.now) database name.now provider.now)) }
+        ensures ok { IfOk result (λ from. create_leaf (seen_state D.seen self.now) database name.now provider.now ≡ leaf_from (seen_state D.seen self.now) database name.now provider.now from) }
+        ensures err { IfErr result (λ stop. StopsAs stop (create_leaf (seen_state D.seen self.now) database name.now provider.now)) }
         ensures within { IfOk result (λ from. from < length self.now.databases.names) }
-        ensures free { OnOk result (((seen_state self.now).database database).node ≡ None) }
-        ensures provides { IfOk result (λ from. is_some (set_queue ((seen_state self.now).database from)) ≡ true) }
+        ensures free { OnOk result (((seen_state D.seen self.now).database database).node ≡ None) }
+        ensures provides { IfOk result (λ from. is_some (set_queue ((seen_state D.seen self.now).database from)) ≡ true) }
     {
         self.check_new(database, name)?;
         let Some((from, _)) = self.find_node(provider) else {
@@ -182,8 +182,8 @@ impl State {
     /// Whether the node of a database is a root whose queue exists. If not, it is refused as no provider.
     pub(crate) fn check_provider(&self, database: usize, name: &Text) -> Result<(), Stop>
         requires { database < length self.now.databases.names }
-        ensures ok { OnOk result (is_some (set_queue ((seen_state self.now).database database)) ≡ true) }
-        ensures err { IfErr result (λ stop. StopsAs stop (found_or (set_queue ((seen_state self.now).database database)) (NotProvider name.now))) }
+        ensures ok { OnOk result (is_some (set_queue ((seen_state D.seen self.now).database database)) ≡ true) }
+        ensures err { IfErr result (λ stop. StopsAs stop (found_or (set_queue ((seen_state D.seen self.now).database database)) (NotProvider name.now))) }
     {
         if !self.store(database).is_provider() {
             let name = name.copy(self.alloc)?;
@@ -195,9 +195,9 @@ impl State {
     /// A leaf's consumer joins the queue of the set in a database. The answer is the newest tick.
     fn join(&mut self, database: usize, consumer: &Text) -> Result<u64, Stop>
         requires database { database < length self.old.databases.names }
-        requires provider { is_some (set_queue ((seen_state self.old).database database)) ≡ true }
-        requires whole { IsWhole self.old }
-        ensures { Joined self.old self.new database result consumer.now }
+        requires provider { is_some (set_queue ((seen_state D.seen self.old).database database)) ≡ true }
+        requires whole { IsWhole D.seen self.old }
+        ensures { Joined D.seen self.old self.new database result consumer.now }
     {
         let alloc = self.alloc;
         let store = self.databases.get_mut(database);
@@ -224,9 +224,9 @@ impl State {
         tick: u64,
     ) -> Result<(), NoMemory>
         requires database { database < length self.old.databases.names }
-        requires free { ((seen_state self.old).database database).node ≡ None }
-        requires whole { IsWhole self.old }
-        ensures { OnOk result (Happened self.old self.new (within database (noded (leaf_made name.now provider.now tick)) ∷ node_made database ∷ [])) }
+        requires free { ((seen_state D.seen self.old).database database).node ≡ None }
+        requires whole { IsWhole D.seen self.old }
+        ensures { OnOk result (Happened D.seen self.old self.new (within database (noded (leaf_made name.now provider.now tick)) ∷ node_made database ∷ [])) }
     {
         let store = self.databases.get_mut(database);
         store.make_leaf(name, provider, tick)?;
@@ -237,8 +237,8 @@ impl State {
     /// A database has a node from now on.
     fn gets_node(&mut self, database: usize) -> Result<(), NoMemory>
         requires database { database < length self.old.databases.names }
-        requires whole { IsWhole self.old }
-        ensures { OnOk result (Happened self.old self.new (node_made database ∷ [])) }
+        requires whole { IsWhole D.seen self.old }
+        ensures { OnOk result (Happened D.seen self.old self.new (node_made database ∷ [])) }
     {
         self.nodes.push(database)?;
         Ok(())
@@ -247,8 +247,8 @@ impl State {
     /// Runs `add_table`: a table of the node's database joins the node. A leaf's provider has to have it, with the same
     /// columns.
     fn add_table(&mut self, name: &Text, table: &Text) -> Result<Reply, Stop>
-        requires { IsWhole self.old }
-        ensures { Ran self.old self.new result (add_table (seen_state self.old) name.now table.now) }
+        requires { IsWhole D.seen self.old }
+        ensures { Ran D.seen self.old self.new result (add_table (seen_state D.seen self.old) name.now table.now) }
     {
         let Some((database, node)) = self.find_node(name) else {
             let name = name.copy(self.alloc)?;
@@ -276,9 +276,9 @@ impl State {
 
     /// The node of a name, and the number of its database.
     pub(crate) fn find_node(&self, name: &Text) -> Option<(usize, &Node)>
-        ensures node { MatchOption result (node_called (seen_state self.now) name.now ≡ None)
-            (λ found. node_called (seen_state self.now) name.now ≡ Some (record { database = found.0; node = found.1.now })) }
-        ensures there { IfSome result (λ found. ((seen_state self.now).database found.0).node ≡ Some found.1.now) }
+        ensures node { MatchOption result (node_called (seen_state D.seen self.now) name.now ≡ None)
+            (λ found. node_called (seen_state D.seen self.now) name.now ≡ Some (record { database = found.0; node = found.1.now })) }
+        ensures there { IfSome result (λ found. ((seen_state D.seen self.now).database found.0).node ≡ Some found.1.now) }
         ensures within { IfSome result (λ found. found.0 < length self.now.databases.names) }
     {
         for database in &self.nodes {
@@ -293,8 +293,8 @@ impl State {
 
     /// Whether a table may join a leaf: its provider has it, with these columns.
     fn check_provided(&self, columns: &[Column], leaf: &Leaf, table: &Text) -> Result<(), Stop>
-        ensures ok { OnOk result (provided_as (seen_state self.now) columns.now table.now leaf.now ≡ Ok tt) }
-        ensures err { IfErr result (λ stop. StopsAs stop (provided_as (seen_state self.now) columns.now table.now leaf.now)) }
+        ensures ok { OnOk result (provided_as (seen_state D.seen self.now) columns.now table.now leaf.now ≡ Ok tt) }
+        ensures err { IfErr result (λ stop. StopsAs stop (provided_as (seen_state D.seen self.now) columns.now table.now leaf.now)) }
     {
         let Some(provider) = self.provides(leaf.provider(), table) else {
             let table = table.copy(self.alloc)?;
@@ -311,7 +311,7 @@ impl State {
 
     /// The database of the node of this name, if the node has this table.
     pub(crate) fn provides(&self, name: &Text, table: &Text) -> Option<usize>
-        ensures database { result ≡ provides table.now (node_called (seen_state self.now) name.now) }
+        ensures database { result ≡ provides table.now (node_called (seen_state D.seen self.now) name.now) }
         ensures within { IfSome result (λ database. database < length self.now.databases.names) }
     {
         let (database, node) = self.find_node(name)?;
@@ -325,11 +325,11 @@ impl State {
     /// A table joins the root of a database.
     fn add_to_root(&mut self, database: usize, table: &Text, number: u32) -> Result<Reply, Stop>
         requires database { database < length self.old.databases.names }
-        requires provider { is_some (set_queue ((seen_state self.old).database database)) ≡ true }
-        requires number { table_number ((seen_state self.old).database database) table.now ≡ Some number }
-        requires may { may_serve (listing table.now) ((seen_state self.old).database database).node ≡ true }
-        requires whole { IsWhole self.old }
-        ensures { Ran self.old self.new result (done_in database Done (node_does ((seen_state self.old).database database) (listing table.now))) }
+        requires provider { is_some (set_queue ((seen_state D.seen self.old).database database)) ≡ true }
+        requires number { table_number ((seen_state D.seen self.old).database database) table.now ≡ Some number }
+        requires may { may_serve (listing table.now) ((seen_state D.seen self.old).database database).node ≡ true }
+        requires whole { IsWhole D.seen self.old }
+        ensures { Ran D.seen self.old self.new result (done_in database Done (node_does ((seen_state D.seen self.old).database database) (listing table.now))) }
     {
         let store = self.databases.get_mut(database);
         match store.root_add(table, number) {
@@ -345,10 +345,10 @@ impl State {
     /// A table joins the leaf of a database.
     fn add_to_leaf(&mut self, database: usize, table: &Text, number: u32) -> Result<Reply, Stop>
         requires database { database < length self.old.databases.names }
-        requires number { table_number ((seen_state self.old).database database) table.now ≡ Some number }
-        requires may { may_serve (adding table.now) ((seen_state self.old).database database).node ≡ true }
-        requires whole { IsWhole self.old }
-        ensures { Ran self.old self.new result (done_in database Done (node_does ((seen_state self.old).database database) (adding table.now))) }
+        requires number { table_number ((seen_state D.seen self.old).database database) table.now ≡ Some number }
+        requires may { may_serve (adding table.now) ((seen_state D.seen self.old).database database).node ≡ true }
+        requires whole { IsWhole D.seen self.old }
+        ensures { Ran D.seen self.old self.new result (done_in database Done (node_does ((seen_state D.seen self.old).database database) (adding table.now))) }
     {
         let store = self.databases.get_mut(database);
         match store.leaf_add(table, number) {
@@ -360,8 +360,8 @@ impl State {
 
     /// Runs `remove_table`: a table leaves the node. No leaf of a root may have it.
     fn remove_table(&mut self, name: &Text, table: &Text) -> Result<Reply, Stop>
-        requires { IsWhole self.old }
-        ensures { Ran self.old self.new result (remove_table (seen_state self.old) name.now table.now) }
+        requires { IsWhole D.seen self.old }
+        ensures { Ran D.seen self.old self.new result (remove_table (seen_state D.seen self.old) name.now table.now) }
     {
         let Some((database, node)) = self.find_node(name) else {
             let name = name.copy(self.alloc)?;
@@ -408,8 +408,8 @@ impl State {
 
     /// Whether no leaf of a provider has the table.
     fn check_unused(&self, provider: &Text, table: &Text) -> Result<(), Stop>
-        ensures ok { OnOk result (refused_by (option_map TableInUse (first_user (seen_state self.now) provider.now table.now)) ≡ Ok tt) }
-        ensures err { IfErr result (λ stop. StopsAs stop (refused_by (option_map TableInUse (first_user (seen_state self.now) provider.now table.now)))) }
+        ensures ok { OnOk result (refused_by (option_map TableInUse (first_user (seen_state D.seen self.now) provider.now table.now)) ≡ Ok tt) }
+        ensures err { IfErr result (λ stop. StopsAs stop (refused_by (option_map TableInUse (first_user (seen_state D.seen self.now) provider.now table.now)))) }
     {
         match self.first_user(provider, table) {
             Some(leaf) => {
@@ -422,7 +422,7 @@ impl State {
 
     /// The name of the first of a provider's leaves that has this table.
     fn first_user(&self, provider: &Text, table: &Text) -> Option<&Text>
-        ensures { option_copied result ≡ first_user (seen_state self.now) provider.now table.now }
+        ensures { option_copied result ≡ first_user (seen_state D.seen self.now) provider.now table.now }
     {
         for database in &self.nodes {
             if let Some(node) = self.store(*database).node()
@@ -437,10 +437,10 @@ impl State {
     /// A table leaves the root of a database.
     fn drop_from_root(&mut self, database: usize, table: &Text, number: u32) -> Reply
         requires database { database < length self.old.databases.names }
-        requires number { table_number ((seen_state self.old).database database) table.now ≡ Some number }
-        requires may { may_serve (unlisting table.now) ((seen_state self.old).database database).node ≡ true }
-        requires whole { IsWhole self.old }
-        ensures { Does self.old self.new result (done_in database Done (node_does ((seen_state self.old).database database) (unlisting table.now))) }
+        requires number { table_number ((seen_state D.seen self.old).database database) table.now ≡ Some number }
+        requires may { may_serve (unlisting table.now) ((seen_state D.seen self.old).database database).node ≡ true }
+        requires whole { IsWhole D.seen self.old }
+        ensures { Does D.seen self.old self.new result (done_in database Done (node_does ((seen_state D.seen self.old).database database) (unlisting table.now))) }
     {
         let store = self.databases.get_mut(database);
         store.root_drop(table, number);
@@ -449,8 +449,8 @@ impl State {
 
     /// Runs `table_state`: the state of a leaf's table.
     fn table_state(&self, name: &Text, table: &Text) -> Result<Reply, Stop>
-        requires whole { IsWhole self.now }
-        ensures { Ran self.now self.now result (table_state (seen_state self.now) name.now table.now) }
+        requires whole { IsWhole D.seen self.now }
+        ensures { Ran D.seen self.now self.now result (table_state (seen_state D.seen self.now) name.now table.now) }
     {
         match self.find_node(name) {
             Some((_, Node::Leaf(leaf))) => match leaf.table(table) {

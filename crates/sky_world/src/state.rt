@@ -9,7 +9,6 @@ ghost use Rattle.sky_model.specs.Reader.{within_database, by_world};
 ghost use Rattle.sky_model.specs.Clock.{deed_in};
 ghost use Rattle.sky_model.specs.Calls.{database_turn, opening, unopened, opens_in, opens, outside_does, is_leaving, db_stmt_does, allowed_outside, fails_if, refused_in, turn};
 ghost use Rattle.sky_model.specs.Outcome.{refused_by};
-ghost use Rattle.pgq_db.specs.Seen.{seen_database};
 ghost use Rattle.sky_world.specs.Seen.{seen_state};
 ghost use Rattle.sky_world.specs.Adds.{AddsDeed, AddsCall};
 ghost use Rattle.sky_world.specs.Nodes.{Stays};
@@ -18,9 +17,9 @@ ghost use Rattle.sky_world.specs.Whole.{IsWhole};
 
 use crate::databases::Databases;
 use crate::hands::{Batches, Hands};
-use pgq_db::Db;
 use sky_model::{DbStmt, Limit, Refusal, Replies, Reply, RowStmt, Stmt};
 use sky_names::Named;
+use sky_store::Store;
 use sky_val::{NoMemory, SessionId, Text};
 use std::alloc::Global;
 use std::collections::BTreeMap;
@@ -29,12 +28,12 @@ use std::marker::Model;
 /// The sessions and databases of a script, and the clock, as long as memory lasts. Once it has run out in a method, only
 /// what always holds of the state is known, so that no further one may be called that changes it.
 #[derive(Drop)]
-pub(crate) struct State {
+pub(crate) struct State<D: Store> {
     pub(crate) alloc: Global,
     pub(crate) clock: i64,
     // The database that each session has open.
     sessions: Named<Option<usize>>,
-    pub(crate) databases: Databases,
+    pub(crate) databases: Databases<D>,
     // The databases whose daemon is on, each with the moment at which it was started.
     pub(crate) daemons: BTreeMap<usize, i64>,
     // The databases that have a node, in the order in which they got it.
@@ -45,23 +44,23 @@ pub(crate) struct State {
     pub(crate) batches: Batches,
 }
 
-impl Model for State {
+impl<D: Store> Model for State<D> {
     ghost use Rattle.std.specs.Prelude.{length};
     ghost use Rattle.sky_world.specs.Views.{StateView};
     ghost use Rattle.sky_world.specs.Consistent.{IsConsistent};
 
-    ghost Value = { StateView };
+    ghost Value = { StateView D };
 
     ghost view = { λ s. record { now = s.clock; sessions = s.sessions; databases = s.databases; daemons = s.daemons.entries; nodes = s.nodes.items; hands = s.hands; batches = s.batches } };
 
     ghost invariant = { λ s. IsConsistent s.clock (length s.databases.names) s.sessions.values s.daemons.entries s.nodes.items };
 }
 
-impl State {
+impl<D: Store> State<D> {
     /// A state in which nothing has happened.
-    pub(crate) fn new(alloc: Global) -> State
-        ensures new { seen_state result ≡ world_of [] }
-        ensures whole { IsWhole result }
+    pub(crate) fn new(alloc: Global) -> State<D>
+        ensures new { seen_state D.seen result ≡ world_of [] }
+        ensures whole { IsWhole D.seen result }
     {
         State {
             alloc,
@@ -77,14 +76,14 @@ impl State {
 
     /// The names of the sessions, in the order of their first lines.
     pub(crate) fn session_names(&self) -> &[Text]
-        ensures { result.now ≡ (seen_state self.now).sessions }
+        ensures { result.now ≡ (seen_state D.seen self.now).sessions }
     {
         self.sessions.names()
     }
 
     /// The present moment of the clock.
     pub(crate) fn now(&self) -> i64
-        ensures { result ≡ (seen_state self.now).now }
+        ensures { result ≡ (seen_state D.seen self.now).now }
     {
         self.clock
     }
@@ -97,9 +96,9 @@ impl State {
         replies: &mut Replies,
     ) -> Result<(), NoMemory>
         requires form { IsInForm stmt.now }
-        requires whole { IsWhole self.old }
-        ensures adds { OnOk result (AddsCall (seen_state self.old) (seen_state self.new) (record { who = name.now; stmt = stmt.now }) replies.old replies.new) }
-        ensures whole { OnOk result (IsWhole self.new) }
+        requires whole { IsWhole D.seen self.old }
+        ensures adds { OnOk result (AddsCall (seen_state D.seen self.old) (seen_state D.seen self.new) (record { who = name.now; stmt = stmt.now }) replies.old replies.new) }
+        ensures whole { OnOk result (IsWhole D.seen self.new) }
     {
         match self.number(name)? {
             Some(who) => self.answer_known(who, name, stmt, replies),
@@ -117,9 +116,9 @@ impl State {
         requires form { IsInForm stmt.now }
         requires known { Some who ≡ place_of name.now self.old.sessions.names }
         requires within { who < length self.old.sessions.names }
-        requires whole { IsWhole self.old }
-        ensures adds { OnOk result (AddsCall (seen_state self.old) (seen_state self.new) (record { who = name.now; stmt = stmt.now }) replies.old replies.new) }
-        ensures whole { OnOk result (IsWhole self.new) }
+        requires whole { IsWhole D.seen self.old }
+        ensures adds { OnOk result (AddsCall (seen_state D.seen self.old) (seen_state D.seen self.new) (record { who = name.now; stmt = stmt.now }) replies.old replies.new) }
+        ensures whole { OnOk result (IsWhole D.seen self.new) }
     {
         self.run(who, stmt, replies)?;
         Ok(())
@@ -128,9 +127,9 @@ impl State {
     fn answer_new(&mut self, name: &str, stmt: &Stmt, replies: &mut Replies) -> Result<(), NoMemory>
         requires form { IsInForm stmt.now }
         requires new { place_of name.now self.old.sessions.names ≡ None }
-        requires whole { IsWhole self.old }
-        ensures adds { OnOk result (AddsCall (seen_state self.old) (seen_state self.new) (record { who = name.now; stmt = stmt.now }) replies.old replies.new) }
-        ensures whole { OnOk result (IsWhole self.new) }
+        requires whole { IsWhole D.seen self.old }
+        ensures adds { OnOk result (AddsCall (seen_state D.seen self.old) (seen_state D.seen self.new) (record { who = name.now; stmt = stmt.now }) replies.old replies.new) }
+        ensures whole { OnOk result (IsWhole D.seen self.new) }
     {
         let who = self.session_count();
         if who as usize >= Limit::Sessions.most() {
@@ -163,10 +162,10 @@ impl State {
     fn appear(&mut self, name: &str) -> Result<(), NoMemory>
         requires new { place_of name.now self.old.sessions.names ≡ None }
         requires room { length self.old.sessions.names < 256 }
-        requires whole { IsWhole self.old }
-        ensures fact { OnOk result (seen_state self.new ≡ after_fact (seen_state self.old) (appeared name.now)) }
+        requires whole { IsWhole D.seen self.old }
+        ensures fact { OnOk result (seen_state D.seen self.new ≡ after_fact (seen_state D.seen self.old) (appeared name.now)) }
         ensures sessions { OnOk result (length self.new.sessions.names ≡ length self.old.sessions.names + 1) }
-        ensures whole { OnOk result (IsWhole self.new) }
+        ensures whole { OnOk result (IsWhole D.seen self.new) }
     {
         let copied = Text::from_str(self.alloc, name)?;
         self.sessions.add(copied, None)?;
@@ -177,8 +176,8 @@ impl State {
     fn run(&mut self, who: SessionId, stmt: &Stmt, replies: &mut Replies) -> Result<(), NoMemory>
         requires who { who < length self.old.sessions.names }
         requires form { IsInForm stmt.now }
-        requires whole { IsWhole self.old }
-        ensures { OnOk result (AddsDeed self.old self.new replies.old replies.new (turn by_world who stmt.now (seen_state self.old))) }
+        requires whole { IsWhole D.seen self.old }
+        ensures { OnOk result (AddsDeed D.seen self.old self.new replies.old replies.new (turn by_world who stmt.now (seen_state D.seen self.old))) }
     {
         match stmt {
             Stmt::Db(stmt) => self.run_in_database(who, stmt, replies),
@@ -196,8 +195,8 @@ impl State {
     ) -> Result<(), NoMemory>
         requires who { who < length self.old.sessions.names }
         requires form { IsDbInForm stmt.now }
-        requires whole { IsWhole self.old }
-        ensures { OnOk result (AddsDeed self.old self.new replies.old replies.new (db_stmt_does by_world (seen_state self.old) who stmt.now ((seen_state self.old).homes who))) }
+        requires whole { IsWhole D.seen self.old }
+        ensures { OnOk result (AddsDeed D.seen self.old self.new replies.old replies.new (db_stmt_does by_world (seen_state D.seen self.old) who stmt.now ((seen_state D.seen self.old).homes who))) }
     {
         match self.home(who) {
             Some(database) => self.run_or_leave(database, who, stmt, replies),
@@ -208,7 +207,7 @@ impl State {
     /// The database that a session has open.
     pub(crate) fn home(&self, who: SessionId) -> Option<usize>
         requires { who < length self.now.sessions.names }
-        ensures home { result ≡ (seen_state self.now).homes who }
+        ensures home { result ≡ (seen_state D.seen self.now).homes who }
         ensures within { IfSome result (λ d. d < length self.now.databases.names) }
     {
         *self.sessions.get(who as usize)
@@ -225,8 +224,8 @@ impl State {
         requires who { who < length self.old.sessions.names }
         requires database { database < length self.old.databases.names }
         requires form { IsDbInForm stmt.now }
-        requires whole { IsWhole self.old }
-        ensures { OnOk result (AddsDeed self.old self.new replies.old replies.new (db_stmt_does by_world (seen_state self.old) who stmt.now (Some database))) }
+        requires whole { IsWhole D.seen self.old }
+        ensures { OnOk result (AddsDeed D.seen self.old self.new replies.old replies.new (db_stmt_does by_world (seen_state D.seen self.old) who stmt.now (Some database))) }
     {
         let leaving = self.is_leaving(database, who, stmt);
         self.run_there(database, who, stmt, replies)?;
@@ -239,7 +238,7 @@ impl State {
     /// Whether the session leaves the database by the statement: by `close`, unless it waits.
     fn is_leaving(&self, database: usize, who: SessionId, stmt: &DbStmt) -> bool
         requires { database < length self.now.databases.names }
-        ensures { result ≡ is_leaving (is_waiting who ((seen_state self.now).database database).part.waiting) stmt.now }
+        ensures { result ≡ is_leaving (is_waiting who ((seen_state D.seen self.now).database database).part.waiting) stmt.now }
     {
         match stmt {
             DbStmt::Row(RowStmt::Close) => !self.store(database).waits(who),
@@ -248,9 +247,9 @@ impl State {
     }
 
     /// The database of this number.
-    pub(crate) fn store(&self, database: usize) -> &Db
+    pub(crate) fn store(&self, database: usize) -> &D
         requires { database < length self.now.databases.names }
-        ensures { seen_database result.now ≡ (seen_state self.now).database database }
+        ensures { D.seen result.now ≡ (seen_state D.seen self.now).database database }
     {
         self.databases.get(database)
     }
@@ -266,8 +265,8 @@ impl State {
         requires who { who < length self.old.sessions.names }
         requires database { database < length self.old.databases.names }
         requires form { IsDbInForm stmt.now }
-        requires whole { IsWhole self.old }
-        ensures adds { OnOk result (AddsDeed self.old self.new replies.old replies.new (deed_in database [] (database_turn (within_database by_world database) (seen_state self.old) (seen_state self.old).now who stmt.now))) }
+        requires whole { IsWhole D.seen self.old }
+        ensures adds { OnOk result (AddsDeed D.seen self.old self.new replies.old replies.new (deed_in database [] (database_turn (within_database by_world database) (seen_state D.seen self.old) (seen_state D.seen self.old).now who stmt.now))) }
         ensures databases { OnOk result (self.new.databases.names ≡ self.old.databases.names) }
     {
         let store = self.databases.get_mut(database);
@@ -278,10 +277,10 @@ impl State {
     /// The session no longer has a database open.
     fn leave(&mut self, who: SessionId)
         requires who { who < length self.old.sessions.names }
-        requires whole { IsWhole self.old }
-        ensures fact { seen_state self.new ≡ after_fact (seen_state self.old) (left who) }
+        requires whole { IsWhole D.seen self.old }
+        ensures fact { seen_state D.seen self.new ≡ after_fact (seen_state D.seen self.old) (left who) }
         ensures sessions { self.new.sessions.names ≡ self.old.sessions.names }
-        ensures whole { IsWhole self.new }
+        ensures whole { IsWhole D.seen self.new }
     {
         *self.sessions.get_mut(who as usize) = None;
     }
@@ -294,8 +293,8 @@ impl State {
         replies: &mut Replies,
     ) -> Result<Option<usize>, NoMemory>
         requires who { who < length self.old.sessions.names }
-        requires whole { IsWhole self.old }
-        ensures { IfOk result (Enters self.old self.new replies.old replies.new who) }
+        requires whole { IsWhole D.seen self.old }
+        ensures { IfOk result (Enters D.seen self.old self.new replies.old replies.new who) }
     {
         let Some(database) = self.home(who) else {
             replies.push(who, Reply::Refused(Refusal::NotOpen))?;
@@ -315,9 +314,9 @@ impl State {
         who: SessionId,
     ) -> Result<Option<Refusal>, NoMemory>
         requires database { database < length self.old.databases.names }
-        requires whole { IsWhole self.old }
-        ensures allowed { IfOk result (λ refusal. allowed_outside ((seen_state self.old).database database) who ≡ refused_by refusal) }
-        ensures stays { OnOk result (Stays self.old self.new) }
+        requires whole { IsWhole D.seen self.old }
+        ensures allowed { IfOk result (λ refusal. allowed_outside ((seen_state D.seen self.old).database database) who ≡ refused_by refusal) }
+        ensures stays { OnOk result (Stays D.seen self.old self.new) }
     {
         self.databases.get_mut(database).enter(who, true)
     }
@@ -333,8 +332,8 @@ impl State {
     ) -> Result<(), NoMemory>
         requires who { who < length self.old.sessions.names }
         requires database { database < length self.old.databases.names }
-        requires whole { IsWhole self.old }
-        ensures { OnOk result (AddsDeed self.old self.new replies.old replies.new (refused_in by_world (seen_state self.old) who database refusal)) }
+        requires whole { IsWhole D.seen self.old }
+        ensures { OnOk result (AddsDeed D.seen self.old self.new replies.old replies.new (refused_in by_world (seen_state D.seen self.old) who database refusal)) }
     {
         let aborts = refusal.aborts();
         replies.push(who, Reply::Refused(refusal))?;
@@ -352,8 +351,8 @@ impl State {
     ) -> Result<(), NoMemory>
         requires who { who < length self.old.sessions.names }
         requires database { database < length self.old.databases.names }
-        requires whole { IsWhole self.old }
-        ensures { OnOk result (AddsDeed self.old self.new replies.old replies.new (deed_in database [] (fails_if (within_database by_world database) (seen_state self.old) (seen_state self.old).now who true))) }
+        requires whole { IsWhole D.seen self.old }
+        ensures { OnOk result (AddsDeed D.seen self.old self.new replies.old replies.new (deed_in database [] (fails_if (within_database by_world database) (seen_state D.seen self.old) (seen_state D.seen self.old).now who true))) }
     {
         let store = self.databases.get_mut(database);
         store.fail_into(who, self.clock, replies)?;
@@ -369,8 +368,8 @@ impl State {
     ) -> Result<(), NoMemory>
         requires who { who < length self.old.sessions.names }
         requires form { IsDbInForm stmt.now }
-        requires whole { IsWhole self.old }
-        ensures { OnOk result (AddsDeed self.old self.new replies.old replies.new (outside_does by_world (seen_state self.old) who stmt.now (opening stmt.now))) }
+        requires whole { IsWhole D.seen self.old }
+        ensures { OnOk result (AddsDeed D.seen self.old self.new replies.old replies.new (outside_does by_world (seen_state D.seen self.old) who stmt.now (opening stmt.now))) }
     {
         match opening(stmt) {
             Some(name) => self.open_database(who, stmt, name, replies),
@@ -391,8 +390,8 @@ impl State {
     ) -> Result<(), NoMemory>
         requires who { who < length self.old.sessions.names }
         requires form { IsDbInForm stmt.now }
-        requires whole { IsWhole self.old }
-        ensures { OnOk result (AddsDeed self.old self.new replies.old replies.new (opens by_world (seen_state self.old) who stmt.now name.now (place_of name.now (seen_state self.old).databases))) }
+        requires whole { IsWhole D.seen self.old }
+        ensures { OnOk result (AddsDeed D.seen self.old self.new replies.old replies.new (opens by_world (seen_state D.seen self.old) who stmt.now name.now (place_of name.now (seen_state D.seen self.old).databases))) }
     {
         match self.database_number(name) {
             Some(database) => self.open_in(database as usize, who, stmt, replies),
@@ -411,8 +410,8 @@ impl State {
         requires who { who < length self.old.sessions.names }
         requires form { IsDbInForm stmt.now }
         requires new { place_of name.now self.old.databases.names ≡ None }
-        requires whole { IsWhole self.old }
-        ensures { OnOk result (AddsDeed self.old self.new replies.old replies.new (opens by_world (seen_state self.old) who stmt.now name.now None)) }
+        requires whole { IsWhole D.seen self.old }
+        ensures { OnOk result (AddsDeed D.seen self.old self.new replies.old replies.new (opens by_world (seen_state D.seen self.old) who stmt.now name.now None)) }
     {
         let number = self.database_count();
         if number >= Limit::Databases.most() {
@@ -435,8 +434,8 @@ impl State {
         requires who { who < length self.old.sessions.names }
         requires database { database < length self.old.databases.names }
         requires form { IsDbInForm stmt.now }
-        requires whole { IsWhole self.old }
-        ensures { OnOk result (AddsDeed self.old self.new replies.old replies.new (opens_in by_world who stmt.now database (seen_state self.old))) }
+        requires whole { IsWhole D.seen self.old }
+        ensures { OnOk result (AddsDeed D.seen self.old self.new replies.old replies.new (opens_in by_world who stmt.now database (seen_state D.seen self.old))) }
     {
         self.run_there(database, who, stmt, replies)?;
         self.enter(who, database);
@@ -460,24 +459,24 @@ impl State {
     fn found(&mut self, name: &Text) -> Result<(), NoMemory>
         requires new { place_of name.now self.old.databases.names ≡ None }
         requires room { length self.old.databases.names < 16 }
-        requires whole { IsWhole self.old }
-        ensures fact { OnOk result (seen_state self.new ≡ after_fact (seen_state self.old) (founded name.now)) }
+        requires whole { IsWhole D.seen self.old }
+        ensures fact { OnOk result (seen_state D.seen self.new ≡ after_fact (seen_state D.seen self.old) (founded name.now)) }
         ensures databases { OnOk result (length self.new.databases.names ≡ length self.old.databases.names + 1) }
         ensures sessions { OnOk result (self.new.sessions.names ≡ self.old.sessions.names) }
-        ensures whole { OnOk result (IsWhole self.new) }
+        ensures whole { OnOk result (IsWhole D.seen self.new) }
     {
         let copied = name.copy(self.alloc)?;
-        self.databases.add(copied, Db::new(self.alloc))?;
+        self.databases.add(copied, D::new(self.alloc))?;
         Ok(())
     }
 
     fn enter(&mut self, who: SessionId, database: usize)
         requires who { who < length self.old.sessions.names }
         requires database { database < length self.old.databases.names }
-        requires whole { IsWhole self.old }
-        ensures fact { seen_state self.new ≡ after_fact (seen_state self.old) (entered who database) }
+        requires whole { IsWhole D.seen self.old }
+        ensures fact { seen_state D.seen self.new ≡ after_fact (seen_state D.seen self.old) (entered who database) }
         ensures sessions { self.new.sessions.names ≡ self.old.sessions.names }
-        ensures whole { IsWhole self.new }
+        ensures whole { IsWhole D.seen self.new }
     {
         *self.sessions.get_mut(who as usize) = Some(database);
     }

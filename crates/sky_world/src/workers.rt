@@ -22,16 +22,16 @@ use crate::state::State;
 use londiste_copy::{CopiedTable, CopyWorker};
 use londiste_replay::ReplayWorker;
 use londiste_state::{Leaf, Node};
-use pgq_db::WorkerFault;
 use sky_model::{Limit, Refusal, Reply, Stop};
+use sky_store::{Store, WorkerFault};
 use sky_val::{NoMemory, Text};
 
-impl State {
+impl<D: Store> State<D> {
     /// Runs `copy_step`: one move of the worker that copies the table.
     pub(crate) fn copy_step(&mut self, name: &Text, table: &Text) -> Result<Vec<Reply>, Stop>
-        requires { IsWhole self.old }
-        ensures ok { IfOk result (λ replies. DoesAll self.old self.new replies.items (copy_step (seen_state self.old) name.now table.now)) }
-        ensures err { IfErr result (λ stop. Stopped self.old self.new stop (copy_step (seen_state self.old) name.now table.now)) }
+        requires { IsWhole D.seen self.old }
+        ensures ok { IfOk result (λ replies. DoesAll D.seen self.old self.new replies.items (copy_step (seen_state D.seen self.old) name.now table.now)) }
+        ensures err { IfErr result (λ stop. Stopped D.seen self.old self.new stop (copy_step (seen_state D.seen self.old) name.now table.now)) }
     {
         let (database, leaf) = self.leaf_with(name, table)?;
         let (provider, (from, to)) = self.source_alike(database, leaf, table)?;
@@ -53,11 +53,11 @@ impl State {
         requires provider { provider < length self.old.databases.names }
         requires database { database < length self.old.databases.names }
         requires apart { (provider == database) ≡ false }
-        requires root { is_some (set_queue ((seen_state self.old).database provider)) ≡ true }
-        requires same { SameTable ((seen_state self.old).database provider) ((seen_state self.old).database database) table.now.name.now table.now.from table.now.to }
-        requires whole { IsWhole self.old }
-        ensures ok { IfOk result (λ replies. DoesAll self.old self.new replies.items (copies (seen_state self.old) provider database table.now.name.now)) }
-        ensures err { IfErr result (λ stop. Stopped self.old self.new stop (copies (seen_state self.old) provider database table.now.name.now)) }
+        requires root { is_some (set_queue ((seen_state D.seen self.old).database provider)) ≡ true }
+        requires same { SameTable ((seen_state D.seen self.old).database provider) ((seen_state D.seen self.old).database database) table.now.name.now table.now.from table.now.to }
+        requires whole { IsWhole D.seen self.old }
+        ensures ok { IfOk result (λ replies. DoesAll D.seen self.old self.new replies.items (copies (seen_state D.seen self.old) provider database table.now.name.now)) }
+        ensures err { IfErr result (λ stop. Stopped D.seen self.old self.new stop (copies (seen_state D.seen self.old) provider database table.now.name.now)) }
     {
         let place = self.hands.place_for(database, table.name)?;
         let hand = self.hands.take_at(place);
@@ -70,9 +70,9 @@ impl State {
 
     /// Runs `londiste_step`: one move of the leaf's worker.
     pub(crate) fn londiste_step(&mut self, name: &Text) -> Result<Vec<Reply>, Stop>
-        requires { IsWhole self.old }
-        ensures ok { IfOk result (λ replies. DoesAll self.old self.new replies.items (londiste_step (seen_state self.old) name.now)) }
-        ensures err { IfErr result (λ stop. Stopped self.old self.new stop (londiste_step (seen_state self.old) name.now)) }
+        requires { IsWhole D.seen self.old }
+        ensures ok { IfOk result (λ replies. DoesAll D.seen self.old self.new replies.items (londiste_step (seen_state D.seen self.old) name.now)) }
+        ensures err { IfErr result (λ stop. Stopped D.seen self.old self.new stop (londiste_step (seen_state D.seen self.old) name.now)) }
     {
         let (database, leaf) = self.leaf_called(name)?;
         let provider = self.provider_of(leaf)?;
@@ -84,11 +84,11 @@ impl State {
         requires provider { provider < length self.old.databases.names }
         requires database { database < length self.old.databases.names }
         requires apart { (provider == database) ≡ false }
-        requires root { is_some (set_queue ((seen_state self.old).database provider)) ≡ true }
-        requires leaf { is_leaf ((seen_state self.old).database database).node ≡ true }
-        requires whole { IsWhole self.old }
-        ensures ok { IfOk result (λ replies. DoesAll self.old self.new replies.items (replays (seen_state self.old) provider database)) }
-        ensures err { IfErr result (λ stop. Stopped self.old self.new stop (replays (seen_state self.old) provider database)) }
+        requires root { is_some (set_queue ((seen_state D.seen self.old).database provider)) ≡ true }
+        requires leaf { is_leaf ((seen_state D.seen self.old).database database).node ≡ true }
+        requires whole { IsWhole D.seen self.old }
+        ensures ok { IfOk result (λ replies. DoesAll D.seen self.old self.new replies.items (replays (seen_state D.seen self.old) provider database)) }
+        ensures err { IfErr result (λ stop. Stopped D.seen self.old self.new stop (replays (seen_state D.seen self.old) provider database)) }
     {
         let hand = self.batches.get(database);
         let mut worker = ReplayWorker::with_hand(self.alloc, hand);
@@ -100,8 +100,8 @@ impl State {
 
     /// Runs `restart` of a leaf: what its worker has in hand is lost, so its batch comes again.
     pub(crate) fn restart(&mut self, name: &Text) -> Result<Reply, Stop>
-        requires { IsWhole self.old }
-        ensures { Ran self.old self.new result (restart (seen_state self.old) name.now) }
+        requires { IsWhole D.seen self.old }
+        ensures { Ran D.seen self.old self.new result (restart (seen_state D.seen self.old) name.now) }
     {
         let (database, _) = self.leaf_called(name)?;
         self.empty_batch(database);
@@ -110,16 +110,16 @@ impl State {
 
     /// The worker of a database's leaf has nothing in hand from now on.
     fn empty_batch(&mut self, database: usize)
-        requires { IsWhole self.old }
-        ensures { Happened self.old self.new (batch_in_hand database None ∷ []) }
+        requires { IsWhole D.seen self.old }
+        ensures { Happened D.seen self.old self.new (batch_in_hand database None ∷ []) }
     {
         self.batches.empty(database);
     }
 
     /// Runs `restart` of a leaf's table: what its worker has in hand is lost, so a copy that runs is given up.
     pub(crate) fn restart_table(&mut self, name: &Text, table: &Text) -> Result<Reply, Stop>
-        requires { IsWhole self.old }
-        ensures { Ran self.old self.new result (restart_table (seen_state self.old) name.now table.now) }
+        requires { IsWhole D.seen self.old }
+        ensures { Ran D.seen self.old self.new result (restart_table (seen_state D.seen self.old) name.now table.now) }
     {
         let (database, leaf) = self.leaf_with(name, table)?;
         let provider = self.source(leaf, table)?;
@@ -132,8 +132,8 @@ impl State {
         requires provider { provider < length self.old.databases.names }
         requires database { database < length self.old.databases.names }
         requires apart { (provider == database) ≡ false }
-        requires whole { IsWhole self.old }
-        ensures { Happened self.old self.new (move_facts (seen_state self.old) provider database (in_hand database table.now) (restarting table.now ((seen_state self.old).hands database table.now))) }
+        requires whole { IsWhole D.seen self.old }
+        ensures { Happened D.seen self.old self.new (move_facts (seen_state D.seen self.old) provider database (in_hand database table.now) (restarting table.now ((seen_state D.seen self.old).hands database table.now))) }
     {
         let hand = self.hands.take(database, table);
         let mut worker = CopyWorker::with_hand(self.alloc, hand);
@@ -154,11 +154,11 @@ impl State {
         requires provider { provider < length self.old.databases.names }
         requires database { database < length self.old.databases.names }
         requires apart { (provider == database) ≡ false }
-        requires root { is_some (set_queue ((seen_state self.old).database provider)) ≡ true }
-        requires number { table_number ((seen_state self.old).database database) table.now ≡ Some number }
-        requires may { may_serve (removing table.now) ((seen_state self.old).database database).node ≡ true }
-        requires whole { IsWhole self.old }
-        ensures { Does self.old self.new result (moves (seen_state self.old) provider database (in_hand database table.now) (Ok (leaving table.now (option_copied consumer.entry) ((seen_state self.old).hands database table.now)))) }
+        requires root { is_some (set_queue ((seen_state D.seen self.old).database provider)) ≡ true }
+        requires number { table_number ((seen_state D.seen self.old).database database) table.now ≡ Some number }
+        requires may { may_serve (removing table.now) ((seen_state D.seen self.old).database database).node ≡ true }
+        requires whole { IsWhole D.seen self.old }
+        ensures { Does D.seen self.old self.new result (moves (seen_state D.seen self.old) provider database (in_hand database table.now) (Ok (leaving table.now (option_copied consumer.entry) ((seen_state D.seen self.old).hands database table.now)))) }
     {
         let hold = self.take_hand(database, table);
         self.let_go_if(provider, hold);
@@ -170,9 +170,9 @@ impl State {
     /// The worker that copies a table has nothing in hand from now on. If it had a copy, the number of the copy's hold is
     /// given.
     fn take_hand(&mut self, database: usize, table: &Text) -> Option<u64>
-        requires { IsWhole self.old }
-        ensures hold { result ≡ option_map CopyHand.hold (copy_in ((seen_state self.old).hands database table.now)) }
-        ensures happened { Happened self.old self.new (in_hand database table.now None ∷ []) }
+        requires { IsWhole D.seen self.old }
+        ensures hold { result ≡ option_map CopyHand.hold (copy_in ((seen_state D.seen self.old).hands database table.now)) }
+        ensures happened { Happened D.seen self.old self.new (in_hand database table.now None ∷ []) }
     {
         let hand = self.hands.take(database, table)?;
         hand.hold()
@@ -181,8 +181,8 @@ impl State {
     /// A snapshot that is held in a database is let go, if there is one.
     fn let_go_if(&mut self, database: usize, hold: Option<u64>)
         requires database { database < length self.old.databases.names }
-        requires whole { IsWhole self.old }
-        ensures { Happened self.old self.new (calls_facts (seen_state self.old) database (lets_go_with hold)) }
+        requires whole { IsWhole D.seen self.old }
+        ensures { Happened D.seen self.old self.new (calls_facts (seen_state D.seen self.old) database (lets_go_with hold)) }
     {
         if let Some(hold) = hold {
             self.let_go(database, hold);
@@ -192,9 +192,9 @@ impl State {
     /// A leaf's consumer leaves the queue of the set in a database, if there is one.
     fn part_if(&mut self, database: usize, consumer: Option<&Text>)
         requires database { database < length self.old.databases.names }
-        requires root { is_some (set_queue ((seen_state self.old).database database)) ≡ true }
-        requires whole { IsWhole self.old }
-        ensures { Happened self.old self.new (calls_facts (seen_state self.old) database (parts_with (option_copied consumer.entry))) }
+        requires root { is_some (set_queue ((seen_state D.seen self.old).database database)) ≡ true }
+        requires whole { IsWhole D.seen self.old }
+        ensures { Happened D.seen self.old self.new (calls_facts (seen_state D.seen self.old) database (parts_with (option_copied consumer.entry))) }
     {
         if let Some(consumer) = consumer {
             self.part(database, consumer);
@@ -204,8 +204,8 @@ impl State {
     /// A snapshot that is held in a database is let go.
     fn let_go(&mut self, database: usize, hold: u64)
         requires database { database < length self.old.databases.names }
-        requires whole { IsWhole self.old }
-        ensures { Happened self.old self.new (call_facts (seen_state self.old) database (letting_go hold)) }
+        requires whole { IsWhole D.seen self.old }
+        ensures { Happened D.seen self.old self.new (call_facts (seen_state D.seen self.old) database (letting_go hold)) }
     {
         let store = self.databases.get_mut(database);
         store.let_go(hold);
@@ -214,9 +214,9 @@ impl State {
     /// A leaf's consumer leaves the queue of the set in a database.
     fn part(&mut self, database: usize, consumer: &Text)
         requires database { database < length self.old.databases.names }
-        requires root { is_some (set_queue ((seen_state self.old).database database)) ≡ true }
-        requires whole { IsWhole self.old }
-        ensures { Happened self.old self.new (call_facts (seen_state self.old) database (parting consumer.now)) }
+        requires root { is_some (set_queue ((seen_state D.seen self.old).database database)) ≡ true }
+        requires whole { IsWhole D.seen self.old }
+        ensures { Happened D.seen self.old self.new (call_facts (seen_state D.seen self.old) database (parting consumer.now)) }
     {
         let store = self.databases.get_mut(database);
         store.part(consumer);
@@ -225,10 +225,10 @@ impl State {
     /// A table leaves the leaf of a database.
     fn drop_from_leaf(&mut self, database: usize, table: &Text, number: u32)
         requires database { database < length self.old.databases.names }
-        requires number { table_number ((seen_state self.old).database database) table.now ≡ Some number }
-        requires may { may_serve (removing table.now) ((seen_state self.old).database database).node ≡ true }
-        requires whole { IsWhole self.old }
-        ensures { Happened self.old self.new (call_facts (seen_state self.old) database (removing table.now)) }
+        requires number { table_number ((seen_state D.seen self.old).database database) table.now ≡ Some number }
+        requires may { may_serve (removing table.now) ((seen_state D.seen self.old).database database).node ≡ true }
+        requires whole { IsWhole D.seen self.old }
+        ensures { Happened D.seen self.old self.new (call_facts (seen_state D.seen self.old) database (removing table.now)) }
     {
         let store = self.databases.get_mut(database);
         store.leaf_drop(table, number);
@@ -236,9 +236,9 @@ impl State {
 
     /// The leaf of a name, and the number of its database.
     fn leaf_called(&self, name: &Text) -> Result<(usize, &Leaf), Stop>
-        ensures ok { IfOk result (λ found. leaf_called (seen_state self.now) name.now ≡ Ok (found.0, found.1.now)) }
-        ensures err { IfErr result (λ stop. StopsAs stop (leaf_called (seen_state self.now) name.now)) }
-        ensures there { IfOk result (λ found. ((seen_state self.now).database found.0).node ≡ Some (of_leaf found.1.now)) }
+        ensures ok { IfOk result (λ found. leaf_called (seen_state D.seen self.now) name.now ≡ Ok (found.0, found.1.now)) }
+        ensures err { IfErr result (λ stop. StopsAs stop (leaf_called (seen_state D.seen self.now) name.now)) }
+        ensures there { IfOk result (λ found. ((seen_state D.seen self.now).database found.0).node ≡ Some (of_leaf found.1.now)) }
         ensures within { IfOk result (λ found. found.0 < length self.now.databases.names) }
     {
         match self.find_node(name) {
@@ -256,9 +256,9 @@ impl State {
 
     /// The same, if the leaf has a table.
     fn leaf_with(&self, name: &Text, table: &Text) -> Result<(usize, &Leaf), Stop>
-        ensures ok { IfOk result (λ found. leaf_with (seen_state self.now) name.now table.now ≡ Ok (found.0, found.1.now)) }
-        ensures err { IfErr result (λ stop. StopsAs stop (leaf_with (seen_state self.now) name.now table.now)) }
-        ensures there { IfOk result (λ found. ((seen_state self.now).database found.0).node ≡ Some (of_leaf found.1.now)) }
+        ensures ok { IfOk result (λ found. leaf_with (seen_state D.seen self.now) name.now table.now ≡ Ok (found.0, found.1.now)) }
+        ensures err { IfErr result (λ stop. StopsAs stop (leaf_with (seen_state D.seen self.now) name.now table.now)) }
+        ensures there { IfOk result (λ found. ((seen_state D.seen self.now).database found.0).node ≡ Some (of_leaf found.1.now)) }
         ensures among { IfOk result (λ found. is_among table.now (tables_of (of_leaf found.1.now)) ≡ true) }
         ensures within { IfOk result (λ found. found.0 < length self.now.databases.names) }
     {
@@ -272,9 +272,9 @@ impl State {
 
     /// The database of a leaf's provider.
     fn provider_of(&self, leaf: &Leaf) -> Result<usize, Stop>
-        ensures ok { IfOk result (λ provider. provider_of (seen_state self.now) leaf.now ≡ Ok provider) }
-        ensures err { IfErr result (λ stop. StopsAs stop (provider_of (seen_state self.now) leaf.now)) }
-        ensures root { IfOk result (λ provider. is_some (set_queue ((seen_state self.now).database provider)) ≡ true) }
+        ensures ok { IfOk result (λ provider. provider_of (seen_state D.seen self.now) leaf.now ≡ Ok provider) }
+        ensures err { IfErr result (λ stop. StopsAs stop (provider_of (seen_state D.seen self.now) leaf.now)) }
+        ensures root { IfOk result (λ provider. is_some (set_queue ((seen_state D.seen self.now).database provider)) ≡ true) }
         ensures within { IfOk result (λ provider. provider < length self.now.databases.names) }
     {
         let Some((provider, _)) = self.find_node(leaf.provider()) else {
@@ -287,9 +287,9 @@ impl State {
 
     /// The database from which a table of a leaf is copied.
     pub(crate) fn source(&self, leaf: &Leaf, table: &Text) -> Result<usize, Stop>
-        ensures ok { IfOk result (λ provider. source (seen_state self.now) leaf.now table.now ≡ Ok provider) }
-        ensures err { IfErr result (λ stop. StopsAs stop (source (seen_state self.now) leaf.now table.now)) }
-        ensures root { IfOk result (λ provider. is_some (set_queue ((seen_state self.now).database provider)) ≡ true) }
+        ensures ok { IfOk result (λ provider. source (seen_state D.seen self.now) leaf.now table.now ≡ Ok provider) }
+        ensures err { IfErr result (λ stop. StopsAs stop (source (seen_state D.seen self.now) leaf.now table.now)) }
+        ensures root { IfOk result (λ provider. is_some (set_queue ((seen_state D.seen self.now).database provider)) ≡ true) }
         ensures within { IfOk result (λ provider. provider < length self.now.databases.names) }
     {
         let Some(provider) = self.provides(leaf.provider(), table) else {
@@ -308,10 +308,10 @@ impl State {
         table: &Text,
     ) -> Result<(usize, (u32, u32)), Stop>
         requires { database < length self.now.databases.names }
-        ensures ok { IfOk result (λ found. source_alike (seen_state self.now) database leaf.now table.now ≡ Ok found.0) }
-        ensures err { IfErr result (λ stop. StopsAs stop (source_alike (seen_state self.now) database leaf.now table.now)) }
-        ensures root { IfOk result (λ found. is_some (set_queue ((seen_state self.now).database found.0)) ≡ true) }
-        ensures alike { IfOk result (λ found. AreAlike ((seen_state self.now).database found.0) ((seen_state self.now).database database) table.now found.1) }
+        ensures ok { IfOk result (λ found. source_alike (seen_state D.seen self.now) database leaf.now table.now ≡ Ok found.0) }
+        ensures err { IfErr result (λ stop. StopsAs stop (source_alike (seen_state D.seen self.now) database leaf.now table.now)) }
+        ensures root { IfOk result (λ found. is_some (set_queue ((seen_state D.seen self.now).database found.0)) ≡ true) }
+        ensures alike { IfOk result (λ found. AreAlike ((seen_state D.seen self.now).database found.0) ((seen_state D.seen self.now).database database) table.now found.1) }
         ensures within { IfOk result (λ found. found.0 < length self.now.databases.names) }
     {
         let provider = self.source(leaf, table)?;
@@ -328,8 +328,8 @@ impl State {
     fn numbers_alike(&self, provider: usize, database: usize, table: &Text) -> Option<(u32, u32)>
         requires provider { provider < length self.now.databases.names }
         requires database { database < length self.now.databases.names }
-        ensures found { is_some result ≡ are_alike (columns_called table.now ((seen_state self.now).database provider)) (columns_called table.now ((seen_state self.now).database database)) }
-        ensures alike { IfSome result (λ numbers. AreAlike ((seen_state self.now).database provider) ((seen_state self.now).database database) table.now numbers) }
+        ensures found { is_some result ≡ are_alike (columns_called table.now ((seen_state D.seen self.now).database provider)) (columns_called table.now ((seen_state D.seen self.now).database database)) }
+        ensures alike { IfSome result (λ numbers. AreAlike ((seen_state D.seen self.now).database provider) ((seen_state D.seen self.now).database database) table.now numbers) }
     {
         let (from, schema) = self.store(provider).table(table)?;
         let (to, other) = self.store(database).table(table)?;

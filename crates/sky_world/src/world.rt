@@ -9,6 +9,7 @@ ghost use Rattle.sky_world.specs.Adds.{AddsCall};
 
 use crate::state::State;
 use sky_model::{Replies, Stmt};
+use sky_store::Store;
 use sky_val::Text;
 use std::alloc::Global;
 use std::marker::Model;
@@ -26,29 +27,29 @@ pub enum WorldFault {
 
 /// The sessions and databases of a script, and the clock.
 #[derive(Drop)]
-pub struct World {
+pub struct World<D: Store> {
     alloc: Global,
-    state: State,
+    state: State<D>,
     // Whether memory ran out once. Then it isn't known who waits in a database, so no further statement is run.
     has_failed: bool,
 }
 
-impl Model for World {
+impl<D: Store> Model for World<D> {
     ghost use Rattle.std.specs.Prelude.{◌≡◌, false};
     ghost use Rattle.sky_world.specs.Views.{WorldView};
     ghost use Rattle.sky_world.specs.Whole.{IsWhole};
 
-    ghost Value = { WorldView };
+    ghost Value = { WorldView D };
 
     ghost view = { λ w. record { state = w.state; has_failed = w.has_failed } };
 
-    ghost invariant = { λ w. w.has_failed ≡ false → IsWhole w.state };
+    ghost invariant = { λ w. w.has_failed ≡ false → IsWhole D.seen w.state };
 }
 
-impl World {
+impl<D: Store> World<D> {
     /// A world in which nothing has happened.
-    pub fn new(alloc: Global) -> World
-        ensures new { seen_world result ≡ world_of [] }
+    pub fn new(alloc: Global) -> World<D>
+        ensures new { seen_world D.seen result ≡ world_of [] }
         ensures sound { result.has_failed ≡ false }
     {
         World {
@@ -60,14 +61,14 @@ impl World {
 
     /// The names of the sessions, in the order of their first lines: a session's number is its place.
     pub fn session_names(&self) -> &[Text]
-        ensures { result.now ≡ (seen_world self.now).sessions }
+        ensures { result.now ≡ (seen_world D.seen self.now).sessions }
     {
         self.state.session_names()
     }
 
     /// The present moment of the clock, in microseconds since its start.
     pub fn now(&self) -> i64
-        ensures { result ≡ (seen_world self.now).now }
+        ensures { result ≡ (seen_world D.seen self.now).now }
     {
         self.state.now()
     }
@@ -77,8 +78,8 @@ impl World {
     pub fn step(&mut self, name: &Text, stmt: &Stmt) -> Result<Replies, WorldFault>
         requires name { is_name name.now ≡ true }
         requires form { IsInForm stmt.now }
-        ensures steps { IfOk result (λ replies. Steps (seen_world self.old) (seen_world self.new) (record { who = name.now; stmt = stmt.now }) replies) }
-        ensures numbered { IfOk result (λ replies. All (λ answer. answer.0 ≤ length (seen_world self.new).sessions) replies) }
+        ensures steps { IfOk result (λ replies. Steps (seen_world D.seen self.old) (seen_world D.seen self.new) (record { who = name.now; stmt = stmt.now }) replies) }
+        ensures numbered { IfOk result (λ replies. All (λ answer. answer.0 ≤ length (seen_world D.seen self.new).sessions) replies) }
         ensures times { IfOk result (λ replies. HaveMoments replies) }
         ensures failed { (result ≡ Err WorldFault.Failed) ↔ (self.old.has_failed ≡ true) }
         ensures sound { OnOk result (self.new.has_failed ≡ false) }
@@ -98,7 +99,7 @@ impl World {
     ) -> Result<(), WorldFault>
         requires name { is_name name.now ≡ true }
         requires form { IsInForm stmt.now }
-        ensures adds { OnOk result (AddsCall (seen_world self.old) (seen_world self.new) (record { who = name.now; stmt = stmt.now }) replies.old replies.new) }
+        ensures adds { OnOk result (AddsCall (seen_world D.seen self.old) (seen_world D.seen self.new) (record { who = name.now; stmt = stmt.now }) replies.old replies.new) }
         ensures failed { (result ≡ Err WorldFault.Failed) ↔ (self.old.has_failed ≡ true) }
         ensures sound { OnOk result (self.new.has_failed ≡ false) }
         ensures fails { OnErr result (self.new.has_failed ≡ true) }

@@ -10,7 +10,7 @@ use Rattle.sky_model.specs.StepQueue.{newest_id}
 use Rattle.sky_model.specs.Stops.{Refuses}
 use Rattle.londiste_calls.specs.declared.faults.JoinFault.{JoinFault}
 use Rattle.londiste_calls.specs.declared.faults.JoinFault.TheVariants as fault
-use Rattle.pgq_db.specs.Served.{JoinRefused}
+use Rattle.sky_store.specs.Served.{JoinRefused}
 use Rattle.sky_model.specs.StepNode.{set_queue, has_joined, joins, joining, if_there, node_does}
 
 abbrev registers-by : Database → ℕ → List ℕ → (full spent : Bool) → Checked Outcome

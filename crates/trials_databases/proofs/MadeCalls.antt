@@ -12,7 +12,7 @@ use Rattle.sky_model.specs.DatabaseSteps.{DatabaseSteps, IsMade}
 use Rattle.sky_histories.proofs.MadeCopies.{made-after}
 use Rattle.londiste_calls.specs.declared.faults.ApplyFault.{ApplyFault}
 use Rattle.londiste_calls.specs.declared.faults.ApplyFault.TheVariants as fault
-use Rattle.pgq_db.specs.Applying.{ApplyRefused}
+use Rattle.sky_store.specs.Applying.{ApplyRefused}
 use Rattle.pgq_db.specs.Seen.{seen_database}
 use Rattle.trials_databases.specs.Views.{ReplicaView}
 

@@ -7,7 +7,7 @@ use crate::replica::Replica;
 use crate::{leaf_copies, leaves};
 use anyhow::bail;
 use londiste_state::{Leaf, Node};
-use pgq_db::{Db, Pick};
+use pgq_db::{Db, Pick, Store};
 use sky_val::{Event, Text};
 use std::alloc::Global;
 use trials::{first_number, first_word, no_command, shown};

@@ -1,14 +1,14 @@
 ghost use Rattle.std.specs.Prelude.{◌≡◌, true, IfOk, OnOk, Some};
 ghost use Rattle.sky_model.specs.StepCopy.{all_fit};
 ghost use Rattle.sky_model.specs.StepNode.{table_number, may_copy};
-ghost use Rattle.pgq_db.specs.Copying.{MayCopy};
+ghost use Rattle.sky_store.specs.Copying.{MayCopy};
 ghost use Rattle.pgq_db.specs.Seen.{seen_database};
 
 use crate::nodes::number_of;
 use crate::replica::Replica;
 use anyhow::bail;
 use londiste_state::{Node, TableState};
-use pgq_db::Db;
+use pgq_db::{Db, Store};
 use sky_txid::Snapshot;
 use sky_urlenc::decode_row;
 use sky_val::{Row, Schema, Text};

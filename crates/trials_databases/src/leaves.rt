@@ -3,6 +3,7 @@ use crate::replica::Replica;
 use crate::statements::statement;
 use anyhow::bail;
 use londiste_state::{Node, TableState};
+use pgq_db::Store;
 use sky_val::Text;
 use std::alloc::Global;
 use trials::{first_number, first_word, line, no_command, ok, shown};

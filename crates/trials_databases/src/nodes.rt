@@ -7,7 +7,7 @@ use crate::statements::statement;
 use crate::{leaves, providers};
 use anyhow::bail;
 use londiste_state::Node;
-use pgq_db::Db;
+use pgq_db::{Db, Store};
 use sky_val::{Schema, Text};
 use std::alloc::Global;
 use trials::{first_number, first_word, line, no_command, ok, shown};

@@ -4,11 +4,11 @@ ghost use Rattle.sky_model.specs.InForm.{IsDbInForm};
 ghost use Rattle.sky_model.specs.StepCopy.{all_fit};
 ghost use Rattle.sky_model.specs.StepNode.{table_number, may_copy, may_serve, adding, applying, moving};
 ghost use Rattle.londiste_calls.specs.Picks.{pick_of};
-ghost use Rattle.pgq_db.specs.Copying.{MayCopy};
+ghost use Rattle.sky_store.specs.Copying.{MayCopy};
 ghost use Rattle.pgq_db.specs.Seen.{seen_database};
 
 use londiste_state::TableState;
-use pgq_db::{ApplyFault, CopyFault, Db, Pick};
+use pgq_db::{ApplyFault, CopyFault, Db, Pick, Store};
 use sky_model::{DbStmt, Replies};
 use sky_txid::Snapshot;
 use sky_val::{Event, NoMemory, Row, SessionId, Text};

@@ -6,7 +6,7 @@ use Rattle.sky_world.proofs.Worlds.{added-alone}
 use Rattle.sky_run.proofs.calls.call.Goals as goal
 
 pub print_answers-requires : goal.print_answers-requires
-print_answers-requires c =
+print_answers-requires g c =
     let alone = added-alone _ _ _ _ _ c.clear.ensures c.in-Ok.ensures.adds in
     record {
       numbered = subst (λ (names : List (List ℕ)). All (λ (answer : ℕ × Reply). answer.0 ≤ length names) c.step_into.new.replies) (sym c.session_names.ensures) alone.1;
@@ -14,7 +14,7 @@ print_answers-requires c =
     }
 
 pub returns-clause-answers : goal.returns-clause-answers
-returns-clause-answers c =
+returns-clause-answers g c =
     on_ok_weaker c.print_answers.result (λ prints. record {
       replies = c.step_into.new.replies;
       in_form = (c.requires.name, c.requires.form);

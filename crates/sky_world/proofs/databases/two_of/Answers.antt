@@ -1,6 +1,5 @@
 use Rattle.std.proofs.Common.{refl, arith, ◌<◌}
 use Rattle.std.proofs.lemmas.Bool.Decides.{nat_tests}
-use Rattle.std.proofs.lemmas.List.{length-set}
 use Rattle.sky_world.proofs.TwoPlaces.{first-before, first-after, read-front, read-seam}
 use Rattle.sky_world.proofs.databases.two_of.Goals as goal
 

@@ -7,7 +7,7 @@ use Rattle.pgq_db.specs.Seen.{seen_database}
 use Rattle.pgq_db.proofs.Agreeing.{agree-then, agree-marked, agree-same}
 use Rattle.pgq_db.proofs.ApplySteps.{begun-all, apply-refused, apply-serves, apply-answers, apply-bad, works-recorded}
 use Rattle.pgq_db.proofs.Databases.{err-and}
-use Rattle.pgq_db.proofs.NodeSteps.{serves-steps}
+use Rattle.sky_store.proofs.Serving.{serves-steps}
 use Rattle.pgq_db.proofs.RetrySteps.{works}
 use Rattle.pgq_db.proofs.db.Db.apply_recorded.Goals as goal
 

@@ -1,4 +1,5 @@
-use Rattle.std.proofs.Common.{Option, sym, ap, ◌∙◌}
+use Rattle.std.proofs.Common.{Option, Some, sym, ap, ◌∙◌}
+use Rattle.sky_val.specs.declared.event.Event.{Event}
 use Rattle.sky_model.specs.declared.stmt.Extra.{Extra}
 use Rattle.sky_model.specs.History.{queued, put}
 use Rattle.sky_model.specs.State.{after_mark}
@@ -16,11 +17,11 @@ returns-in_ok-put_plain-in-None c =
           ∙ ap (λ (x : Option Extra). after_mark (seen_database c.args.self.now) (queued (put c.args.queue (made_event e.ev_id e.ev_time e.ev_txid e.ev_type e.ev_data x)))) (sym c.in-None.is);
     }
 
-pub returns-in_ok-put-in-Some : goal.returns-in_ok-put-in-Some
-returns-in_ok-put-in-Some c =
+pub returns-in_ok-put_with_extra-in-Some : goal.returns-in_ok-put_with_extra-in-Some
+returns-in_ok-put_with_extra-in-Some c =
     let e = c.args.event in
+    let whole : Option Extra → Event = made_event e.ev_id e.ev_time e.ev_txid e.ev_type e.ev_data in
     record {
-      mark = marked-as _ _ c.put.new.self (λ _. put c.args.queue c.in_ok-event-in-Some.event) c.self.view_is c.in_ok-put-in-Some.ensures.mark
-          ∙ ap (λ x. after_mark (seen_database c.args.self.now) (queued (put c.args.queue x)))
-          (c.in_ok-event-in-Some.ensures ∙ ap (λ (x : Option Extra). made_event e.ev_id e.ev_time e.ev_txid e.ev_type e.ev_data x) (sym c.in-Some.is));
+      mark = marked-as _ _ c.put_with_extra.new.queues (λ _. put c.args.queue (whole (Some c.in-Some.extra))) c.self.view_is c.in_ok-put_with_extra-in-Some.ensures.mark
+          ∙ ap (λ (x : Option Extra). after_mark (seen_database c.args.self.now) (queued (put c.args.queue (whole x)))) (sym c.in-Some.is);
     }

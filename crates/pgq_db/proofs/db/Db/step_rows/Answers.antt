@@ -6,12 +6,12 @@ use Rattle.sky_model.specs.declared.stmt.DbStmt.TheVariants.{Row}
 use Rattle.sky_model.specs.Calls.{database_turn, row_turn}
 use Rattle.sky_model.specs.Printed.{HaveMoments}
 use Rattle.sky_model.specs.Reader.{database_by_itself, within_part}
+use Rattle.sky_model.specs.Settling.{Turn}
 use Rattle.sky_model.specs.State.{Database}
 use Rattle.pgq_db.specs.Seen.{seen_database}
 use Rattle.pgq_db.specs.Gives.{Adds}
-use Rattle.pgq_db.proofs.Moments.{same-moments}
 use Rattle.pgq_db.proofs.Results.{on-ok}
-use Rattle.pgq_db.proofs.Switched.{answers-first, adds-first, none-before}
+use Rattle.pgq_db.proofs.Switched.{turn-other}
 use Rattle.pgq_db.proofs.db.Db.step_rows.Goals as goal
 
 pub returns-in-Commit-clause-adds : goal.returns-in-Commit-clause-adds
@@ -32,12 +32,12 @@ pub returns-in_default-clause-adds : goal.returns-in_default-clause-adds
 returns-in_default-clause-adds c =
     let d : Database = seen_database c.args.self.now in
     on-ok c.run_rows.result c.run_rows.ensures.adds (λ adds.
-    adds-first d d c.args.now c.args.who c.args.stmt.now (none-before d c.args.now c.args.who c.args.stmt.now c.in_default.not-Commit) _ c.args.replies.now _
+    subst (Adds d (seen_database c.run_rows.new.self) c.args.replies.now c.run_rows.new.replies) (sym (turn-other d c.args.now c.args.who c.args.stmt.now c.in_default.not-Commit))
     (rw (to_z-of_z w64 c.args.now c.ranges.now) at adds))
 
 pub returns-in_default-clause-moments : goal.returns-in_default-clause-moments
 returns-in_default-clause-moments c =
     let d : Database = seen_database c.args.self.now in
     on-ok c.run_rows.result c.run_rows.ensures.moments (λ moments.
-    same-moments _ _ (answers-first d d c.args.now c.args.who c.args.stmt.now (none-before d c.args.now c.args.who c.args.stmt.now c.in_default.not-Commit))
+    subst (λ (t : Turn). HaveMoments t.answers) (sym (turn-other d c.args.now c.args.who c.args.stmt.now c.in_default.not-Commit))
     (subst (λ (now : ℤ). HaveMoments (row_turn (within_part database_by_itself now) d c.args.who c.args.stmt.now).answers) (to_z-of_z w64 c.args.now c.ranges.now) moments))

@@ -5,7 +5,7 @@ use Rattle.sky_world.proofs.Worlds.{adds-failed}
 use Rattle.sky_world.proofs.state.State.abort_block.Goals as goal
 
 pub returns : goal.returns
-returns c =
+returns g c =
     let store = c.get_mut-store in
     let failed = c.in_ok-fail_into.ensures in
     adds-failed _ _ c.args.database c.args.who store.result.now c.fail_into.new.self _ _ _ c.self.view_is store.ensures.within store.ensures.value

@@ -3,7 +3,7 @@ use Rattle.sky_world.proofs.Worlds.{homes-set, home-as}
 use Rattle.sky_world.proofs.state.State.leave.Goals as goal
 
 pub invariant_of-self : goal.invariant_of-self
-invariant_of-self c = record {
+invariant_of-self g c = record {
   time = c.self.invariant.time;
   homes_within = homes-set _ _ c.args.who None c.self.view_is c.self.invariant.homes_within tt;
   started = c.self.invariant.started;
@@ -11,4 +11,4 @@ invariant_of-self c = record {
 }
 
 pub returns-clause-fact : goal.returns-clause-fact
-returns-clause-fact c = home-as _ _ c.args.who None c.self.view_is c.get_mut.ensures.within
+returns-clause-fact g c = home-as g.D.Store.seen _ _ c.args.who None c.self.view_is c.get_mut.ensures.within

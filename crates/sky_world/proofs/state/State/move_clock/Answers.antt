@@ -24,21 +24,21 @@ time-after : (clock time to : ℤ) → IsTime clock → IsOf Advance time → to
 time-after clock time to now on is past = (omega (arith, ints, now.0, on.0), omega (arith, ints))
 
 pub work_until-requires-clause-last : goal.work_until-requires-clause-last
-work_until-requires-clause-last c = time-after c.self.inside.clock c.args.time _ c.self.invariant.time c.requires.time (moved _ _ c.self.invariant.time c.requires.time) c.if-to-gt-LAST_MOMENT.false
+work_until-requires-clause-last g c = time-after c.self.inside.clock c.args.time _ c.self.invariant.time c.requires.time (moved _ _ c.self.invariant.time c.requires.time) c.if-to-gt-LAST_MOMENT.false
 
 pub work_until-requires-clause-later : goal.work_until-requires-clause-later
-work_until-requires-clause-later c = later c.self.inside.clock c.args.time _ _ c.requires.time (moved _ _ c.self.invariant.time c.requires.time) (ap (λ (w : StateView). w.now) c.self.view_is)
+work_until-requires-clause-later g c = later c.self.inside.clock c.args.time _ _ c.requires.time (moved _ _ c.self.invariant.time c.requires.time) (ap (λ (w : StateView g.row.D.Denot). w.now) c.self.view_is)
 
 pub returns-then-to-gt-LAST_MOMENT : goal.returns-then-to-gt-LAST_MOMENT
-returns-then-to-gt-LAST_MOMENT c =
-    let clock_is : c.self.inside.clock ≡ c.args.self.now.now = ap (λ (w : StateView). w.now) c.self.view_is in
+returns-then-to-gt-LAST_MOMENT g c =
+    let clock_is : c.self.inside.clock ≡ c.args.self.now.now = ap (λ (w : StateView g.row.D.Denot). w.now) c.self.view_is in
     let sum_is : to_z w64 (of_z w64 (c.self.inside.clock +ℤ c.args.time)) ≡ c.self.inside.clock +ℤ c.args.time = to_z-of_z w64 (c.self.inside.clock +ℤ c.args.time) (omega (arith, ints, c.self.invariant.time.0, c.self.invariant.time.1, c.requires.time.0, c.requires.time.1)) in
     clock-spent _ c.args.who c.args.time _ _ _ _ c.requires.whole c.requires.who (sym c.if-is_waiting.false ∙ c.is_waiting.ensures) (sum_is ∙ ap (λ t. t +ℤ c.args.time) clock_is) (omega (arith, ints, c.if-to-gt-LAST_MOMENT.true))
     c.in_ok-push-2.ensures.ok
 
 pub returns : goal.returns
-returns c =
-    let clock_is : c.self.inside.clock ≡ c.args.self.now.now = ap (λ (w : StateView). w.now) c.self.view_is in
+returns g c =
+    let clock_is : c.self.inside.clock ≡ c.args.self.now.now = ap (λ (w : StateView g.row.D.Denot). w.now) c.self.view_is in
     let clock_read : to_z w64 (of_z w64 c.self.inside.clock) ≡ c.self.inside.clock = to_z-of_z w64 c.self.inside.clock (omega (arith, ints, c.self.invariant.time.0, c.self.invariant.time.1)) in
     let time_read : to_z w64 (of_z w64 c.args.time) ≡ c.args.time = to_z-of_z w64 c.args.time c.ranges.time in
     let sum_is : to_z w64 (of_z w64 (to_z w64 (of_z w64 c.self.inside.clock) +ℤ to_z w64 (of_z w64 c.args.time))) ≡ c.self.inside.clock +ℤ c.args.time =

@@ -6,8 +6,8 @@ use Rattle.sky_world.proofs.state.State.next_due.Given as goal
 
 -- the first moment of the daemons of the databases so far
 abbrev pub invariant-loop-database : goal.invariant-loop-database
-invariant-loop-database l = record {
-  next : l.due ≡ next_due l.self.now (seen_state l.self).daemons l.database;
+invariant-loop-database g l = record {
+  next : l.due ≡ next_due l.self.now (seen_state g.D.Store.seen l.self).daemons l.database;
   later : IfSome l.due (λ moment. l.self.now <ℤ moment);
   time : IfSome l.due HasMoment;
 }

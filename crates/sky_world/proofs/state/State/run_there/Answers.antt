@@ -5,7 +5,7 @@ use Rattle.sky_world.proofs.Worlds.{adds-within}
 use Rattle.sky_world.proofs.state.State.run_there.Goals as goal
 
 pub returns-clause-adds : goal.returns-clause-adds
-returns-clause-adds c =
+returns-clause-adds g c =
     let store = c.get_mut-store in
     let stepped = c.in_ok-step_into.ensures in
     adds-within _ _ c.args.database c.args.who store.result.now c.step_into.new.self c.args.stmt.now _ _ _ c.self.view_is store.ensures.within store.ensures.value

@@ -30,35 +30,35 @@ short : (clock leap to last : ℤ) → IsTime clock → to ≡ clock +ℤ leap �
 short clock leap to last time is le end = omega (arith, ints, time.0, end.1)
 
 pub is_idle_until-requires : goal.is_idle_until-requires
-is_idle_until-requires c =
+is_idle_until-requires g c =
     time-after c.self.inside.clock c.args.leap _ c.args.last c.self.invariant.time c.requires.leap (leapt _ _ c.self.invariant.time c.requires.leap)
     (most _ _ _ (to_z-of_z w64 c.args.last c.ranges.last) c.if-to-last.false) c.requires.last
 
 pub stand_at-requires-clause-time : goal.stand_at-requires-clause-time
-stand_at-requires-clause-time c =
+stand_at-requires-clause-time g c =
     time-after c.self.inside.clock c.args.leap _ c.args.last c.self.invariant.time c.requires.leap (leapt _ _ c.self.invariant.time c.requires.leap)
     (most _ _ _ (to_z-of_z w64 c.args.last c.ranges.last) c.if-to-last.false) c.requires.last
 
 pub stand_at-requires-clause-later : goal.stand_at-requires-clause-later
-stand_at-requires-clause-later c =
-    later c.self.inside.clock c.args.leap _ _ c.requires.leap (leapt _ _ c.self.invariant.time c.requires.leap) (ap (λ (w : StateView). w.now) c.self.view_is)
+stand_at-requires-clause-later g c =
+    later c.self.inside.clock c.args.leap _ _ c.requires.leap (leapt _ _ c.self.invariant.time c.requires.leap) (ap (λ (w : StateView g.row.D.Denot). w.now) c.self.view_is)
 
 pub returns-then-to-last-clause-skips : goal.returns-then-to-last-clause-skips
-returns-then-to-last-clause-skips c = skips-none c.args.self.now c.args.last c.requires.later
+returns-then-to-last-clause-skips g c = skips-none c.args.self.now c.args.last c.requires.later
 
 pub returns-clause-skips : goal.returns-clause-skips
-returns-clause-skips c =
+returns-clause-skips g c =
     skips-to c.args.self.now c.stand_at.new.self _ c.args.last c.stand_at.ensures
-    (later c.self.inside.clock c.args.leap _ _ c.requires.leap (leapt _ _ c.self.invariant.time c.requires.leap) (ap (λ (w : StateView). w.now) c.self.view_is))
+    (later c.self.inside.clock c.args.leap _ _ c.requires.leap (leapt _ _ c.self.invariant.time c.requires.leap) (ap (λ (w : StateView g.row.D.Denot). w.now) c.self.view_is))
     (most _ _ _ (to_z-of_z w64 c.args.last c.ranges.last) c.if-to-last.false)
     (c.is_idle_until.ensures c.if-not-is_idle_until.false)
 
 pub returns-clause-moved : goal.returns-clause-moved
-returns-clause-moved c =
-    let clock_is : c.self.inside.clock ≡ c.args.self.now.now = ap (λ (w : StateView). w.now) c.self.view_is in
-    λ _. ap (λ (w : StateView). w.now) c.stand_at.ensures ∙ leapt _ _ c.self.invariant.time c.requires.leap ∙ ap (λ t. t +ℤ c.args.leap) clock_is
+returns-clause-moved g c =
+    let clock_is : c.self.inside.clock ≡ c.args.self.now.now = ap (λ (w : StateView g.row.D.Denot). w.now) c.self.view_is in
+    λ _. ap (λ (w : StateView g.row.D.Denot). w.now) c.stand_at.ensures ∙ leapt _ _ c.self.invariant.time c.requires.leap ∙ ap (λ t. t +ℤ c.args.leap) clock_is
 
 pub returns-clause-short : goal.returns-clause-short
-returns-clause-short c = λ _.
+returns-clause-short g c = λ _.
     short c.self.inside.clock c.args.leap _ c.args.last c.self.invariant.time (leapt _ _ c.self.invariant.time c.requires.leap)
     (most _ _ _ (to_z-of_z w64 c.args.last c.ranges.last) c.if-to-last.false) c.requires.last

@@ -5,5 +5,5 @@ use Rattle.sky_world.proofs.Skipping.{skips-then}
 use Rattle.sky_world.proofs.state.State.skip_first.Goals as goal
 
 pub returns-clause-skips : goal.returns-clause-skips
-returns-clause-skips c =
-    subst (Skips c.args.self.now c.skip_doubling.new.self) (to_z-of_z w64 c.args.last c.ranges.last) (skips-then _ _ _ _ c.skip.ensures.skips c.skip_doubling.ensures.skips)
+returns-clause-skips g c =
+    subst (Skips g.D.Store.seen c.args.self.now c.skip_doubling.new.self) (to_z-of_z w64 c.args.last c.ranges.last) (skips-then _ _ _ _ c.skip.ensures.skips c.skip_doubling.ensures.skips)

@@ -7,7 +7,7 @@ use Rattle.sky_world.proofs.state.State.work_until.Goals as goal
 use Rattle.sky_world.proofs.state.State.work_until.Goals.{in-Some+then-moment-last, in_default}
 
 pub loop-moment-preserved : goal.loop-moment-preserved
-loop-moment-preserved c =
+loop-moment-preserved g c =
     let moment_is : to_z w64 (of_z w64 c.in-Some.moment) ≡ c.in-Some.moment = to_z-of_z w64 c.in-Some.moment (omega (arith, ints, c.in-Some.ensures.time.0, c.in-Some.ensures.time.1)) in
     let reach_is : to_z w64 (of_z w64 c.skip_idle-reach.result) ≡ c.skip_idle-reach.result =
     to_z-of_z w64 c.skip_idle-reach.result (omega (arith, ints, c.skip_idle-reach.ensures.reach.0, c.skip_idle-reach.ensures.reach.1)) in record {
@@ -19,11 +19,11 @@ loop-moment-preserved c =
     }
 
 pub returns-clause-changed : goal.returns-clause-changed
-returns-clause-changed c =
+returns-clause-changed g c =
     let last_is : to_z w64 (of_z w64 c.args.last) ≡ c.args.last = to_z-of_z w64 c.args.last c.ranges.last in
-    let cur : StateView = c.loop-moment.self in
+    let cur : StateView g.row.D.Denot = c.loop-moment.self in
     let stands : c.stand_at.new.self ≡ record cur { now = c.args.last } = subst (λ t. c.stand_at.new.self ≡ record cur { now = t }) last_is c.stand_at.ensures in
-    let going : IsGoing c.args.self.now cur c.args.last = subst (λ last. IsGoing c.args.self.now cur last) last_is c.loop-moment.invariant.going in
+    let going : IsGoing g.D.Store.seen c.args.self.now cur c.args.last = subst (λ last. IsGoing g.D.Store.seen c.args.self.now cur last) last_is c.loop-moment.invariant.going in
     elim c.match-next_due.branch [
       | in-Some+then-moment-last w ↦ (let moment_is : to_z w64 (of_z w64 w.in-Some.moment) ≡ w.in-Some.moment = to_z-of_z w64 w.in-Some.moment (omega (arith, ints, w.in-Some.ensures.time.0, w.in-Some.ensures.time.1)) in
           going-late _ _ _ c.args.last w.in-Some.moment going w.in-Some.ensures.next (omega (arith, ints, w.if-moment-last.true, moment_is, last_is)) stands)

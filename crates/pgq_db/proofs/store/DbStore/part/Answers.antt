@@ -1,0 +1,27 @@
+use Rattle.sky_model.specs.StepNode.{parting}
+use Rattle.pgq_db.specs.Seen.{seen_database}
+use Rattle.sky_store.proofs.Serving.{serves-steps}
+use Rattle.pgq_db.proofs.ProviderSteps.{stays-as, parted-as}
+use Rattle.pgq_db.proofs.store.DbStore.part.Goals as goal
+
+pub returns-then-is_none-clause-serves : goal.returns-then-is_none-clause-serves
+returns-then-is_none-clause-serves c =
+    stays-as _ _ c.unregister.new.self c.provided_queue-queue.result c.args.consumer.now _ c.self.view_is c.provided_queue-queue.ensures.queue c.unregister.ensures.was c.if-is_none.ensures
+    c.unregister.ensures.none
+
+pub returns-then-is_none-clause-steps : goal.returns-then-is_none-clause-steps
+returns-then-is_none-clause-steps c =
+    serves-steps (seen_database c.args.self.now) _ (parting c.args.consumer.now)
+    (stays-as _ _ c.unregister.new.self c.provided_queue-queue.result c.args.consumer.now _ c.self.view_is c.provided_queue-queue.ensures.queue c.unregister.ensures.was c.if-is_none.ensures
+    c.unregister.ensures.none)
+
+pub returns-clause-serves : goal.returns-clause-serves
+returns-clause-serves c =
+    parted-as _ _ c.unregister.new.self c.remove_consumer.new.node c.provided_queue-queue.result c.args.consumer.now _ c.self.view_is c.provided_queue-queue.ensures.queue c.unregister.ensures.was
+    c.if-is_none.ensures c.unregister.ensures.mark c.remove_consumer.ensures
+
+pub returns-clause-steps : goal.returns-clause-steps
+returns-clause-steps c =
+    serves-steps (seen_database c.args.self.now) _ (parting c.args.consumer.now)
+    (parted-as _ _ c.unregister.new.self c.remove_consumer.new.node c.provided_queue-queue.result c.args.consumer.now _ c.self.view_is c.provided_queue-queue.ensures.queue c.unregister.ensures.was
+    c.if-is_none.ensures c.unregister.ensures.mark c.remove_consumer.ensures)
