@@ -13,8 +13,9 @@ ghost use Rattle.londiste_batches.specs.Moved.{MovesBy, MoveRefused};
 
 use crate::hand::BatchHand;
 use crate::replies::add_reply;
+use londiste_calls::WorkerFault;
 use sky_model::Reply;
-use sky_store::{ApplyFault, FetchFault, Pick, Store, WorkerFault};
+use sky_store::{ApplyFault, FetchFault, Pick, Store};
 use sky_val::Text;
 
 /// What a worker that has come to a tick does with the batch in its hand: it applies the events that it picks, or skips

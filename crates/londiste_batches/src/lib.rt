@@ -2,8 +2,8 @@
 //! applies the events that it picks, unless it has come to the batch's closing tick before, and finishes the batch.
 //!
 //! Such a worker is known by the name of its consumer, the tick to which it has come, and its pick. `BatchMoves` of the
-//! definitions says what each move is; here it is made by calls of the two databases. Nothing here says when a worker
-//! takes a batch, or what else it does.
+//! definitions says what each move is; here it is made by calls of the two databases, which are of one type, any
+//! `Store`. Nothing here says when a worker takes a batch, or what else it does.
 #![tactic(auto)]
 
 mod follow;

@@ -16,9 +16,10 @@ ghost use Rattle.londiste_copy.specs.CatchingUp.{is_following, progress_of, the_
 use crate::copying::copy_consumer;
 use crate::table::{CopiedTable, Progress, table_at};
 use londiste_batches::{BatchHand, go_through, move_table, take_next};
+use londiste_calls::WorkerFault;
 use londiste_state::{Node, TableState};
 use sky_model::Reply;
-use sky_store::{Pick, Store, WorkerFault};
+use sky_store::{Pick, Store};
 use sky_txid::Snapshot;
 use sky_val::Text;
 use std::alloc::Global;

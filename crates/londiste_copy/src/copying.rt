@@ -12,9 +12,10 @@ ghost use Rattle.londiste_copy.specs.Copying.{Begun, SameTable, last_row_key};
 use crate::hand::CopyHand;
 use crate::table::{CopiedTable, progress_of};
 use londiste_batches::add_reply;
+use londiste_calls::WorkerFault;
 use londiste_state::{Node, TableState};
 use sky_model::Reply;
-use sky_store::{JoinFault, Store, WorkerFault};
+use sky_store::{JoinFault, Store};
 use sky_val::{Key, NoMemory, Row, Schema, Text};
 use std::alloc::Global;
 

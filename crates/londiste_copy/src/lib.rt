@@ -4,7 +4,7 @@
 //! worker goes through the batches of the set's queue, until the leaf's own worker can take the table over. What is
 //! stored is in the two databases; what the worker has in hand is lost by a restart, after which a copy begins anew, and
 //! a batch comes again. `copy_move` of the definitions says what each move is; here it is made by calls of the two
-//! databases.
+//! databases, which are of one type, any `Store`.
 #![tactic(auto)]
 
 mod catching_up;

@@ -12,9 +12,10 @@ ghost use Rattle.londiste_batches.specs.Moved.{MovesBy, MoveRefused};
 
 use crate::tables::{first_in, is_handed_over, is_met, next_to_copy};
 use londiste_batches::{BatchHand, add_reply, go_through, move_table, take_next};
+use londiste_calls::WorkerFault;
 use londiste_state::{Leaf, Node, TableState};
 use sky_model::Reply;
-use sky_store::{Pick, Store, WorkerFault};
+use sky_store::{Pick, Store};
 use std::alloc::Global;
 use std::marker::Model;
 

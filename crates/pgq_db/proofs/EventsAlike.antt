@@ -39,10 +39,8 @@ use Rattle.pgq_queues.proofs.RotatedQueues.{undone-as}
 use Rattle.pgq_queues.specs.Rotated.{undone_in}
 use Rattle.pgq_tables.specs.Tables.{with_stored}
 use Rattle.pgq_db.specs.Seen.{with_node}
-use Rattle.pgq_db.specs.RowRuns.{run_turn}
+use Rattle.pgq_db.specs.RowRuns.{RowRun, statement, commit, resuming, run_turn}
 use Rattle.sky_model.specs.declared.stmt.RowStmt.TheVariants.{Commit}
-use Rattle.pgq_db.specs.declared.row_run.RowRun.{RowRun}
-use Rattle.pgq_db.specs.declared.row_run.RowRun.TheVariants as run
 use Rattle.pgq_db.proofs.Tables.{tables-kept}
 
 -- ---- events that record writes, and those that queues store
@@ -294,9 +292,9 @@ module _ (now : ℤ) (node : NodePart) where
   -- what the row part runs does the same with the queues as its gate and in the database
   pub run-told : (d : Database) (p : RowPart) (q : QueuesView) (what : RowRun) → Here d p q
       → SameTold event_rule Here d p q (run_turn (by_gate event_rule part_by_itself) (p, q) what) (run_turn (within_part database_by_itself now) d what)
-  run-told d p q (run.Statement who stmt) is = row_turn-told event_rule now Here events-alike d p q who stmt.now is
-  run-told d p q (run.Commit who plan) is = row_turn-told event_rule now Here events-alike d p q who Commit is
-  run-told d p q run.Ready is = settling-told event_rule now Here events-alike d p q is
+  run-told d p q (statement who stmt) is = row_turn-told event_rule now Here events-alike d p q who stmt is
+  run-told d p q (commit who checked) is = row_turn-told event_rule now Here events-alike d p q who Commit is
+  run-told d p q resuming is = settling-told event_rule now Here events-alike d p q is
 
   -- after a turn the row part and the queues show the database
   pub told-changed : (d : Database) (p after : RowPart) (q left : QueuesView) (gated told : Turn) → SameTold event_rule Here d p q gated told → TurnOfRows gated → d.copies ≡ node.copies
@@ -325,9 +323,9 @@ tables-behind_turn now node at p after was q left gated told tells is time table
 
 -- its turn does marks of rows, and lists no event
 pub run-rows : (p : RowPart) (q : QueuesView) (what : RowRun) → TurnOfRows (run_turn (by_gate event_rule part_by_itself) (p, q) what)
-run-rows p q (run.Statement who stmt) = row_turn-rows-by (by_gate event_rule part_by_itself) (by_gate-rows event_rule part_by_itself itself-rows) (p, q) who stmt.now
-run-rows p q (run.Commit who plan) = row_turn-rows-by (by_gate event_rule part_by_itself) (by_gate-rows event_rule part_by_itself itself-rows) (p, q) who Commit
-run-rows p q run.Ready = settling-rows-by (by_gate event_rule part_by_itself) (by_gate-rows event_rule part_by_itself itself-rows) (p, q)
+run-rows p q (statement who stmt) = row_turn-rows-by (by_gate event_rule part_by_itself) (by_gate-rows event_rule part_by_itself itself-rows) (p, q) who stmt
+run-rows p q (commit who checked) = row_turn-rows-by (by_gate event_rule part_by_itself) (by_gate-rows event_rule part_by_itself itself-rows) (p, q) who Commit
+run-rows p q resuming = settling-rows-by (by_gate event_rule part_by_itself) (by_gate-rows event_rule part_by_itself itself-rows) (p, q)
 
 -- ---- a block that is rolled back
 

@@ -6,10 +6,15 @@ use Rattle.sky_model.specs.Outcome.{Outcome, Checked, reply_of, marks_of}
 use Rattle.sky_model.specs.Stops.{Stops, Keeps}
 use Rattle.sky_model.specs.Printed.{ReplyHasMoments}
 use Rattle.sky_model.specs.State.{Database, after_marks}
-use Rattle.sky_model.specs.Settling.{turn_of}
+use Rattle.sky_model.specs.Settling.{Turn, turn_of}
 use Rattle.pgq_db.specs.Views.{DbView}
 use Rattle.pgq_db.specs.Seen.{seen_database}
-pub use Rattle.sky_store.specs.Gives.{Gives, Adds}
+pub use Rattle.sky_store.specs.Gives.{Adds}
+
+-- the answers are the turn's, and the database is then as after its marks
+pub record Gives (old new : Database) (replies : List (ℕ × Reply)) (turn : Turn) : Type 0 where
+  pub replied : replies ≡ turn.answers
+  pub changed : new ≡ after_marks old turn.marks
 
 -- a statement answers as its outcome says, with times that are printed
 abbrev pub Answers : (old new : Database) (before after : List (ℕ × Reply)) → ℕ → Outcome → Type 0

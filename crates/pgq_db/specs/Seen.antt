@@ -1,9 +1,8 @@
 -- The readings of the definitions, in what the code keeps of a database.
 use Rattle.std.specs.Prelude.{[], None}
 use Rattle.sky_model.specs.State.{RowPart, Database}
-use Rattle.sky_state.specs.Views.{no_rows}
 use Rattle.sky_state.specs.Seen.{seen}
-use Rattle.pgq_queues.specs.Seen.{Beside, seen_with, no_queues}
+use Rattle.pgq_queues.specs.Seen.{Beside, seen_with}
 use Rattle.pgq_db.specs.Views.{NodePart, DbView}
 
 -- a row part, and what is kept for sets of replicated tables
@@ -16,7 +15,3 @@ seen_database d = seen_with (with_node d.node (seen d.rows)) d.queues
 -- a database without a node
 abbrev pub no_node : NodePart
 no_node = record { own = None; copies = []; holds = [] }
-
--- a database that isn't made
-abbrev pub no_database : DbView
-no_database = record { rows = no_rows; queues = no_queues; node = no_node }

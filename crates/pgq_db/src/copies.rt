@@ -18,7 +18,6 @@ use crate::db::Db;
 use londiste_state::Node;
 use sky_model::WriteGate;
 use sky_session::RowDb;
-use sky_store::Store;
 use sky_txid::Snapshot;
 use sky_val::{Key, NoMemory, Row, Schema, Text};
 use std::alloc::Global;
@@ -29,7 +28,7 @@ impl Db {
         requires { IfSome (copy_txid number (seen_database self.old).copies) (λ txid. contains txid (seen_database self.old).part.workers ≡ true) }
         ensures { (name : List ℕ) → seen_database self.new ≡ after_marks (seen_database self.old) (given_up number name (copy_txid number (seen_database self.old).copies)) }
     {
-        if let Some(txid) = self.copy_of(number) {
+        if let Some(txid) = self.node.copies.txid_of(number) {
             self.roll_back_copy(txid);
         }
     }

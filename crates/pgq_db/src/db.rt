@@ -1,5 +1,4 @@
 ghost use Rattle.std.specs.Prelude.{◌≡◌, ◌↔◌, ◌≢◌, ◌+◌, ◌^◌, [], ◌++◌, None, Some, Ok, Err, IfOk, IfErr, IfSome, OnOk, OnErr, IsTrue, option_map, nat_le, true, false, is_ok};
-ghost use Rattle.sky_keys.specs.Waits.{is_waiting};
 ghost use Rattle.sky_model.specs.InForm.{IsRowInForm};
 ghost use Rattle.sky_model.specs.History.{queued, ticked};
 ghost use Rattle.sky_model.specs.Moment.{IsTime};
@@ -31,20 +30,21 @@ ghost use Rattle.pgq_db.specs.Configured.{refusal_for, configured_as, Configures
 
 use crate::node_part::NodePart;
 use crate::rotation::switch_before_commit;
-use crate::row_run::RowRun;
+use crate::row_run::{CheckedCommit, Ready, RunsRows, Statement};
 use pgq_queues::Queues;
 use pgq_sub::Sub;
 use pgq_tick::ConfigFault;
 use sky_model::{Refusal, Replies, RowStmt, Stop};
 use sky_session::{RowDb, RowStep};
+use sky_store::Store;
 use sky_val::{NoMemory, SessionId, Text};
 use std::alloc::{AllocError, Global};
 use std::marker::Model;
 use std::mem;
 
 /// One database: its transactions, sessions, tables and rows; its queues; and its node, if it has one, with the copies
-/// that run here and the snapshots that are held. Once memory has run out in `step`, `fail`, `daemon`, `make_root`,
-/// `apply`, `copy_begin`, `copy_rows` or `copy_end` nothing is said of it.
+/// that run here and the snapshots that are held. Once memory has run out in `step`, `fail`, `apply`, or a
+/// method of `Store` whose contract says nothing of that, nothing is said of it.
 #[derive(Drop)]
 pub struct Db {
     pub(crate) alloc: Global,
@@ -134,13 +134,6 @@ impl Db {
         self.rows.enter(who, outside)
     }
 
-    /// Whether the session waits for another one's transaction.
-    pub fn waits(&self, who: SessionId) -> bool
-        ensures { result ≡ is_waiting who (seen_database self.now).part.waiting }
-    {
-        self.rows.waits(who)
-    }
-
     /// Whether the session is in a transaction block, an aborted one too.
     pub fn in_transaction(&self, who: SessionId) -> bool
         ensures { IsTrue result ↔ (((seen_database self.now).part.session who).block ≢ outside) }
@@ -165,28 +158,6 @@ impl Db {
         Ok(replies)
     }
 
-    /// The same; the answers are added to those that were given before.
-    pub fn fail_into(
-        &mut self,
-        who: SessionId,
-        now: i64,
-        replies: &mut Replies,
-    ) -> Result<(), NoMemory>
-        requires { IsTime now }
-        ensures exact { let d = seen_database self.old in
-            OnOk result (Adds d (seen_database self.new) replies.old replies.new (with_settling (within_part database_by_itself now) d (failing d.part who))) }
-        ensures rests { OnOk result (ready (seen_database self.new).part ≡ None) }
-        ensures moments { let d = seen_database self.old in
-            OnOk result (HaveMoments (with_settling (within_part database_by_itself now) d (failing d.part who)).answers) }
-        ensures within { let d = seen_database self.old in
-            OnOk result (StaysWithin d (seen_database self.new) who (with_settling (within_part database_by_itself now) d (failing d.part who)).answers) }
-        ensures steps { let d = seen_database self.old in
-            OnOk result (DatabaseSteps d (seen_database self.new) (failed who now) (with_settling (within_part database_by_itself now) d (failing d.part who))) }
-    {
-        self.roll_back(who)?;
-        self.settle(now, replies)
-    }
-
     /// Runs a statement on rows, and those that it unblocks. Events record their writes.
     pub(crate) fn step_rows(
         &mut self,
@@ -204,7 +175,7 @@ impl Db {
     {
         match stmt {
             RowStmt::Commit => self.step_commit(now, who, replies),
-            _ => self.run_rows(now, RowRun::Statement(who, stmt), replies),
+            _ => self.run_rows(now, Statement { who, stmt }, replies),
         }
     }
 
@@ -224,11 +195,12 @@ impl Db {
         ensures rests { OnOk result (ready (seen_database self.new).part ≡ None) }
         ensures moments { OnOk result (HaveMoments (database_turn database_by_itself (seen_database self.old) now who (Row Commit)).answers) }
     {
+        // One that can't run makes no switches.
         if self.is_cut {
             return Err(AllocError);
         }
         let checked = switch_before_commit(&mut self.queues, &self.rows, now, who);
-        self.run_rows(now, RowRun::Commit(who, checked), replies)
+        self.run_rows(now, CheckedCommit { who, checked }, replies)
     }
 
     /// Runs the statements that may resume. Events record their writes.
@@ -242,17 +214,22 @@ impl Db {
         if self.rows.is_at_rest() {
             return Ok(());
         }
-        self.run_rows(now, RowRun::Ready, replies)
+        self.run_rows(now, Ready, replies)
     }
 
     /// Runs in the row part what is to be run there. Events record the writes.
     #[inline(always)]
-    fn run_rows(&mut self, now: i64, run: RowRun<'_>, replies: &mut Replies) -> Result<(), NoMemory>
+    fn run_rows<R: RunsRows>(
+        &mut self,
+        now: i64,
+        run: R,
+        replies: &mut Replies,
+    ) -> Result<(), NoMemory>
         requires time { IsTime now }
-        requires may { MayRun run (seen_database self.old).part }
-        ensures adds { OnOk result (Adds (seen_database self.old) (seen_database self.new) replies.old replies.new (run_turn (within_part database_by_itself now) (seen_database self.old) run.entry)) }
+        requires may { MayRun (R.what run) (seen_database self.old).part }
+        ensures adds { OnOk result (Adds (seen_database self.old) (seen_database self.new) replies.old replies.new (run_turn (within_part database_by_itself now) (seen_database self.old) (R.what run))) }
         ensures rests { OnOk result (ready (seen_database self.new).part ≡ None) }
-        ensures moments { OnOk result (HaveMoments (run_turn (within_part database_by_itself now) (seen_database self.old) run.entry).answers) }
+        ensures moments { OnOk result (HaveMoments (run_turn (within_part database_by_itself now) (seen_database self.old) (R.what run)).answers) }
         ensures reads { OnOk result (ReadsNone self.old.queues self.new.queues) }
     {
         if self.is_cut {

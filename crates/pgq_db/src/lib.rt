@@ -7,8 +7,8 @@
 //! each rollback, in their order, and before a `commit` they make the switches of event tables that its transaction has
 //! pending. A statement that is run elsewhere comes in by `enter`, and if it is refused there, `fail` aborts the block
 //! that its session is in.
-//! What a world and the workers of leaves need of a database is a call each of `Store`, in `store`; those by which a leaf
-//! applies a batch, `apply` and `apply_batch`, are in `apply`.
+//! What a world and the workers of leaves need of a database is a method each of `Store`, in `store`; the body of
+//! `apply_batch` is in `apply`, with `apply`, which is `Db`'s alone.
 //! Nothing here knows a session's name or a byte of a script, or finds another database: `apply_batch` is given one, and
 //! reads a batch there.
 #![tactic(auto)]
@@ -29,7 +29,4 @@ mod store;
 mod triggers;
 
 pub use db::Db;
-pub use londiste_calls::{
-    ApplyFault, CopyFault, FetchFault, JoinFault, MakeRootFault, Pick, RootFault, WorkerFault,
-};
 pub use sky_store::{NodeBatch, Store};

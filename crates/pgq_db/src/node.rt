@@ -1,5 +1,4 @@
-//! The root or leaf that a database is in a set of replicated tables, and what a database does for nodes: its own and
-//! those of other databases. A caller decides which of these calls a statement makes, and in which databases.
+//! The queue of a database's set, whose consumers are a node's, and the changes of a node, a function each.
 
 ghost use Rattle.std.specs.Prelude.{◌≡◌, ◌<◌, List, ℕ, ℤ, true, None, Some, Ok, IfErr, IfSome, OnOk, OnErr, is_some, length};
 ghost use Rattle.londiste_state.specs.declared.node.Node.TheVariants as node;

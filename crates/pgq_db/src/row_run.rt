@@ -7,41 +7,82 @@ ghost use Rattle.sky_model.specs.Rooms.{room_of};
 ghost use Rattle.sky_session.specs.Gives.{Settles};
 ghost use Rattle.sky_state.specs.Seen.{seen};
 ghost use Rattle.pgq_queues.specs.EventRule.{event_rule};
-ghost use Rattle.pgq_db.specs.RowRuns.{MayRun, run_call, run_turn};
+ghost use Rattle.pgq_db.specs.RowRuns.{RowRun, statement, commit, resuming, MayRun, run_call, run_turn};
 
 use pgq_queues::Queues;
 use sky_model::{Refusal, RowStmt};
 use sky_session::{RowDb, RowStep};
 use sky_val::{NoMemory, SessionId};
 
-/// What is run, and with it the statements that it unblocks.
-#[derive(Drop)]
-pub(crate) enum RowRun<'a> {
-    /// A statement of a session.
-    Statement(SessionId, &'a RowStmt),
-    /// A session's `commit` that was checked.
-    Commit(SessionId, Result<Option<u64>, Refusal>),
-    /// The statements that may resume, and nothing before them.
-    Ready,
+/// What is run, and with it the statements that it unblocks. Each is a type of its own, so that a statement hands on no
+/// room for a commit's refusal, which is large.
+pub(crate) trait RunsRows: Drop {
+    // Which it is.
+    ghost what: { Self → RowRun };
+
+    /// Runs it. Its answers and effects are added to those that were given before.
+    fn run(self, rows: &mut RowDb, queues: &mut Queues, step: &mut RowStep) -> Result<(), NoMemory>
+        requires { MayRun (what self) (seen rows.old) }
+        ensures { OnOk result (Settles event_rule (seen rows.old, queues.old) (seen rows.new, queues.new) step.old step.new
+            (run_call (room_of event_rule queues.old) (what self)) (run_turn (by_gate event_rule part_by_itself) (seen rows.old, queues.old) (what self))) };
 }
 
-impl RowRun<'_> {
-    /// Runs it. Its answers and effects are added to those that were given before.
+/// A statement of a session.
+#[derive(Drop)]
+pub(crate) struct Statement<'a> {
+    pub(crate) who: SessionId,
+    pub(crate) stmt: &'a RowStmt,
+}
+
+impl RunsRows for Statement<'_> {
+    ghost what = { λ s. statement s.who s.stmt.now };
+
     #[inline(always)]
-    pub(crate) fn run(
+    fn run(
         self,
         rows: &mut RowDb,
         queues: &mut Queues,
         step: &mut RowStep,
-    ) -> Result<(), NoMemory>
-        requires { MayRun self (seen rows.old) }
-        ensures { OnOk result (Settles event_rule (seen rows.old, queues.old) (seen rows.new, queues.new) step.old step.new
-            (run_call (room_of event_rule queues.old) self.entry) (run_turn (by_gate event_rule part_by_itself) (seen rows.old, queues.old) self.entry)) }
-    {
-        match self {
-            RowRun::Statement(who, stmt) => rows.step_into(who, stmt, queues, step),
-            RowRun::Commit(who, checked) => rows.commit_into(who, checked, queues, step),
-            RowRun::Ready => rows.settle_into(queues, step),
-        }
+    ) -> Result<(), NoMemory> {
+        rows.step_into(self.who, self.stmt, queues, step)
+    }
+}
+
+/// A session's `commit` that was checked.
+#[derive(Drop)]
+pub(crate) struct CheckedCommit {
+    pub(crate) who: SessionId,
+    pub(crate) checked: Result<Option<u64>, Refusal>,
+}
+
+impl RunsRows for CheckedCommit {
+    ghost what = { λ c. commit c.who c.checked };
+
+    #[inline(always)]
+    fn run(
+        self,
+        rows: &mut RowDb,
+        queues: &mut Queues,
+        step: &mut RowStep,
+    ) -> Result<(), NoMemory> {
+        rows.commit_into(self.who, self.checked, queues, step)
+    }
+}
+
+/// The statements that may resume, and nothing before them.
+#[derive(Drop)]
+pub(crate) struct Ready;
+
+impl RunsRows for Ready {
+    ghost what = { λ _. resuming };
+
+    #[inline(always)]
+    fn run(
+        self,
+        rows: &mut RowDb,
+        queues: &mut Queues,
+        step: &mut RowStep,
+    ) -> Result<(), NoMemory> {
+        rows.settle_into(queues, step)
     }
 }

@@ -46,11 +46,12 @@ impl Store for Db {
         now: i64,
         replies: &mut Replies,
     ) -> Result<(), NoMemory> {
-        Db::fail_into(self, who, now, replies)
+        self.roll_back(who)?;
+        self.settle(now, replies)
     }
 
     fn waits(&self, who: SessionId) -> bool {
-        Db::waits(self, who)
+        self.rows.waits(who)
     }
 
     fn daemon(&mut self, part: DaemonPart, now: i64) -> Result<(), NoMemory> {

@@ -1,4 +1,5 @@
-//! How a line of text is answered.
+//! How a line of text is answered. The world's databases are of any type here, so that the prover needn't know what a
+//! database keeps.
 
 ghost use Rattle.std.specs.Prelude.{◌≡◌, ℕ, [], Result, Ok, Err, IfOk, IfErr, IsUtf8, OnOk, OnErr, true};
 ghost use Rattle.sky_model.specs.declared.stmt.Stmt.{Stmt};

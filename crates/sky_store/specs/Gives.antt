@@ -4,11 +4,6 @@ use Rattle.sky_model.specs.declared.reply.Reply.{Reply}
 use Rattle.sky_model.specs.State.{Database, after_marks}
 use Rattle.sky_model.specs.Settling.{Turn}
 
--- the answers are the turn's, and the database is then as after its marks
-pub record Gives (old new : Database) (replies : List (ℕ × Reply)) (turn : Turn) : Type 0 where
-  pub replied : replies ≡ turn.answers
-  pub changed : new ≡ after_marks old turn.marks
-
 -- the turn's answers come after those that were given before, and the database is then as after its marks
 pub record Adds (old new : Database) (before after : List (ℕ × Reply)) (turn : Turn) : Type 0 where
   pub replied : after ≡ before ++ turn.answers

@@ -1,8 +1,9 @@
 //! What a world and the workers of leaves need of a database.
 //!
-//! `Store` has a call for each of it, with the contract that each database that is one keeps: its answers are those of
-//! the definitions, in what it shows (`seen`), and it is then as after the call's marks. So what is written over any
-//! `Store` is proved once, without what a database keeps. `pgq_db` has the one that the program uses.
+//! `Store` has a method for each thing that they need. Its contracts say, by what a database shows (`seen`), that the
+//! answers are those of the definitions, and that the database is then as after the call's marks. So code over any
+//! `Store` is proved once, whatever a database keeps. `pgq_db` has the one that the program uses. How many stored events
+//! a call looks at is bounded by methods of its own, and not here.
 #![tactic(auto)]
 
 mod batch;
@@ -10,6 +11,6 @@ mod store;
 
 pub use batch::NodeBatch;
 pub use londiste_calls::{
-    ApplyFault, CopyFault, FetchFault, JoinFault, MakeRootFault, Pick, RootFault, WorkerFault,
+    ApplyFault, CopyFault, FetchFault, JoinFault, MakeRootFault, Pick, RootFault,
 };
 pub use store::Store;

@@ -54,7 +54,6 @@ pub trait Store: Drop {
         ensures { seen result ≡ database_of [] };
 
     /// Runs a statement of a session, and those that it unblocks; the answers are added to those that were given before.
-    /// Once memory has run out nothing is said of the database.
     fn step_into(
         &mut self,
         who: SessionId,
@@ -81,7 +80,7 @@ pub trait Store: Drop {
 
     /// Rolls back the session's block, which stays aborted, and runs the statements that this unblocks. If it is in
     /// none, or in an aborted one, nothing is rolled back. The moment dates the events of statements that resume. The
-    /// answers are added to those that were given before. Once memory has run out nothing is said of the database.
+    /// answers are added to those that were given before.
     fn fail_into(&mut self, who: SessionId, now: i64, replies: &mut Replies) -> Result<(), NoMemory>
         requires { IsTime now }
         ensures exact { let d = seen self.old in
@@ -98,7 +97,7 @@ pub trait Store: Drop {
     fn waits(&self, who: SessionId) -> bool
         ensures { result ≡ is_waiting who (seen self.now).part.waiting };
 
-    /// Does a part of the daemon's work at a moment. Once memory has run out nothing is said of the database.
+    /// Does a part of the daemon's work at a moment.
     fn daemon(&mut self, part: DaemonPart, now: i64) -> Result<(), NoMemory>
         requires { IsTime now }
         ensures exact { OnOk result (seen self.new ≡ after_marks (seen self.old) (daemon_does database_by_itself (seen self.old) part now).marks) }
@@ -339,9 +338,9 @@ pub trait Store: Drop {
     fn copy_of(&self, table: u32) -> Option<u64>
         ensures { result ≡ copy_txid table (seen self.now).copies };
 
-    /// The same for the events of a batch of another database, of which there are none if it isn't active there. They are
-    /// read where they are stored, and nothing changes there but how many events of the batch's queue were looked at:
-    /// whether all can be applied or not, as many as for `get_batch_events`, unless memory runs out.
+    /// Applies the events of a batch of another database that are picked, in one transaction, and stores the tick; returns
+    /// how many they are. A batch that isn't active there has no events. If one of them can't be applied, the transaction
+    /// is rolled back: its id is spent, and all else is as before. The provider shows the same afterwards.
     fn apply_batch(
         &mut self,
         provider: &mut Self,

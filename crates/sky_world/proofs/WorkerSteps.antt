@@ -118,10 +118,9 @@ replayer_of d = record {
   moments = λ p r hand. moments-replayed p r (leaf_in r.node) hand;
 }
 
-module _ {D : Type 0} (seen : D → Database) where
-  -- one move of a worker of a leaf of database `d`, by database `p`
-  abbrev pub steps : {H : Type 0} → Worker H → World → (p d : ℕ) → Checked WorldOutcome
-  steps k w p d = moves w p d k.handed (k.does (w.database p) (w.database d) (k.has w))
+-- one move of a worker of a leaf of database `d`, by database `p`
+abbrev pub steps : {H : Type 0} → Worker H → World → (p d : ℕ) → Checked WorldOutcome
+steps k w p d = moves w p d k.handed (k.does (w.database p) (w.database d) (k.has w))
 
 -- ---- a move that was tried
 
@@ -183,7 +182,7 @@ module _ {D : Type 0} {seen : D → Database} where
         (whole-both (length v.sessions.names) v stores p d p_old p_new d_old d_new lent (record { ps = move.provider; ds = move.replica; provider = p_is; replica = d_is }) (subst (IsWhole seen) (sym same) whole)))
 
     pub step-done : (replies : List Reply) → MovesBy (k.does (seen p_old) (seen d_old) hand) (seen p_old) (seen p_new) (seen d_old) (seen d_new) replies hand_new
-        → DoesAll seen now new replies (steps seen k (seen_state seen now) p d)
+        → DoesAll seen now new replies (steps k (seen_state seen now) p d)
     step-done replies by = record {
       facts = move_facts (seen_state seen now) p d k.handed by.move;
       outcome = ap (moves (seen_state seen now) p d k.handed) (sym parts ∙ by.is) ∙ ap (λ rs. Ok (record { replies = rs; facts = move_facts (seen_state seen now) p d k.handed by.move })) (sym by.moved.printed);
@@ -202,12 +201,12 @@ module _ {D : Type 0} {seen : D → Database} where
 
     refused-as : (refusal : Refusal)
         → Refuses {S = Database × Database × Option H} (seen p_old, seen d_old, hand) (seen p_new, seen d_new, hand_new) refusal (k.does (seen p_old) (seen d_old) hand)
-        → (steps seen k (seen_state seen now) p d ≡ Err refusal) × Stays seen now new
+        → (steps k (seen_state seen now) p d ≡ Err refusal) × Stays seen now new
     refused-as refusal not =
         (ap (moves (seen_state seen now) p d k.handed) (sym parts ∙ not.refused), stays (ap (λ all. all.0) not.same) (ap (λ all. all.1) not.same) (ap (λ all. all.2) not.same))
 
     pub step-refused : (f : WorkerFault) → MoveRefused f (k.does (seen p_old) (seen d_old) hand) (seen p_old) (seen p_new) (seen d_old) (seen d_new) hand hand_new
-        → Stopped seen now new (stop_of f) (steps seen k (seen_state seen now) p d)
+        → Stopped seen now new (stop_of f) (steps k (seen_state seen now) p d)
     step-refused fault.TooManyConsumers not = refused-as (TooMany Consumers) not
     step-refused fault.IdsSpent not = refused-as IdsSpent not
     step-refused fault.TxidsSpent not = refused-as TxidsSpent not
@@ -237,32 +236,32 @@ module _ {D : Type 0} {seen : D → Database} where
     abbrev after : StateView D
     after = after_step v stores p d p_new d_new hands batches
 
-    pub tried-ok : IfOk given (λ a. DoesAll seen now after (items a) (steps seen k (seen_state seen now) p d))
+    pub tried-ok : IfOk given (λ a. DoesAll seen now after (items a) (steps k (seen_state seen now) p d))
     tried-ok = by given refl
       where
-        done : (a : A) (m : Result A WorkerFault) → moved ≡ m → given ≡ Ok a → stopping m ≡ Ok a → is_ok kept ≡ true → DoesAll seen now after (items a) (steps seen k (seen_state seen now) p d)
+        done : (a : A) (m : Result A WorkerFault) → moved ≡ m → given ≡ Ok a → stopping m ≡ Ok a → is_ok kept ≡ true → DoesAll seen now after (items a) (steps k (seen_state seen now) p d)
         done a (Ok b) same is e ok =
-            subst (λ x. DoesAll seen now after (items x) (steps seen k (seen_state seen now) p d)) (ap (value_or b) e)
+            subst (λ x. DoesAll seen now after (items x) (steps k (seen_state seen now) p d)) (ap (value_or b) e)
             (step-done k v now stores p d p_old p_new d_old d_new hand hand_new hands batches tried.same tried.whole tried.lent tried.was (put-then kept ok tried.put) (items b)
             (subst (λ m. IfOk m (λ x. MovesBy (k.does (seen p_old) (seen d_old) hand) (seen p_old) (seen p_new) (seen d_old) (seen d_new) (items x) hand_new)) same tried.moves))
         done a (Err f) same is e ok = absurd (cc)
 
-        by : (g : Result A Stop) → given ≡ g → IfOk g (λ a. DoesAll seen now after (items a) (steps seen k (seen_state seen now) p d))
+        by : (g : Result A Stop) → given ≡ g → IfOk g (λ a. DoesAll seen now after (items a) (steps k (seen_state seen now) p d))
         by (Err s) is = tt
         by (Ok a) is = let both = kept-given (ap run_out is) in done a moved refl is (sym both.0 ∙ is) both.1
 
-    pub tried-err : IfErr given (λ s. Stopped seen now after s (steps seen k (seen_state seen now) p d))
+    pub tried-err : IfErr given (λ s. Stopped seen now after s (steps k (seen_state seen now) p d))
     tried-err = by given refl
       where
         refused : (refusal : Refusal) (m : Result A WorkerFault) → moved ≡ m → given ≡ Err (stop.Refused refusal) → stopping m ≡ Err (stop.Refused refusal) → is_ok kept ≡ true
-            → Stopped seen now after (stop.Refused refusal) (steps seen k (seen_state seen now) p d)
+            → Stopped seen now after (stop.Refused refusal) (steps k (seen_state seen now) p d)
         refused refusal (Ok a) same is e ok = absurd (cc)
         refused refusal (Err f) same is e ok =
-            subst (λ s. Stopped seen now after s (steps seen k (seen_state seen now) p d)) (ap stop_in e)
+            subst (λ s. Stopped seen now after s (steps k (seen_state seen now) p d)) (ap stop_in e)
             (step-refused k v now stores p d p_old p_new d_old d_new hand hand_new hands batches tried.same tried.whole tried.lent tried.was (put-then kept ok tried.put) f
             (subst (λ m. IfErr m (λ x. MoveRefused x (k.does (seen p_old) (seen d_old) hand) (seen p_old) (seen p_new) (seen d_old) (seen d_new) hand hand_new)) same tried.stops))
 
-        by : (g : Result A Stop) → given ≡ g → IfErr g (λ s. Stopped seen now after s (steps seen k (seen_state seen now) p d))
+        by : (g : Result A Stop) → given ≡ g → IfErr g (λ s. Stopped seen now after s (steps k (seen_state seen now) p d))
         by (Ok a) is = tt
         by (Err stop.NoMemory) is = tt
         by (Err (stop.Refused refusal)) is = let both = kept-given (ap run_out is) in refused refusal moved refl is (sym both.0 ∙ is) both.1

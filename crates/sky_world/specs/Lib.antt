@@ -1,4 +1,5 @@
 pub mod Hands
+pub mod Databases
 pub mod Views
 pub mod Seen
 pub mod Homes
@@ -11,4 +12,3 @@ pub mod Nodes
 pub mod Outside
 pub mod Workers
 pub mod Idle
-pub mod Databases

@@ -12,7 +12,7 @@ use Rattle.sky_world.specs.Views.{StateView, WorldView}
 abbrev pub no_database : Database
 no_database = database_of []
 
--- by what each database shows
+-- the world that a state shows, by what each of its databases shows
 abbrev pub seen_state : {D : Type 0} → (D → Database) → StateView D → World
 seen_state seen w = record {
   now = w.now;

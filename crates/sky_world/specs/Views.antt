@@ -4,7 +4,7 @@ use Rattle.sky_names.specs.Named.{NamedView}
 use Rattle.sky_model.specs.Hands.{BatchHand}
 use Rattle.sky_world.specs.Hands.{HandAt}
 
--- by what the code keeps of a database
+-- of a world whose databases are kept as `D`
 pub record StateView (D : Type 0) : Type 0 where
   pub now : ℤ
   -- the database that each session has open

@@ -19,11 +19,12 @@ ghost use Rattle.sky_world.specs.Workers.{AreAlike, copies, replays, leaf_called
 use crate::databases::two_of;
 use crate::nodes::same_columns;
 use crate::state::State;
+use londiste_calls::WorkerFault;
 use londiste_copy::{CopiedTable, CopyWorker};
 use londiste_replay::ReplayWorker;
 use londiste_state::{Leaf, Node};
 use sky_model::{Limit, Refusal, Reply, Stop};
-use sky_store::{Store, WorkerFault};
+use sky_store::Store;
 use sky_val::{NoMemory, Text};
 
 impl<D: Store> State<D> {

@@ -25,7 +25,7 @@ pub enum WorldFault {
     Failed,
 }
 
-/// The sessions and databases of a script, and the clock.
+/// The sessions and databases of a script, and the clock. Its databases are all of the type `D`.
 #[derive(Drop)]
 pub struct World<D: Store> {
     alloc: Global,

@@ -1,5 +1,5 @@
 use crate::statements::statement;
-use pgq_db::Db;
+use pgq_db::{Db, Store};
 use sky_val::SessionId;
 use std::alloc::Global;
 use trials::{first_number, line, no_command, shown};

@@ -3,7 +3,8 @@ ghost use Rattle.sky_model.specs.StepNode.{set_queue};
 ghost use Rattle.pgq_db.specs.Seen.{seen_database};
 
 use anyhow::bail;
-use pgq_db::{Db, JoinFault, NodeBatch, Store};
+use londiste_calls::JoinFault;
+use pgq_db::{Db, NodeBatch, Store};
 use sky_val::{Event, Text};
 use std::alloc::Global;
 use trials::{no_command, ok, shown};

@@ -7,8 +7,9 @@ ghost use Rattle.londiste_calls.specs.Picks.{pick_of};
 ghost use Rattle.sky_store.specs.Copying.{MayCopy};
 ghost use Rattle.pgq_db.specs.Seen.{seen_database};
 
+use londiste_calls::{ApplyFault, CopyFault, Pick};
 use londiste_state::TableState;
-use pgq_db::{ApplyFault, CopyFault, Db, Pick, Store};
+use pgq_db::{Db, Store};
 use sky_model::{DbStmt, Replies};
 use sky_txid::Snapshot;
 use sky_val::{Event, NoMemory, Row, SessionId, Text};
