@@ -52,7 +52,7 @@ def read_steps(path, section, crates):
 
 
 # A crate that another calls through a trait, and the crate with the trait.
-THROUGH = {'pgq_db': 'sky_store'}
+THROUGH = {'pgq_db': 'sky_store', 'sky_session': 'sky_row_store'}
 
 
 def calls_of(crates, steps, begin):

@@ -2,6 +2,7 @@ use anyhow::bail;
 use pgq_db::Db;
 use sky_model::{Line, Replies, Reply};
 use sky_script::parse_line;
+use sky_session::RowDb;
 use sky_val::{Event, Text};
 use sky_world::World;
 use std::alloc::Global;
@@ -10,7 +11,7 @@ use std::alloc::Global;
 #[derive(Drop)]
 pub struct Post {
     alloc: Global,
-    world: World<Db>,
+    world: World<Db<RowDb>>,
 }
 
 impl Post {

@@ -28,7 +28,6 @@ use Rattle.sky_model.proofs.Cases.{by_same}
 use Rattle.sky_histories.proofs.ApplyCalls.{IsWritten, event-written}
 use Rattle.londiste_apply.specs.Applying.{as_leaf, MayWriteFor, Makes, Works}
 use Rattle.londiste_apply.specs.Writing.{is_own_last, MayWrite, Marked}
-use Rattle.londiste_apply.specs.declared.apply.Work.{Work}
 use Rattle.londiste_apply.proofs.Own.{own-with}
 
 -- ---- what marks have changed

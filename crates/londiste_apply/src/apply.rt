@@ -16,7 +16,7 @@ ghost use Rattle.londiste_apply.specs.Writing.{MayWrite, Marked};
 use londiste_calls::{Change, Pick};
 use londiste_state::{Leaf, Node};
 use pgq_tables::Recorded;
-use sky_session::RowDb;
+use sky_row_store::RowStore;
 use sky_txid::Snapshot;
 use sky_val::{Event, Key, NoMemory, Text};
 use std::alloc::Global;
@@ -54,18 +54,18 @@ pub fn store_tick(node: &mut Option<Node>, pick: &Pick, tick: u64)
 }
 
 /// A worker applies the events that a node picks, in order, up to the first that can't be applied.
-pub fn apply_picked(
+pub fn apply_picked<R: RowStore>(
     alloc: Global,
-    rows: &mut RowDb,
+    rows: &mut R,
     node: &Option<Node>,
     pick: &Pick,
     txid: u64,
     events: &[Recorded<'_>],
 ) -> Result<Work, NoMemory>
-    requires runs { contains txid (seen rows.old).workers ≡ true }
-    requires may { All (MayWriteFor (seen rows.old) txid) (picked node.now (pick_of pick.now) events.now) }
-    ensures work { IfOk result (λ work. Works work (seen rows.old) (seen rows.new) txid (picked node.now (pick_of pick.now) events.now)) }
-    ensures marked { Marked (seen rows.old) (seen rows.new) }
+    requires runs { contains txid (seen (R.state rows.old)).workers ≡ true }
+    requires may { All (MayWriteFor (seen (R.state rows.old)) txid) (picked node.now (pick_of pick.now) events.now) }
+    ensures work { IfOk result (λ work. Works work (seen (R.state rows.old)) (seen (R.state rows.new)) txid (picked node.now (pick_of pick.now) events.now)) }
+    ensures marked { Marked (seen (R.state rows.old)) (seen (R.state rows.new)) }
 {
     match as_leaf(node) {
         Some(leaf) => apply_all(alloc, rows, leaf, pick, txid, events),
@@ -85,18 +85,18 @@ fn as_leaf(node: &Option<Node>) -> Option<&Leaf>
 }
 
 /// The same for those that a leaf picks.
-fn apply_all(
+fn apply_all<R: RowStore>(
     alloc: Global,
-    rows: &mut RowDb,
+    rows: &mut R,
     leaf: &Leaf,
     pick: &Pick,
     txid: u64,
     events: &[Recorded<'_>],
 ) -> Result<Work, NoMemory>
-    requires runs { contains txid (seen rows.old).workers ≡ true }
-    requires may { All (MayWriteFor (seen rows.old) txid) (filter (picks leaf.now (pick_of pick.now)) events.now) }
-    ensures work { IfOk result (λ work. Works work (seen rows.old) (seen rows.new) txid (filter (picks leaf.now (pick_of pick.now)) events.now)) }
-    ensures marked { Marked (seen rows.old) (seen rows.new) }
+    requires runs { contains txid (seen (R.state rows.old)).workers ≡ true }
+    requires may { All (MayWriteFor (seen (R.state rows.old)) txid) (filter (picks leaf.now (pick_of pick.now)) events.now) }
+    ensures work { IfOk result (λ work. Works work (seen (R.state rows.old)) (seen (R.state rows.new)) txid (filter (picks leaf.now (pick_of pick.now)) events.now)) }
+    ensures marked { Marked (seen (R.state rows.old)) (seen (R.state rows.new)) }
 {
     // Its own writes don't change what it reads by.
     let snapshot = rows.snapshot_now()?;
@@ -116,17 +116,17 @@ fn apply_all(
 }
 
 /// A worker applies an event, if it can be applied; if not, nothing changes. The answer is whether it was.
-fn apply_event(
+fn apply_event<R: RowStore>(
     alloc: Global,
-    rows: &mut RowDb,
+    rows: &mut R,
     txid: u64,
     snapshot: &Snapshot,
     event: &Recorded<'_>,
 ) -> Result<bool, NoMemory>
-    requires may { MayWriteFor (seen rows.old) txid event.now }
-    requires present { snapshot.now ≡ snapshot_now (seen rows.old) }
-    ensures made { IfOk result (λ made. Makes made (seen rows.old) (seen rows.new) (applies_event (seen rows.old) txid event.now)) }
-    ensures err { OnErr result (seen rows.new ≡ seen rows.old) }
+    requires may { MayWriteFor (seen (R.state rows.old)) txid event.now }
+    requires present { snapshot.now ≡ snapshot_now (seen (R.state rows.old)) }
+    ensures made { IfOk result (λ made. Makes made (seen (R.state rows.old)) (seen (R.state rows.new)) (applies_event (seen (R.state rows.old)) txid event.now)) }
+    ensures err { OnErr result (seen (R.state rows.new) ≡ seen (R.state rows.old)) }
 {
     match event.ev_extra1 {
         Some(name) => apply_to(alloc, rows, txid, snapshot, name, event),
@@ -135,19 +135,19 @@ fn apply_event(
 }
 
 /// The same for an event of the table of a name.
-fn apply_to(
+fn apply_to<R: RowStore>(
     alloc: Global,
-    rows: &mut RowDb,
+    rows: &mut R,
     txid: u64,
     snapshot: &Snapshot,
     name: &Text,
     event: &Recorded<'_>,
 ) -> Result<bool, NoMemory>
     requires named { event.now.ev_extra1 ≡ Some name.now }
-    requires may { MayWriteFor (seen rows.old) txid event.now }
-    requires present { snapshot.now ≡ snapshot_now (seen rows.old) }
-    ensures made { IfOk result (λ made. Makes made (seen rows.old) (seen rows.new) (applies_event (seen rows.old) txid event.now)) }
-    ensures err { OnErr result (seen rows.new ≡ seen rows.old) }
+    requires may { MayWriteFor (seen (R.state rows.old)) txid event.now }
+    requires present { snapshot.now ≡ snapshot_now (seen (R.state rows.old)) }
+    ensures made { IfOk result (λ made. Makes made (seen (R.state rows.old)) (seen (R.state rows.new)) (applies_event (seen (R.state rows.old)) txid event.now)) }
+    ensures err { OnErr result (seen (R.state rows.new) ≡ seen (R.state rows.old)) }
 {
     let Some((table, schema)) = rows.table(name) else {
         return Ok(false);
@@ -164,19 +164,19 @@ fn apply_to(
 
 /// A worker makes a change of the row of a key, if it may be made; if not, nothing changes. The answer is whether it
 /// was.
-fn make_change(
-    rows: &mut RowDb,
+fn make_change<R: RowStore>(
+    rows: &mut R,
     txid: u64,
     snapshot: &Snapshot,
     table: u32,
     key: Key,
     change: Change,
 ) -> Result<bool, NoMemory>
-    requires may { MayWrite (seen rows.old) table txid }
-    requires present { snapshot.now ≡ snapshot_now (seen rows.old) }
-    requires key { key ≡ key_of ((seen rows.old).columns table) change.row }
-    ensures made { IfOk result (λ made. Makes made (seen rows.old) (seen rows.new) (changes_row (seen rows.old) table txid (Some change))) }
-    ensures err { OnErr result (seen rows.new ≡ seen rows.old) }
+    requires may { MayWrite (seen (R.state rows.old)) table txid }
+    requires present { snapshot.now ≡ snapshot_now (seen (R.state rows.old)) }
+    requires key { key ≡ key_of ((seen (R.state rows.old)).columns table) change.row }
+    ensures made { IfOk result (λ made. Makes made (seen (R.state rows.old)) (seen (R.state rows.new)) (changes_row (seen (R.state rows.old)) table txid (Some change))) }
+    ensures err { OnErr result (seen (R.state rows.new) ≡ seen (R.state rows.old)) }
 {
     let needs_row = change.needs_row();
     rows.worker_write_if(txid, snapshot, table, key, change.row_left(), needs_row)

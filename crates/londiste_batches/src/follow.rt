@@ -133,6 +133,6 @@ fn finish_active<D: Store>(provider: &mut D, id: u64)
     ensures { Serves (D.seen provider.old) (D.seen provider.new) (finishing id) }
 {
     if provider.has_batch(id) {
-        provider.finish_node(id);
+        provider.finish(id);
     }
 }

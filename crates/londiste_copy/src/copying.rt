@@ -94,10 +94,10 @@ fn begin<D: Store>(
         (D.seen provider.old) (D.seen provider.new) (D.seen replica.old) (D.seen replica.new) None None) }
 {
     let consumer = copy_consumer(alloc, replica.node())?;
-    if provider.full(&consumer) {
+    if provider.is_full(&consumer) {
         return Err(WorkerFault::TooManyConsumers);
     }
-    if provider.spent() {
+    if provider.sub_ids_spent() {
         return Err(WorkerFault::IdsSpent);
     }
     replica.copy_begin(table.to)?;

@@ -24,7 +24,7 @@ use Rattle.sky_histories.proofs.DatabaseStanding.{after_marks-append, behind-all
 use Rattle.sky_histories.proofs.StatementMarks.{SwitchesNone, none-first}
 use Rattle.sky_model.specs.declared.reply.Reply.{Reply}
 use Rattle.pgq_db.specs.Gives.{Adds}
-use Rattle.sky_session.specs.Committing.{commits_of, committed_in}
+use Rattle.sky_row_store.specs.Committing.{commits_of, committed_in}
 use Rattle.pgq_db.specs.Switches.{switches_before_commit}
 
 -- ---- they change queues alone

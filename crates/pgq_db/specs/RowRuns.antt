@@ -10,7 +10,7 @@ use Rattle.sky_model.specs.Rooms.{Room}
 use Rattle.sky_model.specs.RowCalls.{RowCall, row_stepped, row_settled}
 use Rattle.sky_model.specs.Settling.{Turn, settling}
 use Rattle.sky_model.specs.State.{RowPart}
-use Rattle.sky_session.specs.Committing.{commits_of}
+use Rattle.sky_row_store.specs.Committing.{commits_of}
 
 -- a statement of a session; a session's `commit`, and what it was checked to make permanent, or why not; or the statements that may resume
 pub data RowRun : Type 0 where

@@ -27,9 +27,10 @@ use londiste_apply::{apply_picked, recorded, store_tick};
 use londiste_calls::{ApplyFault, Pick};
 use pgq_tables::Recorded;
 use sky_model::WriteGate;
+use sky_row_store::RowStore;
 use sky_val::{Event, NoMemory};
 
-impl Db {
+impl<R: RowStore> Db<R> {
     /// Applies the events of a batch that are picked, in one transaction, and stores the tick; returns how many they
     /// are. If one of them can't be applied, the transaction is rolled back: its id is spent, and all else is as before.
     pub fn apply(&mut self, events: &[Event], pick: &Pick, tick: u64) -> Result<u64, ApplyFault>
@@ -49,7 +50,7 @@ impl Db {
     /// whether all can be applied or not, as many as for `get_batch_events`, unless memory runs out.
     pub fn apply_batch(
         &mut self,
-        provider: &mut Db,
+        provider: &mut Db<R>,
         batch: u64,
         pick: &Pick,
         tick: u64,

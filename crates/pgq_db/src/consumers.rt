@@ -19,10 +19,11 @@ use pgq_sub::Sub;
 use sky_model::{
     BoxedBatchInfo, ConsumerInfo, ConsumerPosition, Events, Limit, Refusal, Replies, Reply, Stop,
 };
+use sky_row_store::RowStore;
 use sky_val::{SessionId, Text};
 use std::alloc::Global;
 
-impl Db {
+impl<R: RowStore> Db<R> {
     /// `register_consumer NAME CONSUMER`: a subscription at the newest tick.
     pub(crate) fn register_consumer(
         &mut self,

@@ -17,12 +17,12 @@ ghost use Rattle.pgq_db.specs.Seen.{seen_database};
 use crate::db::Db;
 use londiste_state::Node;
 use sky_model::WriteGate;
-use sky_session::RowDb;
+use sky_row_store::RowStore;
 use sky_txid::Snapshot;
 use sky_val::{Key, NoMemory, Row, Schema, Text};
 use std::alloc::Global;
 
-impl Db {
+impl<R: RowStore> Db<R> {
     /// The copy of the table of a number is given up, if one runs.
     pub(crate) fn give_up_copy(&mut self, number: u32)
         requires { IfSome (copy_txid number (seen_database self.old).copies) (λ txid. contains txid (seen_database self.old).part.workers ≡ true) }
@@ -54,40 +54,40 @@ impl Db {
 }
 
 /// A write of a copy's transaction: a row at a key, or the key's deletion.
-fn write(
-    rows: &mut RowDb,
+fn write<R: RowStore>(
+    rows: &mut R,
     txid: u64,
     table: u32,
     key: Key,
     row: Option<Row>,
 ) -> Result<(), NoMemory>
-    requires { MayWrite (seen rows.old) table txid }
-    ensures mark { OnOk result (seen rows.new ≡ after_part (seen rows.old) (copy_write (seen rows.old) table txid (record { key = key; row = row }))) }
-    ensures may { MayWrite (seen rows.new) table txid }
-    ensures agree { (queues : QueuesView) → Agree (seen rows.old) queues → Agree (seen rows.new) queues }
+    requires { MayWrite (seen (R.state rows.old)) table txid }
+    ensures mark { OnOk result (seen (R.state rows.new) ≡ after_part (seen (R.state rows.old)) (copy_write (seen (R.state rows.old)) table txid (record { key = key; row = row }))) }
+    ensures may { MayWrite (seen (R.state rows.new)) table txid }
+    ensures agree { (queues : QueuesView) → Agree (seen (R.state rows.old)) queues → Agree (seen (R.state rows.new)) queues }
 {
     rows.worker_write(txid, table, key, row)
 }
 
 /// The keys of the rows that a table has at present.
-pub(crate) fn keys_now(rows: &RowDb, table: u32) -> Result<Vec<Key>, NoMemory>
-    requires { table < length (seen rows.now).tables }
-    ensures { IfOk result (λ keys. keys.items ≡ map (λ e. e.0) (rows_now (seen rows.now) table)) }
+pub(crate) fn keys_now<R: RowStore>(rows: &R, table: u32) -> Result<Vec<Key>, NoMemory>
+    requires { table < length (seen (R.state rows.now)).tables }
+    ensures { IfOk result (λ keys. keys.items ≡ map (λ e. e.0) (rows_now (seen (R.state rows.now)) table)) }
 {
     let snapshot = rows.snapshot_now()?;
     rows.keys_under(&snapshot, table)
 }
 
 /// A copy's transaction deletes keys.
-pub(crate) fn delete_all(
-    rows: &mut RowDb,
+pub(crate) fn delete_all<R: RowStore>(
+    rows: &mut R,
     txid: u64,
     table: u32,
     keys: Vec<Key>,
 ) -> Result<(), NoMemory>
-    requires { MayWrite (seen rows.old) table txid }
-    ensures marks { OnOk result (seen rows.new ≡ after_part_marks (seen rows.old) (copy_writes (seen rows.old) table txid (map deletion keys.items))) }
-    ensures agree { (queues : QueuesView) → Agree (seen rows.old) queues → Agree (seen rows.new) queues }
+    requires { MayWrite (seen (R.state rows.old)) table txid }
+    ensures marks { OnOk result (seen (R.state rows.new) ≡ after_part_marks (seen (R.state rows.old)) (copy_writes (seen (R.state rows.old)) table txid (map deletion keys.items))) }
+    ensures agree { (queues : QueuesView) → Agree (seen (R.state rows.old)) queues → Agree (seen (R.state rows.new)) queues }
 {
     for key in keys {
         write(rows, txid, table, key, None)?;
@@ -96,15 +96,15 @@ pub(crate) fn delete_all(
 }
 
 /// A copy's transaction writes rows under keys.
-pub(crate) fn write_all(
-    rows: &mut RowDb,
+pub(crate) fn write_all<R: RowStore>(
+    rows: &mut R,
     txid: u64,
     table: u32,
     keyed: Vec<(Key, Row)>,
 ) -> Result<(), NoMemory>
-    requires { MayWrite (seen rows.old) table txid }
-    ensures marks { OnOk result (seen rows.new ≡ after_part_marks (seen rows.old) (copy_writes (seen rows.old) table txid (map insertion keyed.items))) }
-    ensures agree { (queues : QueuesView) → Agree (seen rows.old) queues → Agree (seen rows.new) queues }
+    requires { MayWrite (seen (R.state rows.old)) table txid }
+    ensures marks { OnOk result (seen (R.state rows.new) ≡ after_part_marks (seen (R.state rows.old)) (copy_writes (seen (R.state rows.old)) table txid (map insertion keyed.items))) }
+    ensures agree { (queues : QueuesView) → Agree (seen (R.state rows.old)) queues → Agree (seen (R.state rows.new)) queues }
 {
     for (key, row) in keyed {
         write(rows, txid, table, key, Some(row))?;

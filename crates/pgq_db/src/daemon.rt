@@ -18,10 +18,11 @@ ghost use Rattle.sky_store.specs.Idle.{all_idle, idles_at};
 use crate::db::Db;
 use pgq_queues::MOST_BACK;
 use sky_model::Stop;
+use sky_row_store::RowStore;
 use sky_val::NoMemory;
 use std::alloc::AllocError;
 
-impl Db {
+impl<R: RowStore> Db<R> {
     /// Whether nothing is to be done at a moment.
     pub(crate) fn idles_at(&self, moment: i64) -> bool
         requires { IsTime moment }

@@ -35,7 +35,7 @@ use pgq_queues::Queues;
 use pgq_sub::Sub;
 use pgq_tick::ConfigFault;
 use sky_model::{Refusal, Replies, RowStmt, Stop};
-use sky_session::{RowDb, RowStep};
+use sky_row_store::{RowStep, RowStore};
 use sky_store::Store;
 use sky_val::{NoMemory, SessionId, Text};
 use std::alloc::{AllocError, Global};
@@ -46,9 +46,9 @@ use std::mem;
 /// that run here and the snapshots that are held. Once memory has run out in `step`, `fail`, `apply`, or a
 /// method of `Store` whose contract says nothing of that, nothing is said of it.
 #[derive(Drop)]
-pub struct Db {
+pub struct Db<R: RowStore> {
     pub(crate) alloc: Global,
-    pub(crate) rows: RowDb,
+    pub(crate) rows: R,
     pub(crate) queues: Queues,
     pub(crate) node: NodePart,
     // What the row part does in one call.
@@ -59,7 +59,7 @@ pub struct Db {
     pub(crate) is_cut: bool,
 }
 
-impl Model for Db {
+impl<R: RowStore> Model for Db<R> {
     ghost use Rattle.std.specs.Prelude.{◌≡◌, false};
     ghost use Rattle.sky_state.specs.Seen.{seen};
     ghost use Rattle.pgq_db.specs.Views.{DbView};
@@ -67,19 +67,19 @@ impl Model for Db {
 
     ghost Value = { DbView };
 
-    ghost view = { λ d. record { rows = d.rows; queues = d.queues; node = d.node } };
+    ghost view = { λ d. record { rows = R.state d.rows; queues = d.queues; node = d.node } };
 
-    ghost invariant = { λ d. d.is_cut ≡ false → Agree (seen d.rows) d.queues };
+    ghost invariant = { λ d. d.is_cut ≡ false → Agree (seen (R.state d.rows)) d.queues };
 }
 
-impl Db {
+impl<R: RowStore> Db<R> {
     /// A database in which nothing has happened.
-    pub fn new(alloc: Global) -> Db
+    pub fn new(alloc: Global) -> Db<R>
         ensures { seen_database result ≡ database_of [] }
     {
         Db {
             alloc,
-            rows: RowDb::new(alloc),
+            rows: R::new(alloc),
             queues: Queues::new(alloc),
             node: NodePart::new(alloc),
             step: RowStep::ends(alloc),
@@ -219,17 +219,17 @@ impl Db {
 
     /// Runs in the row part what is to be run there. Events record the writes.
     #[inline(always)]
-    fn run_rows<R: RunsRows>(
+    fn run_rows<W: RunsRows>(
         &mut self,
         now: i64,
-        run: R,
+        run: W,
         replies: &mut Replies,
     ) -> Result<(), NoMemory>
         requires time { IsTime now }
-        requires may { MayRun (R.what run) (seen_database self.old).part }
-        ensures adds { OnOk result (Adds (seen_database self.old) (seen_database self.new) replies.old replies.new (run_turn (within_part database_by_itself now) (seen_database self.old) (R.what run))) }
+        requires may { MayRun (W.what run) (seen_database self.old).part }
+        ensures adds { OnOk result (Adds (seen_database self.old) (seen_database self.new) replies.old replies.new (run_turn (within_part database_by_itself now) (seen_database self.old) (W.what run))) }
         ensures rests { OnOk result (ready (seen_database self.new).part ≡ None) }
-        ensures moments { OnOk result (HaveMoments (run_turn (within_part database_by_itself now) (seen_database self.old) (R.what run)).answers) }
+        ensures moments { OnOk result (HaveMoments (run_turn (within_part database_by_itself now) (seen_database self.old) (W.what run)).answers) }
         ensures reads { OnOk result (ReadsNone self.old.queues self.new.queues) }
     {
         if self.is_cut {

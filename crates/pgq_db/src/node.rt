@@ -17,11 +17,12 @@ use londiste_calls::MakeRootFault;
 use londiste_state::{Leaf, Node, Root, TableState};
 use pgq_queues::{Queues, TableTrigger};
 use sky_model::Limit;
+use sky_row_store::RowStore;
 use sky_urlenc::Trigger;
 use sky_val::{NoMemory, Text};
 use std::alloc::Global;
 
-impl Db {
+impl<R: RowStore> Db<R> {
     /// The queue of the set of which the node is the root.
     pub(crate) fn set_queue(&self) -> Option<usize>
         ensures queue { result ≡ set_queue (seen_database self.now) }

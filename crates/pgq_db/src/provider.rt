@@ -10,9 +10,10 @@ ghost use Rattle.pgq_db.specs.Looks.{LooksFor, LooksFrom, LooksAtNoOther};
 ghost use Rattle.pgq_db.specs.Seen.{seen_database};
 
 use crate::db::Db;
+use sky_row_store::RowStore;
 use sky_val::{Event, NoMemory};
 
-impl Db {
+impl<R: RowStore> Db<R> {
     /// The events of an active batch. Nothing changes but how many events of the batch's queue were looked at.
     pub fn batch_events(&mut self, batch: u64) -> Result<Vec<Event>, NoMemory>
         requires provider { is_some (set_queue (seen_database self.old)) ≡ true }

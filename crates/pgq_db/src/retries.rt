@@ -19,14 +19,14 @@ ghost use Rattle.pgq_db.specs.Looks.{LooksUnlessCut};
 use crate::db::Db;
 use pgq_retry::Retry;
 use sky_model::{Refusal, Replies, Reply, RetriedEvent, Stop};
-use sky_session::RowDb;
+use sky_row_store::RowStore;
 use sky_trans::TransFault;
 use sky_val::{Event, SessionId};
 
 /// A second, in the unit of time.
 const SECOND: u64 = 1_000_000;
 
-impl Db {
+impl<R: RowStore> Db<R> {
     /// `event_retry N N N`: the subscription of an active batch asks for one of its events, so many seconds from now.
     pub(crate) fn event_retry(
         &mut self,
@@ -109,11 +109,11 @@ fn retried(sub: u64, mut event: Event) -> Event
 }
 
 /// A transaction of a worker, which commits at once, or a refusal if no id is left for it.
-pub(crate) fn work_alone(rows: &mut RowDb) -> Result<u64, Stop>
-    ensures id { IfOk result (λ txid. next_id (seen rows.old) ≡ Ok txid) }
-    ensures marks { IfOk result (λ txid. seen rows.new ≡ after_part_marks (seen rows.old) (began of_worker txid ∷ ended of_worker txid true ∷ [])) }
-    ensures stops { IfErr result (λ stop. Stops stop (seen rows.old) (seen rows.new) (next_id (seen rows.old))) }
-    ensures err { OnErr result (seen rows.new ≡ seen rows.old) }
+pub(crate) fn work_alone<R: RowStore>(rows: &mut R) -> Result<u64, Stop>
+    ensures id { IfOk result (λ txid. next_id (seen (R.state rows.old)) ≡ Ok txid) }
+    ensures marks { IfOk result (λ txid. seen (R.state rows.new) ≡ after_part_marks (seen (R.state rows.old)) (began of_worker txid ∷ ended of_worker txid true ∷ [])) }
+    ensures stops { IfErr result (λ stop. Stops stop (seen (R.state rows.old)) (seen (R.state rows.new)) (next_id (seen (R.state rows.old)))) }
+    ensures err { OnErr result (seen (R.state rows.new) ≡ seen (R.state rows.old)) }
 {
     match rows.begin_worker() {
         Ok(txid) => {

@@ -10,7 +10,7 @@ ghost use Rattle.sky_model.specs.State.{after_marks};
 ghost use Rattle.sky_model.specs.StepRotation.{switch_of, maint_rotate_step1, rotates_by_itself, maint_rotate_step2};
 ghost use Rattle.sky_model.specs.Stops.{Stops};
 ghost use Rattle.sky_model.specs.declared.reply.Reply.TheVariants.{Number};
-ghost use Rattle.sky_session.specs.Committing.{commits_of, committed_in};
+ghost use Rattle.sky_row_store.specs.Committing.{commits_of, committed_in};
 ghost use Rattle.sky_state.specs.Seen.{seen};
 ghost use Rattle.pgq_queues.specs.Batches.{StillStand};
 ghost use Rattle.pgq_queues.specs.Seen.{Beside, seen_with, queue_at, Stands};
@@ -23,10 +23,10 @@ use crate::db::Db;
 use crate::retries::work_alone;
 use pgq_queues::Queues;
 use sky_model::{Refusal, Replies, Reply, Stop};
-use sky_session::RowDb;
+use sky_row_store::RowStore;
 use sky_val::{SessionId, Text};
 
-impl Db {
+impl<R: RowStore> Db<R> {
     /// `maint_rotate_step1 NAME`: the session's transaction switches the event tables of a queue, unless something
     /// holds that back. Outside a block the switch is made at once, and in one by its `commit`.
     pub(crate) fn maint_rotate_step1(
@@ -117,16 +117,16 @@ fn switch(queues: &mut Queues, queue: usize, txid: u64, is_alone: bool, now: i64
 
 /// Makes the switches of event tables that the session's transaction has pending, if a `commit` would make that
 /// permanent. Returns which transaction that is, if there is one, or why the `commit` would be refused.
-pub(crate) fn switch_before_commit(
+pub(crate) fn switch_before_commit<R: RowStore>(
     queues: &mut Queues,
-    rows: &RowDb,
+    rows: &R,
     now: i64,
     who: SessionId,
 ) -> Result<Option<u64>, Refusal>
     requires { IsTime now }
-    ensures checked { result ≡ commits_of (seen rows.now) who }
-    ensures marks { (node : NodePart) → seen_with (with_node node (seen rows.now)) queues.new
-        ≡ after_marks (seen_with (with_node node (seen rows.now)) queues.old) (switches_before_commit (seen_with (with_node node (seen rows.now)) queues.old) now who) }
+    ensures checked { result ≡ commits_of (seen (R.state rows.now)) who }
+    ensures marks { (node : NodePart) → seen_with (with_node node (seen (R.state rows.now))) queues.new
+        ≡ after_marks (seen_with (with_node node (seen (R.state rows.now))) queues.old) (switches_before_commit (seen_with (with_node node (seen (R.state rows.now))) queues.old) now who) }
     ensures rest { KeepsRest queues.old queues.new }
 {
     let checked = rows.check_commit(who);

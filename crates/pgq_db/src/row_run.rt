@@ -4,14 +4,14 @@ ghost use Rattle.std.specs.Prelude.{OnOk};
 ghost use Rattle.sky_model.specs.Gates.{by_gate};
 ghost use Rattle.sky_model.specs.Reader.{part_by_itself};
 ghost use Rattle.sky_model.specs.Rooms.{room_of};
-ghost use Rattle.sky_session.specs.Gives.{Settles};
+ghost use Rattle.sky_row_store.specs.Gives.{Settles};
 ghost use Rattle.sky_state.specs.Seen.{seen};
 ghost use Rattle.pgq_queues.specs.EventRule.{event_rule};
 ghost use Rattle.pgq_db.specs.RowRuns.{RowRun, statement, commit, resuming, MayRun, run_call, run_turn};
 
 use pgq_queues::Queues;
 use sky_model::{Refusal, RowStmt};
-use sky_session::{RowDb, RowStep};
+use sky_row_store::{RowStep, RowStore};
 use sky_val::{NoMemory, SessionId};
 
 /// What is run, and with it the statements that it unblocks. Each is a type of its own, so that a statement hands on no
@@ -21,10 +21,15 @@ pub(crate) trait RunsRows: Drop {
     ghost what: { Self → RowRun };
 
     /// Runs it. Its answers and effects are added to those that were given before.
-    fn run(self, rows: &mut RowDb, queues: &mut Queues, step: &mut RowStep) -> Result<(), NoMemory>
-        requires { MayRun (what self) (seen rows.old) }
-        ensures { OnOk result (Settles event_rule (seen rows.old, queues.old) (seen rows.new, queues.new) step.old step.new
-            (run_call (room_of event_rule queues.old) (what self)) (run_turn (by_gate event_rule part_by_itself) (seen rows.old, queues.old) (what self))) };
+    fn run<R: RowStore>(
+        self,
+        rows: &mut R,
+        queues: &mut Queues,
+        step: &mut RowStep,
+    ) -> Result<(), NoMemory>
+        requires { MayRun (what self) (seen (R.state rows.old)) }
+        ensures { OnOk result (Settles event_rule (seen (R.state rows.old), queues.old) (seen (R.state rows.new), queues.new) step.old step.new
+            (run_call (room_of event_rule queues.old) (what self)) (run_turn (by_gate event_rule part_by_itself) (seen (R.state rows.old), queues.old) (what self))) };
 }
 
 /// A statement of a session.
@@ -38,9 +43,9 @@ impl RunsRows for Statement<'_> {
     ghost what = { λ s. statement s.who s.stmt.now };
 
     #[inline(always)]
-    fn run(
+    fn run<R: RowStore>(
         self,
-        rows: &mut RowDb,
+        rows: &mut R,
         queues: &mut Queues,
         step: &mut RowStep,
     ) -> Result<(), NoMemory> {
@@ -59,9 +64,9 @@ impl RunsRows for CheckedCommit {
     ghost what = { λ c. commit c.who c.checked };
 
     #[inline(always)]
-    fn run(
+    fn run<R: RowStore>(
         self,
-        rows: &mut RowDb,
+        rows: &mut R,
         queues: &mut Queues,
         step: &mut RowStep,
     ) -> Result<(), NoMemory> {
@@ -77,9 +82,9 @@ impl RunsRows for Ready {
     ghost what = { λ _. resuming };
 
     #[inline(always)]
-    fn run(
+    fn run<R: RowStore>(
         self,
-        rows: &mut RowDb,
+        rows: &mut R,
         queues: &mut Queues,
         step: &mut RowStep,
     ) -> Result<(), NoMemory> {

@@ -38,10 +38,11 @@ use sky_model::{
     BoxedExtra, DbStmt, Extra, InsertedEvent, Limit, QueueSetting, QueueStmt, Refusal, Replies,
     Reply, Stop,
 };
+use sky_row_store::RowStore;
 use sky_val::{Event, NoMemory, SessionId, Text, copy_option};
 use std::alloc::{AllocError, Global};
 
-impl Db {
+impl<R: RowStore> Db<R> {
     /// Runs a statement of a session, and those that it unblocks. For `get_batch_events` and `event_retry` no more stored
     /// events are looked at than the batch's ticks allow, and for `get_batch_events` no fewer than are listed. Once memory
     /// has run out nothing is said of the database.

@@ -12,17 +12,18 @@ use londiste_calls::{
 };
 use londiste_state::{Node, TableState};
 use sky_model::{DaemonPart, DbStmt, Limit, Refusal, Replies};
+use sky_row_store::RowStore;
 use sky_store::{NodeBatch, Store};
 use sky_txid::Snapshot;
 use sky_val::{Key, NoMemory, Row, Schema, SessionId, Text};
 use std::alloc::Global;
 
-impl Store for Db {
+impl<R: RowStore> Store for Db<R> {
     ghost use Rattle.pgq_db.specs.Seen.{seen_database};
 
     ghost seen = { seen_database };
 
-    fn new(alloc: Global) -> Db {
+    fn new(alloc: Global) -> Db<R> {
         Db::new(alloc)
     }
 
@@ -174,7 +175,7 @@ impl Store for Db {
         Ok(newest)
     }
 
-    fn full(&self, consumer: &Text) -> bool {
+    fn is_full(&self, consumer: &Text) -> bool {
         let queue = self.queues.queue(self.provided_queue());
         queue.consumer_count() >= Limit::Consumers.most() && !queue.has_consumer(consumer)
     }
@@ -188,7 +189,7 @@ impl Store for Db {
         self.queues.batch(id).is_some()
     }
 
-    fn spent(&self) -> bool {
+    fn sub_ids_spent(&self) -> bool {
         self.queues.last_sub() == u64::MAX
     }
 
@@ -228,7 +229,7 @@ impl Store for Db {
         }))
     }
 
-    fn finish_node(&mut self, batch: u64) {
+    fn finish(&mut self, batch: u64) {
         self.queues.close_batch(batch);
     }
 
@@ -310,7 +311,7 @@ impl Store for Db {
 
     fn apply_batch(
         &mut self,
-        provider: &mut Db,
+        provider: &mut Db<R>,
         batch: u64,
         pick: &Pick,
         tick: u64,

@@ -23,12 +23,12 @@ use crate::statements::queue_called;
 use londiste_state::Node;
 use pgq_queues::{Queues, TableTrigger};
 use sky_model::{AddedTrigger, Limit, Refusal, Replies, Reply, Stop};
-use sky_session::RowDb;
+use sky_row_store::RowStore;
 use sky_urlenc::Trigger;
 use sky_val::{NoMemory, Schema, SessionId, Text};
 use std::alloc::Global;
 
-impl Db {
+impl<R: RowStore> Db<R> {
     /// `add_trigger NAME TABLE NAME`: from now on events of the queue record the table's writes.
     pub(crate) fn add_trigger(
         &mut self,
@@ -52,19 +52,19 @@ impl Db {
 }
 
 /// The trigger that `add_trigger` makes, and the columns of its table, or why it is refused.
-fn new_trigger<'a>(
+fn new_trigger<'a, R: RowStore>(
     alloc: Global,
-    rows: &'a RowDb,
+    rows: &'a R,
     queues: &Queues,
     node: &NodePart,
     asked: &AddedTrigger,
 ) -> Result<(TableTrigger, &'a Schema), Stop>
-    ensures adds { let d = seen_database (record { rows = rows.now; queues = queues.now; node = node.now }) in
+    ensures adds { let d = seen_database (record { rows = R.state rows.now; queues = queues.now; node = node.now }) in
         IfOk result (λ made. add_trigger d asked.now
         ≡ does_marks Done (queued (traced made.0.table made.0.name made.0.trigger) ∷ [])) }
-    ensures table { IfOk result (λ made. IsTable (seen rows.now) made.0.table asked.now.table made.1.now) }
+    ensures table { IfOk result (λ made. IsTable (seen (R.state rows.now)) made.0.table asked.now.table made.1.now) }
     ensures stands { IfOk result (λ made. Stands queues.now.queues made.0.trigger.queue) }
-    ensures err { let d = seen_database (record { rows = rows.now; queues = queues.now; node = node.now }) in
+    ensures err { let d = seen_database (record { rows = R.state rows.now; queues = queues.now; node = node.now }) in
         IfErr result (λ stop. StopsAs stop (add_trigger d asked.now)) }
 {
     let (number, schema) = table_called(alloc, rows, &asked.table)?;
@@ -75,10 +75,14 @@ fn new_trigger<'a>(
 }
 
 /// The number of the table of this name, and its columns.
-fn table_called<'a>(alloc: Global, rows: &'a RowDb, table: &Text) -> Result<(u32, &'a Schema), Stop>
-    ensures number { IfOk result (λ found. place_of table.now (seen rows.now).tables ≡ Some found.0) }
-    ensures columns { IfOk result (λ found. found.1.now ≡ (seen rows.now).columns found.0) }
-    ensures err { IfErr result (λ stop. StopsAs stop (table_called table.now (seen rows.now))) }
+fn table_called<'a, R: RowStore>(
+    alloc: Global,
+    rows: &'a R,
+    table: &Text,
+) -> Result<(u32, &'a Schema), Stop>
+    ensures number { IfOk result (λ found. place_of table.now (seen (R.state rows.now)).tables ≡ Some found.0) }
+    ensures columns { IfOk result (λ found. found.1.now ≡ (seen (R.state rows.now)).columns found.0) }
+    ensures err { IfErr result (λ stop. StopsAs stop (table_called table.now (seen (R.state rows.now)))) }
 {
     match rows.table(table) {
         Some(found) => Ok(found),
@@ -105,17 +109,17 @@ fn queue_of_no_set(
 }
 
 /// Refuses the trigger if the table may not have it.
-fn check_trigger(
+fn check_trigger<R: RowStore>(
     alloc: Global,
-    rows: &RowDb,
+    rows: &R,
     queues: &Queues,
     table: u32,
     schema: &Schema,
     asked: &AddedTrigger,
 ) -> Result<(), Stop>
-    requires { schema.now ≡ (seen rows.now).columns table }
-    ensures ok { OnOk result (trigger_fits (seen rows.now) queues.now.triggers table asked.now.name asked.now.ignored ≡ Ok tt) }
-    ensures err { IfErr result (λ stop. StopsAs stop (trigger_fits (seen rows.now) queues.now.triggers table asked.now.name asked.now.ignored)) }
+    requires { schema.now ≡ (seen (R.state rows.now)).columns table }
+    ensures ok { OnOk result (trigger_fits (seen (R.state rows.now)) queues.now.triggers table asked.now.name asked.now.ignored ≡ Ok tt) }
+    ensures err { IfErr result (λ stop. StopsAs stop (trigger_fits (seen (R.state rows.now)) queues.now.triggers table asked.now.name asked.now.ignored)) }
 {
     if queues.has_trigger(table, &asked.name) {
         return Err(Stop::Refused(Refusal::TriggerExists(asked.name.copy(alloc)?)));

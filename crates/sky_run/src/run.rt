@@ -20,6 +20,7 @@ use sky_io::{Sink, SinkFault, Source, write_all};
 use sky_lines::{LineFault, LineReader};
 use sky_model::{Cause, Replies};
 use sky_script::LineCause;
+use sky_session::RowDb;
 use sky_val::NoMemory;
 use sky_world::World;
 use std::alloc::Global;
@@ -52,7 +53,7 @@ pub fn run_lines<S: Source, O: Sink>(alloc: Global, src: &mut S, out: &mut O) ->
 #[derive(Drop)]
 struct Run {
     alloc: Global,
-    world: World<Db>,
+    world: World<Db<RowDb>>,
     reader: LineReader,
     // The answers of the last statement, whose memory the next ones reuse.
     replies: Replies,

@@ -14,7 +14,7 @@ use Rattle.sky_model.specs.Sessions.{Block, outside, inside, failed}
 use Rattle.sky_model.specs.State.{RowPart}
 use Rattle.sky_model.specs.StepRotation.{committed_by}
 use Rattle.sky_model.specs.StepSession.{commit}
-use Rattle.sky_session.specs.Committing.{commits_of}
+use Rattle.sky_row_store.specs.Committing.{commits_of}
 
 -- a gate has room for it, as it writes nothing
 roomy : {G : Type 0} (gate : Gate G) (g : G) (who : ℕ) (txid : Option ℕ) (block : Block) → gated gate g (commit who txid block) ≡ commit who txid block

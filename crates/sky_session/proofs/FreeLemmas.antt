@@ -18,8 +18,8 @@ use Rattle.sky_model.specs.StepLocks.{once_free}
 use Rattle.sky_model.specs.StepRows.{is_seen, some_row, writes_key, changes, attempts}
 use Rattle.sky_model.specs.OwnTransaction.{in_own}
 use Rattle.sky_model.specs.Gates.{Gate, passed_all, gated}
-use Rattle.sky_session.specs.declared.answer.RowStep.{RowStep}
-use Rattle.sky_session.specs.Effects.{with_effects}
+use Rattle.sky_row_store.specs.declared.row_step.RowStep.{RowStep}
+use Rattle.sky_row_store.specs.Effects.{with_effects}
 use Rattle.sky_session.specs.Finding.{IsFree, shown_at, change_shown}
 use Rattle.sky_session.specs.Gives.{Does, Runs, Writes}
 use Rattle.sky_state.specs.declared.places.Places.{Places}

@@ -15,10 +15,11 @@ use Rattle.sky_model.specs.Reader.{PartReader, part_by_itself}
 use Rattle.sky_model.specs.Gates.{Gate, passed_all, by_gate}
 use Rattle.sky_model.specs.Settling.{turn_of, ready, attempted, resumed, settling}
 use Rattle.sky_histories.proofs.Resting.{gated-keeps, fewer-wait, settling-none, settling-some}
-use Rattle.sky_session.specs.declared.answer.RowStep.{RowStep}
+use Rattle.sky_row_store.specs.declared.row_step.RowStep.{RowStep}
 use Rattle.sky_model.specs.SessionMarks.{failure}
-use Rattle.sky_session.specs.Effects.{with_effects}
-use Rattle.sky_session.specs.Gives.{Adds, Does}
+use Rattle.sky_row_store.specs.Effects.{with_effects}
+use Rattle.sky_row_store.specs.Gives.{Adds}
+use Rattle.sky_session.specs.Gives.{Does}
 use Rattle.sky_session.proofs.Steps.{place-behind, adds-settled}
 
 -- a canceled statement is refused

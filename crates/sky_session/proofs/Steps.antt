@@ -23,9 +23,9 @@ use Rattle.sky_model.specs.Gates.{Gate, passed_all, gated, by_gate, open_gate}
 use Rattle.sky_model.specs.Calls.{row_form, row_making, row_statement}
 use Rattle.sky_model.specs.Settling.{Turn, turn_of, with_rest, behind_marks, settling, with_settling}
 use Rattle.sky_histories.proofs.GatedLemmas.{gated-behind, passed-append, passed-none, gated-none, PlainOutcome, NoticesNone}
-use Rattle.sky_session.specs.declared.answer.RowStep.{RowStep}
-use Rattle.sky_session.specs.declared.effect.Effect.TheVariants.{Wrote, Committed, Aborted}
-use Rattle.sky_session.specs.Effects.{EffectsView, effects_by, with_effects}
+use Rattle.sky_row_store.specs.declared.row_step.RowStep.{RowStep}
+use Rattle.sky_row_store.specs.declared.effect.Effect.TheVariants.{Wrote, Committed, Aborted}
+use Rattle.sky_row_store.specs.Effects.{EffectsView, effects_by, with_effects}
 use Rattle.sky_state.specs.Views.{RowStateView}
 use Rattle.sky_state.specs.Seen.{seen}
 use Rattle.sky_model.specs.declared.stop.Stop.{Stop}
@@ -35,7 +35,8 @@ use Rattle.sky_model.specs.SessionMarks.{look_of, sight_marks, failing, Enters, 
 use Rattle.sky_model.specs.RowCalls.{RowCall, row_entered, txid_taken, single_ended}
 use Rattle.sky_model.specs.RowSteps.{RowSteps}
 use Rattle.sky_histories.proofs.RowCallStanding.{row_enter_from_exact, take_txid_from_exact, end_single_from_exact}
-use Rattle.sky_session.specs.Gives.{nothing, Adds, Settles, Gives, Does, Ran, Passes, Runs, Writes}
+use Rattle.sky_row_store.specs.Gives.{nothing, Adds, Settles}
+use Rattle.sky_session.specs.Gives.{Gives, Does, Ran, Passes, Runs, Writes}
 use Rattle.sky_model.specs.Outcome.{marks_of}
 
 -- the marks of two lists, one after the other

@@ -1,4 +1,2 @@
-pub mod Effects
 pub mod Gives
-pub mod Committing
 pub mod Finding

@@ -2,7 +2,7 @@
 //! before a transaction is committed does it in between, and the `commit` is admitted once.
 
 ghost use Rattle.std.specs.Prelude.{◌≡◌};
-ghost use Rattle.sky_session.specs.Committing.{commits_of};
+ghost use Rattle.sky_row_store.specs.Committing.{commits_of};
 ghost use Rattle.sky_state.specs.Seen.{seen};
 
 use sky_fits::{Block, allow};

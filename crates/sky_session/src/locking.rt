@@ -25,11 +25,11 @@ ghost use Rattle.sky_session.specs.Finding.{Finds, change_shown};
 ghost use Rattle.sky_session.specs.Gives.{Ran, Writes};
 ghost use Rattle.sky_state.specs.Seen.{seen, found_in};
 
-use crate::answer::RowStep;
 use crate::row_statements::{check_seen, tell_write, write_key};
 use sky_fits::with_sets;
 use sky_locks::LockKey;
 use sky_model::{Attempt, Refusal, Reply, Sets, Stop, WriteGate};
+use sky_row_store::RowStep;
 use sky_state::{Places, RowState};
 use sky_val::{Row, SessionId};
 

@@ -9,15 +9,15 @@ ghost use Rattle.sky_model.specs.Outcome.{end_of};
 ghost use Rattle.sky_model.specs.Sessions.{outside};
 ghost use Rattle.sky_model.specs.State.{after_part_marks};
 ghost use Rattle.sky_model.specs.OwnTransaction.{txid_for, begin_of, commit_of, in_own};
-ghost use Rattle.sky_session.specs.Effects.{with_effects};
+ghost use Rattle.sky_row_store.specs.Effects.{with_effects};
 ghost use Rattle.sky_model.specs.Gates.{passed_all};
 ghost use Rattle.sky_model.specs.SessionMarks.{Enters, failing, ending};
 ghost use Rattle.sky_state.specs.Seen.{seen, places_in};
 
-use crate::effect::{Effect, Effects};
 use sky_fits::{Block, allow};
 use sky_locks::LockKey;
 use sky_model::{Refusal, Where, WriteGate};
+use sky_row_store::{Effect, Effects};
 use sky_state::{Places, RowState};
 use sky_val::{NoMemory, Row, SessionId};
 

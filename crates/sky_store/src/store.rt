@@ -206,7 +206,7 @@ pub trait Store: Drop {
         ensures steps { OnOk result (DatabaseSteps (seen self.old) (seen self.new) (served (joining consumer.now)) (quietly (node_does (seen self.old) (joining consumer.now)))) };
 
     /// Whether the set's queue has as many consumers as it may have, and this isn't one of them.
-    fn full(&self, consumer: &Text) -> bool
+    fn is_full(&self, consumer: &Text) -> bool
         requires provider { is_some (set_queue (seen self.now)) ≡ true }
         ensures { result ≡ is_full (seen self.now) consumer.now };
 
@@ -220,7 +220,7 @@ pub trait Store: Drop {
         ensures { result ≡ is_some ((seen self.now).batch id) };
 
     /// Whether the last subscription id has been given.
-    fn spent(&self) -> bool
+    fn sub_ids_spent(&self) -> bool
         ensures { result ≡ sub_ids_spent (seen self.now) };
 
     /// Unregisters a leaf's consumer from the set's queue, if it is registered.
@@ -240,7 +240,7 @@ pub trait Store: Drop {
         ensures steps { OnOk result (DatabaseSteps (seen self.old) (seen self.new) (served (fetching consumer.now)) (quietly (node_does (seen self.old) (fetching consumer.now)))) };
 
     /// Finishes an active batch, so that its consumer is at its closing tick.
-    fn finish_node(&mut self, batch: u64)
+    fn finish(&mut self, batch: u64)
         requires provider { is_some (set_queue (seen self.old)) ≡ true }
         requires active { is_some ((seen self.old).batch batch) ≡ true }
         ensures serves { Serves (seen self.old) (seen self.new) (finishing batch) }

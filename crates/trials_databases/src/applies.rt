@@ -9,6 +9,7 @@ use anyhow::bail;
 use londiste_calls::Pick;
 use londiste_state::{Leaf, Node};
 use pgq_db::{Db, Store};
+use sky_session::RowDb;
 use sky_val::{Event, Text};
 use std::alloc::Global;
 use trials::{first_number, first_word, no_command, shown};
@@ -88,7 +89,7 @@ fn text_in(alloc: Global, word: &str) -> anyhow::Result<Option<Text>> {
 }
 
 // Whether the node is a leaf, and the table that is picked was copied.
-fn check_pick(db: &Db, pick: &Pick) -> anyhow::Result<()>
+fn check_pick(db: &Db<RowDb>, pick: &Pick) -> anyhow::Result<()>
     ensures { OnOk result (may_apply (pick_of pick.now) (seen_database db.now).node ≡ true) }
 {
     let Some(Node::Leaf(leaf)) = db.node() else {

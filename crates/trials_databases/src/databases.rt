@@ -1,5 +1,6 @@
 use crate::statements::statement;
 use pgq_db::{Db, Store};
+use sky_session::RowDb;
 use sky_val::SessionId;
 use std::alloc::Global;
 use trials::{first_number, line, no_command, shown};
@@ -7,7 +8,7 @@ use trials::{first_number, line, no_command, shown};
 /// A database, whose clock is at its start.
 #[derive(Drop)]
 pub struct Database {
-    db: Db,
+    db: Db<RowDb>,
 }
 
 impl Database {

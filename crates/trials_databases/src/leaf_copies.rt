@@ -9,6 +9,7 @@ use crate::replica::Replica;
 use anyhow::bail;
 use londiste_state::{Node, TableState};
 use pgq_db::{Db, Store};
+use sky_session::RowDb;
 use sky_txid::Snapshot;
 use sky_urlenc::decode_row;
 use sky_val::{Row, Schema, Text};
@@ -34,7 +35,7 @@ pub fn answer(
     }
 }
 
-fn copy_of(alloc: Global, db: &Db, table: &Text) -> anyhow::Result<String> {
+fn copy_of(alloc: Global, db: &Db<RowDb>, table: &Text) -> anyhow::Result<String> {
     let number = number_of(db, table)?;
     shown(alloc, Ok(db.copy_of(number)))
 }
@@ -71,7 +72,7 @@ fn copy_drop(alloc: Global, db: &mut Replica, table: &Text) -> anyhow::Result<St
 }
 
 // The number of a table of the leaf that is in the state for a copy.
-fn number_in_copy(db: &Db, table: &Text) -> anyhow::Result<u32>
+fn number_in_copy(db: &Db<RowDb>, table: &Text) -> anyhow::Result<u32>
     ensures number { IfOk result (λ number. table_number (seen_database db.now) table.now ≡ Some number) }
     ensures named { OnOk result (may_copy table.now (seen_database db.now).node ≡ true) }
     ensures may { IfOk result (λ number. MayCopy (seen_database db.now) number) }
@@ -81,7 +82,7 @@ fn number_in_copy(db: &Db, table: &Text) -> anyhow::Result<u32>
 }
 
 // Whether a table of the leaf is in the state for a copy.
-fn check_in_copy(db: &Db, table: &Text) -> anyhow::Result<()>
+fn check_in_copy(db: &Db<RowDb>, table: &Text) -> anyhow::Result<()>
     ensures { OnOk result (may_copy table.now (seen_database db.now).node ≡ true) }
 {
     let Some(Node::Leaf(leaf)) = db.node() else {

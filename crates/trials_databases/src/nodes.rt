@@ -8,6 +8,7 @@ use crate::{leaves, providers};
 use anyhow::bail;
 use londiste_state::Node;
 use pgq_db::{Db, Store};
+use sky_session::RowDb;
 use sky_val::{Schema, Text};
 use std::alloc::Global;
 use trials::{first_number, first_word, line, no_command, ok, shown};
@@ -15,7 +16,7 @@ use trials::{first_number, first_word, line, no_command, ok, shown};
 /// The databases of a root and of a leaf.
 #[derive(Drop)]
 pub struct Nodes {
-    root: Db,
+    root: Db<RowDb>,
     leaf: Replica,
 }
 
@@ -38,7 +39,7 @@ impl Nodes {
 }
 
 // What the database of the root answers to a command.
-fn answer(alloc: Global, db: &mut Db, command: &str, words: &str) -> anyhow::Result<String> {
+fn answer(alloc: Global, db: &mut Db<RowDb>, command: &str, words: &str) -> anyhow::Result<String> {
     match command {
         "step" => step(alloc, db, words),
         "node" => shown(alloc, Ok(db.node())),
@@ -55,7 +56,7 @@ fn answer(alloc: Global, db: &mut Db, command: &str, words: &str) -> anyhow::Res
     }
 }
 
-fn step(alloc: Global, db: &mut Db, words: &str) -> anyhow::Result<String> {
+fn step(alloc: Global, db: &mut Db<RowDb>, words: &str) -> anyhow::Result<String> {
     let (who, words) = first_number(words)?;
     let line = line(alloc, words)?;
     let stmt = statement(&line)?;
@@ -63,7 +64,7 @@ fn step(alloc: Global, db: &mut Db, words: &str) -> anyhow::Result<String> {
 }
 
 // The clock is at its start.
-fn make_root(alloc: Global, db: &mut Db, words: &str) -> anyhow::Result<String> {
+fn make_root(alloc: Global, db: &mut Db<RowDb>, words: &str) -> anyhow::Result<String> {
     let (name, queue) = first_word(words);
     let name = Text::from_str(alloc, name)?;
     let queue = Text::from_str(alloc, queue)?;
@@ -74,7 +75,12 @@ fn make_root(alloc: Global, db: &mut Db, words: &str) -> anyhow::Result<String> 
 }
 
 // A table joins the root's set, or leaves it.
-fn move_table(alloc: Global, db: &mut Db, command: &str, words: &str) -> anyhow::Result<String> {
+fn move_table(
+    alloc: Global,
+    db: &mut Db<RowDb>,
+    command: &str,
+    words: &str,
+) -> anyhow::Result<String> {
     let table = Text::from_str(alloc, words)?;
     match command {
         "root_add" => root_add(alloc, db, &table),
@@ -82,7 +88,7 @@ fn move_table(alloc: Global, db: &mut Db, command: &str, words: &str) -> anyhow:
     }
 }
 
-fn root_add(alloc: Global, db: &mut Db, table: &Text) -> anyhow::Result<String> {
+fn root_add(alloc: Global, db: &mut Db<RowDb>, table: &Text) -> anyhow::Result<String> {
     let number = number_of(db, table)?;
     let Some(Node::Root(root)) = db.node() else {
         return Err(no_command());
@@ -93,7 +99,7 @@ fn root_add(alloc: Global, db: &mut Db, table: &Text) -> anyhow::Result<String> 
     shown(alloc, Ok(db.root_add(table, number)))
 }
 
-fn root_drop(alloc: Global, db: &mut Db, table: &Text) -> anyhow::Result<String> {
+fn root_drop(alloc: Global, db: &mut Db<RowDb>, table: &Text) -> anyhow::Result<String> {
     let Some(Node::Root(root)) = db.node() else {
         return Err(no_command());
     };
@@ -106,7 +112,7 @@ fn root_drop(alloc: Global, db: &mut Db, table: &Text) -> anyhow::Result<String>
 }
 
 /// The number of a table of the database.
-pub fn number_of(db: &Db, table: &Text) -> anyhow::Result<u32>
+pub fn number_of(db: &Db<RowDb>, table: &Text) -> anyhow::Result<u32>
     ensures { IfOk result (λ number. table_number (seen_database db.now) table.now ≡ Some number) }
 {
     match db.table(table) {

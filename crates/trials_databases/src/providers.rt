@@ -5,14 +5,20 @@ ghost use Rattle.pgq_db.specs.Seen.{seen_database};
 use anyhow::bail;
 use londiste_calls::JoinFault;
 use pgq_db::{Db, NodeBatch, Store};
+use sky_session::RowDb;
 use sky_val::{Event, Text};
 use std::alloc::Global;
 use trials::{no_command, ok, shown};
 
 /// What a root's database answers to a command of a consumer, or of a tick.
-pub fn answer(alloc: Global, db: &mut Db, command: &str, words: &str) -> anyhow::Result<String> {
+pub fn answer(
+    alloc: Global,
+    db: &mut Db<RowDb>,
+    command: &str,
+    words: &str,
+) -> anyhow::Result<String> {
     match command {
-        "spent" => shown(alloc, Ok(db.spent())),
+        "spent" => shown(alloc, Ok(db.sub_ids_spent())),
         "snapshot" => snapshot(alloc, db, words),
         _ => {
             let consumer = Text::from_str(alloc, words)?;
@@ -21,11 +27,16 @@ pub fn answer(alloc: Global, db: &mut Db, command: &str, words: &str) -> anyhow:
     }
 }
 
-fn answer_to(alloc: Global, db: &mut Db, command: &str, consumer: &Text) -> anyhow::Result<String> {
+fn answer_to(
+    alloc: Global,
+    db: &mut Db<RowDb>,
+    command: &str,
+    consumer: &Text,
+) -> anyhow::Result<String> {
     check_provider(db)?;
     match command {
         "join" => shown(alloc, Ok(db.join(consumer))),
-        "full" => shown(alloc, Ok(db.full(consumer))),
+        "full" => shown(alloc, Ok(db.is_full(consumer))),
         "part" => {
             db.part(consumer);
             ok(alloc)
@@ -37,14 +48,14 @@ fn answer_to(alloc: Global, db: &mut Db, command: &str, consumer: &Text) -> anyh
     }
 }
 
-fn snapshot(alloc: Global, db: &Db, words: &str) -> anyhow::Result<String> {
+fn snapshot(alloc: Global, db: &Db<RowDb>, words: &str) -> anyhow::Result<String> {
     let tick = words.parse::<u64>()?;
     check_provider(db)?;
     shown(alloc, Ok(db.tick_snapshot(tick)))
 }
 
 // The batch of a consumer. If it may not join once more, it is registered.
-fn fetch(db: &mut Db, consumer: &Text) -> anyhow::Result<Option<NodeBatch>>
+fn fetch(db: &mut Db<RowDb>, consumer: &Text) -> anyhow::Result<Option<NodeBatch>>
     requires { is_some (set_queue (seen_database db.old)) ≡ true }
     ensures { IfOk result (λ batch. IfSome batch (λ b. is_some ((seen_database db.new).batch b.id) ≡ true)) }
 {
@@ -58,7 +69,7 @@ fn fetch(db: &mut Db, consumer: &Text) -> anyhow::Result<Option<NodeBatch>>
 }
 
 // The events of its batch.
-fn events(db: &mut Db, consumer: &Text) -> anyhow::Result<Vec<Event>>
+fn events(db: &mut Db<RowDb>, consumer: &Text) -> anyhow::Result<Vec<Event>>
     requires { is_some (set_queue (seen_database db.old)) ≡ true }
 {
     let Some(batch) = fetch(db, consumer)? else {
@@ -68,19 +79,19 @@ fn events(db: &mut Db, consumer: &Text) -> anyhow::Result<Vec<Event>>
     Ok(db.batch_events(batch.id)?)
 }
 
-fn finish(alloc: Global, db: &mut Db, consumer: &Text) -> anyhow::Result<String>
+fn finish(alloc: Global, db: &mut Db<RowDb>, consumer: &Text) -> anyhow::Result<String>
     requires { is_some (set_queue (seen_database db.old)) ≡ true }
 {
     let Some(batch) = fetch(db, consumer)? else {
         bail!("no batch");
     };
     check_provider(db)?;
-    db.finish_node(batch.id);
+    db.finish(batch.id);
     ok(alloc)
 }
 
 // Whether the database is a root's.
-fn check_provider(db: &Db) -> anyhow::Result<()>
+fn check_provider(db: &Db<RowDb>) -> anyhow::Result<()>
     ensures { OnOk result (is_some (set_queue (seen_database db.now)) ≡ true) }
 {
     if !db.is_provider() {

@@ -11,6 +11,7 @@ use londiste_calls::{ApplyFault, CopyFault, Pick};
 use londiste_state::TableState;
 use pgq_db::{Db, Store};
 use sky_model::{DbStmt, Replies};
+use sky_session::RowDb;
 use sky_txid::Snapshot;
 use sky_val::{Event, NoMemory, Row, SessionId, Text};
 use std::alloc::{AllocError, Global};
@@ -20,7 +21,7 @@ use std::marker::Model;
 /// call is made any more.
 #[derive(Drop)]
 pub struct Replica {
-    db: Db,
+    db: Db<RowDb>,
     has_failed: bool,
 }
 
@@ -47,7 +48,7 @@ impl Replica {
     }
 
     /// The database.
-    pub fn db(&self) -> &Db
+    pub fn db(&self) -> &Db<RowDb>
         ensures { result.now ≡ self.now.db }
     {
         &self.db

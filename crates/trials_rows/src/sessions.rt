@@ -1,6 +1,6 @@
 ghost use Rattle.std.specs.Prelude.{◌-◌, nat_lt};
 
-use sky_session::{RowDb, RowStep, WriteGate};
+use sky_session::{RowDb, RowStep, RowStore, WriteGate};
 use sky_val::{NoMemory, Op, Row, SessionId};
 use std::alloc::Global;
 use std::mem;

@@ -1,6 +1,6 @@
 use anyhow::bail;
 use sky_model::RowStmt;
-use sky_session::RowDb;
+use sky_session::{RowDb, RowStore};
 use sky_txid::Snapshot;
 use sky_val::{Key, Text};
 use std::alloc::Global;

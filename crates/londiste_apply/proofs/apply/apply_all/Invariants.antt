@@ -8,9 +8,9 @@ use Rattle.londiste_apply.proofs.apply.apply_all.Given as goal
 
 -- the events that are left; the snapshot by which they are applied stays the same
 abbrev pub invariant-loop-event : goal.invariant-loop-event
-invariant-loop-event l =
+invariant-loop-event g l =
     let p = picks l.leaf (pick_of l.pick) in
     record {
-      between : IsBetween (seen l.fn.rows) (seen l.rows) l.txid (filter p l.events) (filter p (drop l.event-index l.events)) l.many;
-      present : snapshot_now (seen l.fn.rows) ≡ snapshot_now (seen l.rows);
+      between : IsBetween (seen (g.R.RowStore.state l.fn.rows)) (seen (g.R.RowStore.state l.rows)) l.txid (filter p l.events) (filter p (drop l.event-index l.events)) l.many;
+      present : snapshot_now (seen (g.R.RowStore.state l.fn.rows)) ≡ snapshot_now (seen (g.R.RowStore.state l.rows));
     }

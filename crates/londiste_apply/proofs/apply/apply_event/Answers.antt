@@ -6,4 +6,4 @@ use Rattle.londiste_apply.proofs.Steps.{makes-unnamed}
 use Rattle.londiste_apply.proofs.apply.apply_event.Goals as goal
 
 pub returns-in-None-clause-made : goal.returns-in-None-clause-made
-returns-in-None-clause-made c = makes-unnamed (seen c.args.rows.now) c.args.txid c.args.event.now (sym (ap Event.ev_extra1 c.event.view_is) ∙ ap option_copied c.in-None.is)
+returns-in-None-clause-made g c = makes-unnamed (seen (g.R.RowStore.state c.args.rows.now)) c.args.txid c.args.event.now (sym (ap Event.ev_extra1 c.event.view_is) ∙ ap option_copied c.in-None.is)

@@ -6,18 +6,18 @@ use Rattle.londiste_apply.proofs.Steps.{marked-none, picked-leaf, picked-none, w
 use Rattle.londiste_apply.proofs.apply.apply_picked.Goals as goal
 
 pub apply_all-requires-clause-may : goal.apply_all-requires-clause-may
-apply_all-requires-clause-may c =
-    subst (All (MayWriteFor (seen c.args.rows.now) c.args.txid)) (picked-leaf c.args.node.now c.in-Some.leaf.now c.in-Some.ensures (pick_of c.args.pick.now) c.args.events.now) c.requires.may
+apply_all-requires-clause-may g c =
+    subst (All (MayWriteFor (seen (g.R.RowStore.state c.args.rows.now)) c.args.txid)) (picked-leaf c.args.node.now c.in-Some.leaf.now c.in-Some.ensures (pick_of c.args.pick.now) c.args.events.now) c.requires.may
 
 pub returns-in-Some-clause-work : goal.returns-in-Some-clause-work
-returns-in-Some-clause-work c =
-    subst (λ events. IfOk c.apply_all.result (λ work. Works work (seen c.args.rows.now) (seen c.apply_all.new.rows) c.args.txid events))
+returns-in-Some-clause-work g c =
+    subst (λ events. IfOk c.apply_all.result (λ work. Works work (seen (g.R.RowStore.state c.args.rows.now)) (seen (g.R.RowStore.state c.apply_all.new.rows)) c.args.txid events))
     (sym (picked-leaf c.args.node.now c.in-Some.leaf.now c.in-Some.ensures (pick_of c.args.pick.now) c.args.events.now)) c.apply_all.ensures.work
 
 pub returns-in-None-clause-work : goal.returns-in-None-clause-work
-returns-in-None-clause-work c =
-    subst (λ events. Works (record { many = 0; bad = None }) (seen c.args.rows.now) (seen c.args.rows.now) c.args.txid events) (sym (picked-none c.args.node.now c.in-None.ensures (pick_of c.args.pick.now) c.args.events.now))
-    (works-none (seen c.args.rows.now) c.args.txid c.requires.runs)
+returns-in-None-clause-work g c =
+    subst (λ events. Works (record { many = 0; bad = None }) (seen (g.R.RowStore.state c.args.rows.now)) (seen (g.R.RowStore.state c.args.rows.now)) c.args.txid events) (sym (picked-none c.args.node.now c.in-None.ensures (pick_of c.args.pick.now) c.args.events.now))
+    (works-none (seen (g.R.RowStore.state c.args.rows.now)) c.args.txid c.requires.runs)
 
 pub returns-in-None-clause-marked : goal.returns-in-None-clause-marked
-returns-in-None-clause-marked c = marked-none (seen c.args.rows.now)
+returns-in-None-clause-marked g c = marked-none (seen (g.R.RowStore.state c.args.rows.now))

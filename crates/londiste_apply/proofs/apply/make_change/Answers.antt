@@ -7,11 +7,11 @@ use Rattle.londiste_apply.proofs.Own.{own-newest}
 use Rattle.londiste_apply.proofs.apply.make_change.Goals as goal
 
 pub worker_write_if-requires-clause-last : goal.worker_write_if-requires-clause-last
-worker_write_if-requires-clause-last c = own-newest c.args.txid _ None (c.requires.may.last c.args.key)
+worker_write_if-requires-clause-last g c = own-newest c.args.txid _ None (c.requires.may.last c.args.key)
 
 pub returns-clause-made : goal.returns-clause-made
-returns-clause-made c =
-    makes-as-met (seen c.args.rows.now) c.args.table c.args.txid c.args.change c.args.key c.requires.key c.args.snapshot.now c.requires.present
-    c.worker_write_if.result (seen c.worker_write_if.new.self) c.row_left.result c.row_left.ensures
+returns-clause-made g c =
+    makes-as-met (seen (g.R.RowStore.state c.args.rows.now)) c.args.table c.args.txid c.args.change c.args.key c.requires.key c.args.snapshot.now c.requires.present
+    c.worker_write_if.result (seen (g.R.RowStore.state c.worker_write_if.new.self)) c.row_left.result c.row_left.ensures
     (IfOk-weaker c.worker_write_if.result _ _ (λ made is. is ∙ sym (c.needs_row-needs_row.ensures _)) c.worker_write_if.ensures.made)
-    (c.worker_write_if.ensures.mark (row_for (seen c.args.rows.now) c.args.table c.args.txid c.args.key)) c.worker_write_if.ensures.unmade
+    (c.worker_write_if.ensures.mark (row_for (seen (g.R.RowStore.state c.args.rows.now)) c.args.table c.args.txid c.args.key)) c.worker_write_if.ensures.unmade

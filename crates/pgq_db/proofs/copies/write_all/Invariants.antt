@@ -7,6 +7,6 @@ use Rattle.pgq_db.proofs.copies.write_all.Given as goal
 
 -- the rows that are left
 abbrev pub invariant-loop-key : goal.invariant-loop-key
-invariant-loop-key l =
-    IsBetween (seen l.initial.rows) (seen l.rows) l.table l.txid (map insertion (into_iter_items l.initial.key-iterator)) (map insertion (into_iter_items l.key-iterator))
+invariant-loop-key g l =
+    IsBetween (seen (g.R.RowStore.state l.initial.rows)) (seen (g.R.RowStore.state l.rows)) l.table l.txid (map insertion (into_iter_items l.initial.key-iterator)) (map insertion (into_iter_items l.key-iterator))
     × (into_iter_len l.key-iterator ≡ length (into_iter_items l.key-iterator))

@@ -4,7 +4,7 @@ use Rattle.sky_keys.specs.Waits.{other_holder}
 use Rattle.sky_model.specs.History.{of_session, tabled, wrote}
 use Rattle.sky_model.specs.State.{RowPart}
 use Rattle.sky_model.specs.OwnTransaction.{commit_of}
-use Rattle.sky_session.specs.Effects.{with_effects}
+use Rattle.sky_row_store.specs.Effects.{with_effects}
 use Rattle.sky_state.specs.Seen.{seen}
 use Rattle.sky_state.specs.declared.places.Places.{Places}
 use Rattle.sky_session.proofs.Steps.{part-written}

@@ -7,8 +7,8 @@ use Rattle.sky_model.specs.ShownRows.{rows_by}
 use Rattle.sky_model.specs.Outcome.{Checked, ◌>>=◌, answers}
 use Rattle.sky_model.specs.StepRows.{table_called}
 use Rattle.sky_state.specs.Seen.{seen}
-use Rattle.sky_session.specs.declared.answer.RowStep.{RowStep}
-use Rattle.sky_session.specs.Effects.{with_effects}
+use Rattle.sky_row_store.specs.declared.row_step.RowStep.{RowStep}
+use Rattle.sky_row_store.specs.Effects.{with_effects}
 use Rattle.sky_session.specs.Gives.{Does}
 use Rattle.sky_session.proofs.row_statements.scan.Goals as goal
 

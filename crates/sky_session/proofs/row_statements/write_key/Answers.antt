@@ -2,7 +2,7 @@
 use Rattle.std.proofs.Common.{[], ◌∷◌, sym, ◌∙◌, ap}
 use Rattle.sky_model.specs.History.{of_session, tabled, wrote}
 use Rattle.sky_model.specs.OwnTransaction.{commit_of}
-use Rattle.sky_session.specs.Effects.{with_effects}
+use Rattle.sky_row_store.specs.Effects.{with_effects}
 use Rattle.sky_state.specs.Seen.{seen}
 use Rattle.sky_session.proofs.Steps.{with-append, begun-told}
 use Rattle.sky_session.proofs.WrittenLemmas.{same-parts}

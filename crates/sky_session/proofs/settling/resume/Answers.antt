@@ -7,7 +7,7 @@ use Rattle.sky_model.specs.StepRows.{attempts}
 use Rattle.sky_model.specs.Reader.{part_by_itself}
 use Rattle.sky_model.specs.Gates.{gated, by_gate}
 use Rattle.sky_model.specs.Settling.{turn_of, attempted}
-use Rattle.sky_session.specs.Gives.{Adds}
+use Rattle.sky_row_store.specs.Gives.{Adds}
 use Rattle.sky_state.specs.Seen.{seen}
 use Rattle.sky_keys.proofs.WaitLemmas.{is_waiting-without}
 use Rattle.sky_session.proofs.LockLemmas.{adds-resumed}

@@ -1,7 +1,7 @@
 use Rattle.std.proofs.Common.{sym, ◌∙◌, subst}
 use Rattle.sky_model.specs.Settling.{turn_of}
 use Rattle.sky_model.specs.StepSession.{commit}
-use Rattle.sky_session.specs.Gives.{Adds}
+use Rattle.sky_row_store.specs.Gives.{Adds}
 use Rattle.sky_state.specs.Seen.{seen}
 use Rattle.sky_session.proofs.CommitLemmas.{commit-made, commit-barred}
 use Rattle.sky_session.proofs.statements.commit_answer.Goals as goal

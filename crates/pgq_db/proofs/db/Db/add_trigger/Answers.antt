@@ -13,7 +13,7 @@ use Rattle.pgq_db.proofs.Agreeing.{agree-traced}
 use Rattle.pgq_db.proofs.db.Db.add_trigger.Goals as goal
 
 pub returns-in_err-trigger : goal.returns-in_err-trigger
-returns-in_err-trigger c =
+returns-in_err-trigger g c =
     let stop = c.in_err-trigger.field-0.0 in
     let stops =
     stops-there stop (seen_database c.args.self.now) c.args.replies.now (add_trigger (seen_database c.args.self.now) c.args.asked.now)
@@ -21,22 +21,22 @@ returns-in_err-trigger c =
     search (rules, stops)
 
 pub invariant_of-self : goal.invariant_of-self
-invariant_of-self c = λ e.
-    agree-traced (seen c.self.inside.rows) c.self.inside.queues c.trace.new.self c.trace.ensures.rounds
-    (c.trace.ensures.tables (seen c.self.inside.rows) c.in_ok-trigger.ensures.table (c.self.invariant e).tables) (c.self.invariant e)
+invariant_of-self g c = λ e.
+    agree-traced (seen (g.R.RowStore.state c.self.inside.rows)) c.self.inside.queues c.trace.new.self c.trace.ensures.rounds
+    (c.trace.ensures.tables (seen (g.R.RowStore.state c.self.inside.rows)) c.in_ok-trigger.ensures.table (c.self.invariant e).tables) (c.self.invariant e)
 
 pub invariant_of-self-in_err-push : goal.invariant_of-self-in_err-push
-invariant_of-self-in_err-push c = λ e.
-    agree-traced (seen c.self.inside.rows) c.self.inside.queues c.trace.new.self c.trace.ensures.rounds
-    (c.trace.ensures.tables (seen c.self.inside.rows) c.in_ok-trigger.ensures.table (c.self.invariant e).tables) (c.self.invariant e)
+invariant_of-self-in_err-push g c = λ e.
+    agree-traced (seen (g.R.RowStore.state c.self.inside.rows)) c.self.inside.queues c.trace.new.self c.trace.ensures.rounds
+    (c.trace.ensures.tables (seen (g.R.RowStore.state c.self.inside.rows)) c.in_ok-trigger.ensures.table (c.self.invariant e).tables) (c.self.invariant e)
 
 pub invariant_of-self-2 : goal.invariant_of-self-2
-invariant_of-self-2 c = λ e.
-    agree-traced (seen c.self.inside.rows) c.self.inside.queues c.trace.new.self c.trace.ensures.rounds
-    (c.trace.ensures.tables (seen c.self.inside.rows) c.in_ok-trigger.ensures.table (c.self.invariant e).tables) (c.self.invariant e)
+invariant_of-self-2 g c = λ e.
+    agree-traced (seen (g.R.RowStore.state c.self.inside.rows)) c.self.inside.queues c.trace.new.self c.trace.ensures.rounds
+    (c.trace.ensures.tables (seen (g.R.RowStore.state c.self.inside.rows)) c.in_ok-trigger.ensures.table (c.self.invariant e).tables) (c.self.invariant e)
 
 pub returns : goal.returns
-returns c =
+returns g c =
     let t = c.in_ok-trigger.trigger in
     let adds =
     subst (λ (w : DbView). add_trigger (seen_database w) c.args.asked.now ≡ does_marks Done (queued (traced t.table t.name t.trigger) ∷ [])) c.self.view_is c.in_ok-trigger.ensures.adds in

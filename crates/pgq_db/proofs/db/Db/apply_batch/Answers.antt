@@ -11,62 +11,62 @@ use Rattle.pgq_db.proofs.Looking.{looks-for, lists-for, no-other-for, no-other-s
 use Rattle.pgq_db.proofs.db.Db.apply_batch.Goals as goal
 
 pub recorded-requires-clause-stands : goal.recorded-requires-clause-stands
-recorded-requires-clause-stands c = subst (λ (s : Span). Stands c.look.new.self.queues s.queue) (sym c.span-span.ensures) (c.look.ensures.stand.stands c.in-Some.batch.queue c.in-Some.ensures.stands)
+recorded-requires-clause-stands g c = subst (λ (s : Span). Stands c.look.new.self.queues s.queue) (sym c.span-span.ensures) (c.look.ensures.stand.stands c.in-Some.batch.queue c.in-Some.ensures.stands)
 
 pub returns-in_default-clause-number : goal.returns-in_default-clause-number
-returns-in_default-clause-number c = c.apply_recorded.ensures.number (events_of_batch (seen_database c.args.provider.now) c.args.batch) (none-recorded _ _ c.provider.view_is c.args.batch c.in_default.ensures.batch)
+returns-in_default-clause-number g c = c.apply_recorded.ensures.number (events_of_batch (seen_database c.args.provider.now) c.args.batch) (none-recorded _ _ c.provider.view_is c.args.batch c.in_default.ensures.batch)
 
 pub returns-in_default-clause-serves : goal.returns-in_default-clause-serves
-returns-in_default-clause-serves c = c.apply_recorded.ensures.serves (events_of_batch (seen_database c.args.provider.now) c.args.batch) (none-recorded _ _ c.provider.view_is c.args.batch c.in_default.ensures.batch)
+returns-in_default-clause-serves g c = c.apply_recorded.ensures.serves (events_of_batch (seen_database c.args.provider.now) c.args.batch) (none-recorded _ _ c.provider.view_is c.args.batch c.in_default.ensures.batch)
 
 pub returns-in_default-clause-fault : goal.returns-in_default-clause-fault
-returns-in_default-clause-fault c = c.apply_recorded.ensures.fault (events_of_batch (seen_database c.args.provider.now) c.args.batch) (none-recorded _ _ c.provider.view_is c.args.batch c.in_default.ensures.batch)
+returns-in_default-clause-fault g c = c.apply_recorded.ensures.fault (events_of_batch (seen_database c.args.provider.now) c.args.batch) (none-recorded _ _ c.provider.view_is c.args.batch c.in_default.ensures.batch)
 
 pub returns-in_default-clause-steps : goal.returns-in_default-clause-steps
-returns-in_default-clause-steps c = c.apply_recorded.ensures.steps (events_of_batch (seen_database c.args.provider.now) c.args.batch) (none-recorded _ _ c.provider.view_is c.args.batch c.in_default.ensures.batch)
+returns-in_default-clause-steps g c = c.apply_recorded.ensures.steps (events_of_batch (seen_database c.args.provider.now) c.args.batch) (none-recorded _ _ c.provider.view_is c.args.batch c.in_default.ensures.batch)
 
 pub returns-in_default-clause-lists : goal.returns-in_default-clause-lists
-returns-in_default-clause-lists c =
+returns-in_default-clause-lists g c =
     λ _. subst (LooksFrom c.args.provider.now.queues c.args.provider.now.queues (events_of_batch (seen_database c.args.provider.now) c.args.batch)) (c.in_default.ensures.batch ∙ ap (λ (v : DbView). batch_at v.queues c.args.batch) c.provider.view_is) tt
 
 pub returns-in_default-clause-others : goal.returns-in_default-clause-others
-returns-in_default-clause-others c = no-other-same c.args.provider.now.queues (batch_at c.args.provider.now.queues c.args.batch)
+returns-in_default-clause-others g c = no-other-same c.args.provider.now.queues (batch_at c.args.provider.now.queues c.args.batch)
 
 pub returns-clause-number : goal.returns-clause-number
-returns-clause-number c = c.apply_recorded-2.ensures.number (events_of_batch (seen_database c.args.provider.now) c.args.batch) (c.deref.ensures.value ∙ batch-recorded _ _ c.provider.view_is c.args.batch c.in-Some.batch c.span-span.result c.look.new.self c.in_ok-recorded.recorded.items c.in-Some.ensures.batch c.span-span.ensures c.look.ensures.same c.in_ok-recorded.ensures)
+returns-clause-number g c = c.apply_recorded-2.ensures.number (events_of_batch (seen_database c.args.provider.now) c.args.batch) (c.deref.ensures.value ∙ batch-recorded _ _ c.provider.view_is c.args.batch c.in-Some.batch c.span-span.result c.look.new.self c.in_ok-recorded.recorded.items c.in-Some.ensures.batch c.span-span.ensures c.look.ensures.same c.in_ok-recorded.ensures)
 
 pub returns-clause-serves : goal.returns-clause-serves
-returns-clause-serves c = c.apply_recorded-2.ensures.serves (events_of_batch (seen_database c.args.provider.now) c.args.batch) (c.deref.ensures.value ∙ batch-recorded _ _ c.provider.view_is c.args.batch c.in-Some.batch c.span-span.result c.look.new.self c.in_ok-recorded.recorded.items c.in-Some.ensures.batch c.span-span.ensures c.look.ensures.same c.in_ok-recorded.ensures)
+returns-clause-serves g c = c.apply_recorded-2.ensures.serves (events_of_batch (seen_database c.args.provider.now) c.args.batch) (c.deref.ensures.value ∙ batch-recorded _ _ c.provider.view_is c.args.batch c.in-Some.batch c.span-span.result c.look.new.self c.in_ok-recorded.recorded.items c.in-Some.ensures.batch c.span-span.ensures c.look.ensures.same c.in_ok-recorded.ensures)
 
 pub returns-clause-fault : goal.returns-clause-fault
-returns-clause-fault c = c.apply_recorded-2.ensures.fault (events_of_batch (seen_database c.args.provider.now) c.args.batch) (c.deref.ensures.value ∙ batch-recorded _ _ c.provider.view_is c.args.batch c.in-Some.batch c.span-span.result c.look.new.self c.in_ok-recorded.recorded.items c.in-Some.ensures.batch c.span-span.ensures c.look.ensures.same c.in_ok-recorded.ensures)
+returns-clause-fault g c = c.apply_recorded-2.ensures.fault (events_of_batch (seen_database c.args.provider.now) c.args.batch) (c.deref.ensures.value ∙ batch-recorded _ _ c.provider.view_is c.args.batch c.in-Some.batch c.span-span.result c.look.new.self c.in_ok-recorded.recorded.items c.in-Some.ensures.batch c.span-span.ensures c.look.ensures.same c.in_ok-recorded.ensures)
 
 pub returns-clause-steps : goal.returns-clause-steps
-returns-clause-steps c = c.apply_recorded-2.ensures.steps (events_of_batch (seen_database c.args.provider.now) c.args.batch) (c.deref.ensures.value ∙ batch-recorded _ _ c.provider.view_is c.args.batch c.in-Some.batch c.span-span.result c.look.new.self c.in_ok-recorded.recorded.items c.in-Some.ensures.batch c.span-span.ensures c.look.ensures.same c.in_ok-recorded.ensures)
+returns-clause-steps g c = c.apply_recorded-2.ensures.steps (events_of_batch (seen_database c.args.provider.now) c.args.batch) (c.deref.ensures.value ∙ batch-recorded _ _ c.provider.view_is c.args.batch c.in-Some.batch c.span-span.result c.look.new.self c.in_ok-recorded.recorded.items c.in-Some.ensures.batch c.span-span.ensures c.look.ensures.same c.in_ok-recorded.ensures)
 
 pub returns-clause-provider : goal.returns-clause-provider
-returns-clause-provider c = c.look.ensures.same (with_node c.provider.inside.node (seen c.provider.inside.rows)) ∙ ap seen_database c.provider.view_is
+returns-clause-provider g c = c.look.ensures.same (with_node c.provider.inside.node (seen (g.R.RowStore.state c.provider.inside.rows))) ∙ ap seen_database c.provider.view_is
 
 pub returns-clause-looks : goal.returns-clause-looks
-returns-clause-looks c = λ _. looks-for _ _ c.provider.view_is c.args.batch c.in-Some.batch c.span-span.result c.in-Some.ensures.batch c.span-span.ensures c.look.new.self c.look.ensures.others c.in_ok-looks.ensures.upper
+returns-clause-looks g c = λ _. looks-for _ _ c.provider.view_is c.args.batch c.in-Some.batch c.span-span.result c.in-Some.ensures.batch c.span-span.ensures c.look.new.self c.look.ensures.others c.in_ok-looks.ensures.upper
 
 pub returns-clause-lists : goal.returns-clause-lists
-returns-clause-lists c =
+returns-clause-lists g c =
     let listed = batch-listed _ _ c.provider.view_is c.args.batch c.in-Some.batch c.span-span.result c.in-Some.ensures.batch c.span-span.ensures in
     λ _. lists-for _ _ c.provider.view_is c.args.batch c.in-Some.batch c.span-span.result c.in-Some.ensures.batch c.span-span.ensures c.look.new.self (events_of_batch (seen_database c.args.provider.now) c.args.batch)
     (subst (λ es. reads_at c.look.new.self.queues c.span-span.result.queue < 2 ^ 64 - 1 → length es + reads_at c.provider.inside.queues.queues c.span-span.result.queue ≤ reads_at c.look.new.self.queues c.span-span.result.queue) listed c.in_ok-looks.ensures.lower)
 
 pub returns-clause-others : goal.returns-clause-others
-returns-clause-others c = no-other-for _ _ c.provider.view_is c.args.batch c.in-Some.batch c.span-span.result c.in-Some.ensures.batch c.span-span.ensures c.look.new.self c.look.ensures.others
+returns-clause-others g c = no-other-for _ _ c.provider.view_is c.args.batch c.in-Some.batch c.span-span.result c.in-Some.ensures.batch c.span-span.ensures c.look.new.self c.look.ensures.others
 
 pub returns-in_err-looks-clause-provider : goal.returns-in_err-looks-clause-provider
-returns-in_err-looks-clause-provider c = c.look.ensures.same (with_node c.provider.inside.node (seen c.provider.inside.rows)) ∙ ap seen_database c.provider.view_is
+returns-in_err-looks-clause-provider g c = c.look.ensures.same (with_node c.provider.inside.node (seen (g.R.RowStore.state c.provider.inside.rows))) ∙ ap seen_database c.provider.view_is
 
 pub returns-in_err-looks-clause-others : goal.returns-in_err-looks-clause-others
-returns-in_err-looks-clause-others c = no-other-for _ _ c.provider.view_is c.args.batch c.in-Some.batch c.span-span.result c.in-Some.ensures.batch c.span-span.ensures c.look.new.self c.look.ensures.others
+returns-in_err-looks-clause-others g c = no-other-for _ _ c.provider.view_is c.args.batch c.in-Some.batch c.span-span.result c.in-Some.ensures.batch c.span-span.ensures c.look.new.self c.look.ensures.others
 
 pub returns-in_err-recorded-clause-provider : goal.returns-in_err-recorded-clause-provider
-returns-in_err-recorded-clause-provider c = c.look.ensures.same (with_node c.provider.inside.node (seen c.provider.inside.rows)) ∙ ap seen_database c.provider.view_is
+returns-in_err-recorded-clause-provider g c = c.look.ensures.same (with_node c.provider.inside.node (seen (g.R.RowStore.state c.provider.inside.rows))) ∙ ap seen_database c.provider.view_is
 
 pub returns-in_err-recorded-clause-others : goal.returns-in_err-recorded-clause-others
-returns-in_err-recorded-clause-others c = no-other-for _ _ c.provider.view_is c.args.batch c.in-Some.batch c.span-span.result c.in-Some.ensures.batch c.span-span.ensures c.look.new.self c.look.ensures.others
+returns-in_err-recorded-clause-others g c = no-other-for _ _ c.provider.view_is c.args.batch c.in-Some.batch c.span-span.result c.in-Some.ensures.batch c.span-span.ensures c.look.new.self c.look.ensures.others

@@ -5,4 +5,4 @@ use Rattle.pgq_db.proofs.db.Db.are_idle.Given as goal
 
 -- the queues so far are idle
 abbrev pub invariant-loop-place : goal.invariant-loop-place
-invariant-loop-place l = all_idle l.moment (seen_database l.self) (drop l.place (seen_database l.self).queues) ≡ all_idle l.moment (seen_database l.self) (seen_database l.self).queues
+invariant-loop-place g l = all_idle l.moment (seen_database l.self) (drop l.place (seen_database l.self).queues) ≡ all_idle l.moment (seen_database l.self) (seen_database l.self).queues

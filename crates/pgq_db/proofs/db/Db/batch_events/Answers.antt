@@ -8,9 +8,9 @@ use Rattle.pgq_db.proofs.ProviderSteps.{shows-not}
 use Rattle.pgq_db.proofs.db.Db.batch_events.Goals as goal
 
 pub returns-clause-histories : goal.returns-clause-histories
-returns-clause-histories c =
+returns-clause-histories g c =
     shows-events (seen_database c.args.self.now) c.args.batch c.in-Some.events.items (sym (ap (option_map (λ (events : Vec Event Global). events.items)) (sym c.in-Some.is) ∙ c.in_ok-events.ensures.events))
 
 pub unreachable-requires : goal.unreachable-requires
-unreachable-requires c =
+unreachable-requires g c =
     shows-not (seen_database c.args.self.now) c.args.batch c.requires.active (ap (option_map (λ (events : Vec Event Global). events.items)) (sym c.in-None.is) ∙ c.in_ok-events.ensures.events)

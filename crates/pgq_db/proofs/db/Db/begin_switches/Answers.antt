@@ -7,14 +7,14 @@ use Rattle.pgq_db.proofs.Daemons.{steps_end, left-count, steps-left}
 use Rattle.pgq_db.proofs.db.Db.begin_switches.Goals as goal
 
 pub number_at-queue-requires : goal.number_at-queue-requires
-number_at-queue-requires c =
+number_at-queue-requires g c =
     let same = left-count (steps_end (to_z w64 (of_z w64 c.args.now))) _ _ c.loop-place.place c.loop-place.invariant in
     let shown = ap (λ (v : DbView). length (queues_of v.queues)) c.self.view_is in
     let here = ap (λ (v : DbView). length (queues_of v.queues)) c.self-in-loop-place.view_is in
     omega (arith, same, shown, here, c.loop-place-test.true, c.count-place-end.ensures)
 
 pub loop-place-preserved : goal.loop-place-preserved
-loop-place-preserved c =
+loop-place-preserved g c =
     let same = left-count (steps_end (to_z w64 (of_z w64 c.args.now))) _ _ c.loop-place.place c.loop-place.invariant in
     let shown = ap (λ (v : DbView). length (queues_of v.queues)) c.self.view_is in
     let low : c.loop-place.place < length (seen_database c.loop-place.self).queues = omega (arith, same, shown, c.loop-place-test.true, c.count-place-end.ensures) in

@@ -12,19 +12,19 @@ use Rattle.pgq_db.proofs.RetrySteps.{brought-back}
 use Rattle.pgq_db.proofs.db.Db.bring_back.Goals as goal
 
 pub invariant_of-self-in_err-count : goal.invariant_of-self-in_err-count
-invariant_of-self-in_err-count c = λ e.
-    agree-back (seen c.self.inside.rows) (seen c.work_alone.new.rows) c.in_ok-txid.txid c.self.inside.queues c.bring_back.new.self c.in_ok-txid.ensures.id c.in_ok-txid.ensures.marks c.bring_back.ensures.rest
+invariant_of-self-in_err-count g c = λ e.
+    agree-back (seen (g.R.RowStore.state c.self.inside.rows)) (seen (g.R.RowStore.state c.work_alone.new.rows)) c.in_ok-txid.txid c.self.inside.queues c.bring_back.new.self c.in_ok-txid.ensures.id c.in_ok-txid.ensures.marks c.bring_back.ensures.rest
     (c.self.invariant c.if-self.false)
 
 pub invariant_of-self-2 : goal.invariant_of-self-2
-invariant_of-self-2 c = λ e.
-    agree-back (seen c.self.inside.rows) (seen c.work_alone.new.rows) c.in_ok-txid.txid c.self.inside.queues c.bring_back.new.self c.in_ok-txid.ensures.id c.in_ok-txid.ensures.marks c.bring_back.ensures.rest
+invariant_of-self-2 g c = λ e.
+    agree-back (seen (g.R.RowStore.state c.self.inside.rows)) (seen (g.R.RowStore.state c.work_alone.new.rows)) c.in_ok-txid.txid c.self.inside.queues c.bring_back.new.self c.in_ok-txid.ensures.id c.in_ok-txid.ensures.marks c.bring_back.ensures.rest
     (c.self.invariant c.if-self.false)
 
 pub returns-clause-changed : goal.returns-clause-changed
-returns-clause-changed c =
-    let left : Database = seen_with (with_node c.self.inside.node (seen c.work_alone.new.rows)) c.bring_back.new.self in
+returns-clause-changed g c =
+    let left : Database = seen_with (with_node c.self.inside.node (seen (g.R.RowStore.state c.work_alone.new.rows))) c.bring_back.new.self in
     subst (λ (now : ℤ). left ≡ after_marks (seen_database c.args.self.now) (marks_of (maint_retry_events (seen_database c.args.self.now) now))) (to_z-of_z w64 c.args.now c.ranges.now)
     (subst (λ (v : DbView). left ≡ after_marks (seen_database v) (marks_of (maint_retry_events (seen_database v) (to_z w64 (of_z w64 c.args.now))))) c.self.view_is
-    (brought-back (seen_with (with_node c.self.inside.node (seen c.self.inside.rows)) c.self.inside.queues) left (seen c.work_alone.new.rows) (to_z w64 (of_z w64 c.args.now)) c.in_ok-txid.txid c.due_count.result
-    c.in_ok-txid.ensures.id c.due_count.ensures c.if-due_count-eq0.false c.in_ok-txid.ensures.marks (c.in_ok-count.ensures.marks (with_node c.self.inside.node (seen c.work_alone.new.rows)))))
+    (brought-back (seen_with (with_node c.self.inside.node (seen (g.R.RowStore.state c.self.inside.rows))) c.self.inside.queues) left (seen (g.R.RowStore.state c.work_alone.new.rows)) (to_z w64 (of_z w64 c.args.now)) c.in_ok-txid.txid c.due_count.result
+    c.in_ok-txid.ensures.id c.due_count.ensures c.if-due_count-eq0.false c.in_ok-txid.ensures.marks (c.in_ok-count.ensures.marks (with_node c.self.inside.node (seen (g.R.RowStore.state c.work_alone.new.rows))))))

@@ -8,11 +8,11 @@ use Rattle.pgq_db.proofs.CopySteps.{committed-as}
 use Rattle.pgq_db.proofs.db.Db.commit_copy.Goals as goal
 
 pub end_worker-requires : goal.end_worker-requires
-end_worker-requires c = subst (λ (v : DbView). contains c.args.txid (seen v.rows).workers ≡ true) (sym c.self.view_is) c.requires
+end_worker-requires g c = subst (λ (v : DbView). contains c.args.txid (seen v.rows).workers ≡ true) (sym c.self.view_is) c.requires
 
 pub invariant_of-self : goal.invariant_of-self
-invariant_of-self c = λ e.
-    agree-then (seen c.self.inside.rows) (seen c.end_worker.new.self) (ended of_worker c.args.txid true ∷ []) c.self.inside.queues c.end_worker.ensures.mark (c.self.invariant e)
+invariant_of-self g c = λ e.
+    agree-then (seen (g.R.RowStore.state c.self.inside.rows)) (seen (g.R.RowStore.state c.end_worker.new.self)) (ended of_worker c.args.txid true ∷ []) c.self.inside.queues c.end_worker.ensures.mark (c.self.invariant e)
 
 pub returns : goal.returns
-returns c = λ table. committed-as _ _ c.end_worker.new.self c.end.new.self table c.args.txid c.self.view_is c.end_worker.ensures.mark c.end.ensures
+returns g c = λ table. committed-as _ _ (g.R.RowStore.state c.end_worker.new.self) c.end.new.self table c.args.txid c.self.view_is c.end_worker.ensures.mark c.end.ensures

@@ -9,11 +9,11 @@ use Rattle.pgq_db.proofs.ApplySteps.{committed-work}
 use Rattle.pgq_db.proofs.db.Db.commit_work.Goals as goal
 
 pub end_worker-requires : goal.end_worker-requires
-end_worker-requires c = subst (λ (v : DbView). contains c.args.txid (seen v.rows).workers ≡ true) (sym c.self.view_is) c.requires
+end_worker-requires g c = subst (λ (v : DbView). contains c.args.txid (seen v.rows).workers ≡ true) (sym c.self.view_is) c.requires
 
 pub invariant_of-self : goal.invariant_of-self
-invariant_of-self c = λ e.
-    agree-then (seen c.self.inside.rows) (seen c.end_worker.new.self) (ended of_worker c.args.txid true ∷ []) c.self.inside.queues c.end_worker.ensures.mark (c.self.invariant e)
+invariant_of-self g c = λ e.
+    agree-then (seen (g.R.RowStore.state c.self.inside.rows)) (seen (g.R.RowStore.state c.end_worker.new.self)) (ended of_worker c.args.txid true ∷ []) c.self.inside.queues c.end_worker.ensures.mark (c.self.invariant e)
 
 pub returns : goal.returns
-returns c = committed-work _ _ c.end_worker.new.self c.store_tick.new.node c.args.txid (pick_of c.args.pick.now) c.args.tick c.self.view_is c.end_worker.ensures.mark c.store_tick.ensures
+returns g c = committed-work _ _ (g.R.RowStore.state c.end_worker.new.self) c.store_tick.new.node c.args.txid (pick_of c.args.pick.now) c.args.tick c.self.view_is c.end_worker.ensures.mark c.store_tick.ensures

@@ -9,12 +9,12 @@ use Rattle.pgq_db.proofs.Databases.{entered-steps}
 use Rattle.pgq_db.proofs.db.Db.enter.Goals as goal
 
 pub invariant_of-self : goal.invariant_of-self
-invariant_of-self c = λ e.
-    agree-entered (seen c.self.inside.rows) (seen c.enter.new.self) c.args.who (if c.args.outside then WhenOutside else WhenReading) c.enter.result c.self.inside.queues
+invariant_of-self g c = λ e.
+    agree-entered (seen (g.R.RowStore.state c.self.inside.rows)) (seen (g.R.RowStore.state c.enter.new.self)) c.args.who (if c.args.outside then WhenOutside else WhenReading) c.enter.result c.self.inside.queues
     c.enter.ensures.ok c.enter.ensures.err (c.self.invariant e)
 
 pub returns-clause-steps : goal.returns-clause-steps
-returns-clause-steps c =
+returns-clause-steps g c =
     entered-steps (seen_database c.args.self.now) _ c.args.who c.args.outside c.enter.result
-    (subst (λ (v : DbView). IfOk c.enter.result (λ refusal. Enters (seen v.rows) (seen c.enter.new.self) c.args.who (entry_place c.args.outside) refusal)) c.self.view_is c.enter.ensures.ok)
-    (ap (λ (v : DbView). record (seen_database v) { part = seen c.enter.new.self }) c.self.view_is)
+    (subst (λ (v : DbView). IfOk c.enter.result (λ refusal. Enters (seen v.rows) (seen (g.R.RowStore.state c.enter.new.self)) c.args.who (entry_place c.args.outside) refusal)) c.self.view_is c.enter.ensures.ok)
+    (ap (λ (v : DbView). record (seen_database v) { part = seen (g.R.RowStore.state c.enter.new.self) }) c.self.view_is)

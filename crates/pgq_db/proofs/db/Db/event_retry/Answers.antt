@@ -23,8 +23,8 @@ use Rattle.pgq_db.proofs.Looking.{looks-for}
 use Rattle.pgq_db.proofs.db.Db.event_retry.Goals as goal
 
 pub returns-in_default-2-clause-ran : goal.returns-in_default-2-clause-ran
-returns-in_default-2-clause-ran c =
-    let p : RowPart = seen c.self.inside.rows in
+returns-in_default-2-clause-ran g c =
+    let p : RowPart = seen (g.R.RowStore.state c.self.inside.rows) in
     let was : Database = seen_with (with_node c.self.inside.node p) c.self.inside.queues in (
       record {
         refused = no-event (seen_database c.args.self.now) c.args.now c.args.again.now (seen_batch c.in-Some.batch) (c.in-Some.ensures.batch ∙ ap (λ (v : DbView). batch_at v.queues c.args.again.now.batch) c.self.view_is) (sym c.is_nodes_of.ensures ∙ c.if-is_nodes_of.false)
@@ -36,8 +36,8 @@ returns-in_default-2-clause-ran c =
     )
 
 pub returns-clause-ran : goal.returns-clause-ran
-returns-clause-ran c =
-    let p : RowPart = seen c.self.inside.rows in
+returns-clause-ran g c =
+    let p : RowPart = seen (g.R.RowStore.state c.self.inside.rows) in
     let was : Database = seen_with (with_node c.self.inside.node p) c.self.inside.queues in
     let left : Database = seen_with (with_node c.self.inside.node p) c.retry.new.self in
     let b = seen_batch c.in-Some.batch in
@@ -55,26 +55,26 @@ returns-clause-ran c =
     c.in_ok-push.ensures.ok)
 
 pub invariant_of-self-in_err-push : goal.invariant_of-self-in_err-push
-invariant_of-self-in_err-push c = λ e.
-    let p : RowPart = seen c.self.inside.rows in
+invariant_of-self-in_err-push g c = λ e.
+    let p : RowPart = seen (g.R.RowStore.state c.self.inside.rows) in
     agree-stay p c.event_in.new.self c.retry.new.self c.retry.ensures.rest (agree-stay p c.self.inside.queues c.event_in.new.self c.event_in.ensures.rest (c.self.invariant e))
 
 pub invariant_of-self-in_err-retry : goal.invariant_of-self-in_err-retry
-invariant_of-self-in_err-retry c = λ e.
-    let p : RowPart = seen c.self.inside.rows in
+invariant_of-self-in_err-retry g c = λ e.
+    let p : RowPart = seen (g.R.RowStore.state c.self.inside.rows) in
     agree-stay p c.event_in.new.self c.retry.new.self c.retry.ensures.rest (agree-stay p c.self.inside.queues c.event_in.new.self c.event_in.ensures.rest (c.self.invariant e))
 
 pub invariant_of-self-2 : goal.invariant_of-self-2
-invariant_of-self-2 c = λ e.
-    let p : RowPart = seen c.self.inside.rows in
+invariant_of-self-2 g c = λ e.
+    let p : RowPart = seen (g.R.RowStore.state c.self.inside.rows) in
     agree-stay p c.event_in.new.self c.retry.new.self c.retry.ensures.rest (agree-stay p c.self.inside.queues c.event_in.new.self c.event_in.ensures.rest (c.self.invariant e))
 
 pub returns-in_default-2-clause-looks : goal.returns-in_default-2-clause-looks
-returns-in_default-2-clause-looks c =
+returns-in_default-2-clause-looks g c =
     looks-for _ _ c.self.view_is c.args.again.now.batch c.in-Some.batch c.span-span.result c.in-Some.ensures.batch c.span-span.ensures c.event_in.new.self c.event_in.ensures.others c.in_ok-found.ensures.upper
 
 pub returns-clause-looks : goal.returns-clause-looks
-returns-clause-looks c =
+returns-clause-looks g c =
     looks-for _ _ c.self.view_is c.args.again.now.batch c.in-Some.batch c.span-span.result c.in-Some.ensures.batch c.span-span.ensures c.retry.new.self
     (λ n other. ap (λ queues. reads_at queues n) c.retry.ensures.queues ∙ c.event_in.ensures.others n other)
     (subst (λ (queues : List QueueView). reads_at queues c.span-span.result.queue ≤ reads_at c.self.inside.queues.queues c.span-span.result.queue + most_in (queue_at c.self.inside.queues c.span-span.result.queue) (seen_span c.span-span.result))

@@ -8,7 +8,7 @@ use Rattle.pgq_db.proofs.db.Db.finish_batch.Goals as goal
 use Rattle.pgq_db.proofs.db.Db.finish_batch.Goals.{then-is_active, else-is_active}
 
 pub returns : goal.returns
-returns c =
+returns g c =
     let d = seen_database c.args.self.now in
     let left : Finished d (seen_database c.if-is_active.self) (d.batch c.args.id) c.in_ok-is_active.is_active =
     elim c.if-is_active.branch [

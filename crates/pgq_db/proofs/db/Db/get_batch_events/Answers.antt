@@ -12,7 +12,7 @@ use Rattle.pgq_db.proofs.Looking.{lists-reply}
 use Rattle.pgq_db.proofs.db.Db.get_batch_events.Goals as goal
 
 pub returns-in_default-clause-ran : goal.returns-in_default-clause-ran
-returns-in_default-clause-ran c = (
+returns-in_default-clause-ran g c = (
   record {
     refused = no-events (shown_by (seen_database c.args.self.now)).events c.args.id (ap (option_map (λ (events : Vec Event Global). events.items)) (sym c.in_default.is) ∙ c.in_ok-events.ensures.events);
     same = c.events_of.ensures.same;
@@ -21,14 +21,14 @@ returns-in_default-clause-ran c = (
 )
 
 pub returns-clause-ran : goal.returns-clause-ran
-returns-clause-ran c =
+returns-clause-ran g c =
     gives-events (seen_database c.args.self.now) _ c.args.who c.args.id c.new.result _ _
     (ap Some c.new.ensures ∙ ap (option_map (λ (events : Vec Event Global). events.items)) (sym c.in-Some.is) ∙ c.in_ok-events.ensures.events)
     (subst EventsHaveMoments (sym c.new.ensures) (subst (λ (found : Option (Vec Event Global)). IfSome found (λ events. EventsHaveMoments events.items)) c.in-Some.is c.in_ok-events.ensures.moments)) c.events_of.ensures.same
     c.in_ok-push.ensures.ok
 
 pub returns-clause-lists : goal.returns-clause-lists
-returns-clause-lists c =
+returns-clause-lists g c =
     lists-reply c.args.self.now.queues c.events_of.new.self.queues c.args.id (shown_by (seen_database c.args.self.now)).events c.in-Some.events.items
     (ap (option_map (λ (events : Vec Event Global). events.items)) (sym c.in-Some.is) ∙ c.in_ok-events.ensures.events)
     (subst (λ (found : Option (Vec Event Global)). IfSome found (λ events. LooksFrom c.args.self.now.queues c.events_of.new.self.queues events.items (batch_at c.args.self.now.queues c.args.id))) c.in-Some.is c.in_ok-events.ensures.lists)

@@ -11,14 +11,14 @@ use Rattle.pgq_db.proofs.Decided.{stops-there}
 use Rattle.pgq_db.proofs.db.Db.get_batch_info.Goals as goal
 
 pub returns-in_err-info : goal.returns-in_err-info
-returns-in_err-info c =
+returns-in_err-info g c =
     let d = seen_database c.args.self.now in
     let stops =
     stops-there c.in_err-info.field-0.0 d c.args.replies.now (get_batch_info d c.args.id)
-    (subst (λ (v : DbView). StopsAs c.in_err-info.field-0.0 (get_batch_info (seen_database v) c.args.id)) c.self.view_is (c.in_err-info.ensures.err (with_node c.self.inside.node (seen c.self.inside.rows)))) in
+    (subst (λ (v : DbView). StopsAs c.in_err-info.field-0.0 (get_batch_info (seen_database v) c.args.id)) c.self.view_is (c.in_err-info.ensures.err (with_node c.self.inside.node (seen (g.R.RowStore.state c.self.inside.rows))))) in
     search (rules, stops)
 
 pub returns : goal.returns
-returns c =
+returns g c =
     gives-shown (seen_database c.args.self.now) c.args.who c.args.id c.in_ok-info.info _ _
-    (subst (λ (v : DbView). get_batch_info (seen_database v) c.args.id ≡ answers (BatchInfo c.in_ok-info.info)) c.self.view_is (c.in_ok-info.ensures.ok (with_node c.self.inside.node (seen c.self.inside.rows)))) c.in_ok-push.ensures.ok
+    (subst (λ (v : DbView). get_batch_info (seen_database v) c.args.id ≡ answers (BatchInfo c.in_ok-info.info)) c.self.view_is (c.in_ok-info.ensures.ok (with_node c.self.inside.node (seen (g.R.RowStore.state c.self.inside.rows))))) c.in_ok-push.ensures.ok

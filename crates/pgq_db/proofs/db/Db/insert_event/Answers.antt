@@ -11,7 +11,7 @@ use Rattle.pgq_db.proofs.Databases.{gives-event, marked-as}
 use Rattle.pgq_db.proofs.db.Db.insert_event.Goals as goal
 
 pub returns : goal.returns
-returns c =
+returns g c =
     let whole : PlainEvent → Event = λ e. made_event e.ev_id e.ev_time e.ev_txid e.ev_type e.ev_data c.args.inserted.now.extra in
     gives-event _ _ _ _ c.args.now _ c.args.who c.args.inserted.now c.in_ok-queue.queue c.seq-seq.result c.in_ok-txid.txid (whole c.in_ok-event.event) _ _
     c.in_ok-queue.ensures.ok (sym c.is_reserved.ensures ∙ c.if-is_reserved.false) c.in_ok-txid.ensures.ok (c.seq-seq.ensures ∙ ap (λ (q : Queue). q.seq) c.queue.ensures ∙ ap (λ (v : DbView). (queue_at v.queues c.in_ok-queue.queue).seq) c.self.view_is) (omega arith)

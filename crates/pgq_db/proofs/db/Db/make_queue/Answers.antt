@@ -9,7 +9,7 @@ use Rattle.pgq_db.proofs.Results.{on-ok}
 use Rattle.pgq_db.proofs.db.Db.make_queue.Goals as goal
 
 pub returns : goal.returns
-returns c =
+returns g c =
     on-ok c.make.result c.make.ensures.mark (λ mark.
     let marked = ticked-as _ _ c.make.new.self c.in_ok-snapshot.snapshot (λ q. queued (made c.args.name c.args.txid (to_z w64 (of_z w64 c.args.now))) ∷ []) c.self.view_is
     (c.in_ok-snapshot.ensures ∙ ap (λ (v : DbView). snapshot_now (seen v.rows)) c.self.view_is) mark in

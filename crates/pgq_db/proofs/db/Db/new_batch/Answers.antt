@@ -11,7 +11,7 @@ use Rattle.pgq_db.proofs.ConsumerSteps.{next-as, gives-batch}
 use Rattle.pgq_db.proofs.db.Db.new_batch.Goals as goal
 
 pub returns : goal.returns
-returns c =
+returns g c =
     let d = seen_database c.args.self.now in
     let sub = seen_sub c.args.sub.now in
     let left : d.last_batch_id + 1 < 2 ^ 64 = grind (arith, c.last_batch.ensures, c.self.view_is) in

@@ -9,10 +9,10 @@ use Rattle.pgq_db.proofs.ConsumerSteps.{none-if, gives-new}
 use Rattle.pgq_db.proofs.db.Db.new_consumer.Goals as goal
 
 pub register-requires-clause-new : goal.register-requires-clause-new
-register-requires-clause-new c = ap (λ (v : DbView). (queue_at v.queues c.args.queue).sub c.args.consumer.now) c.self.view_is ∙ none-if _ c.requires.new
+register-requires-clause-new g c = ap (λ (v : DbView). (queue_at v.queues c.args.queue).sub c.args.consumer.now) c.self.view_is ∙ none-if _ c.requires.new
 
 pub returns : goal.returns
-returns c =
+returns g c =
     let d = seen_database c.args.self.now in
     let few : length (d.queue c.args.queue).members < 256 = grind (arith, c.consumer_count.ensures, c.most.ensures, c.if-consumer_count-most.false, c.queue.ensures, c.self.view_is) in
     let left : d.last_sub_id + 1 < 2 ^ 64 = grind (arith, c.last_sub.ensures, c.self.view_is) in

@@ -10,7 +10,7 @@ use Rattle.pgq_db.proofs.Databases.{marked-as}
 use Rattle.pgq_db.proofs.db.Db.put.Goals as goal
 
 pub returns-in_ok-put_plain-in-None : goal.returns-in_ok-put_plain-in-None
-returns-in_ok-put_plain-in-None c =
+returns-in_ok-put_plain-in-None g c =
     let e = c.args.event in
     record {
       mark = marked-as _ _ c.put_plain.new.self (λ _. put c.args.queue (full_event e)) c.self.view_is c.in_ok-put_plain-in-None.ensures.mark
@@ -18,7 +18,7 @@ returns-in_ok-put_plain-in-None c =
     }
 
 pub returns-in_ok-put_with_extra-in-Some : goal.returns-in_ok-put_with_extra-in-Some
-returns-in_ok-put_with_extra-in-Some c =
+returns-in_ok-put_with_extra-in-Some g c =
     let e = c.args.event in
     let whole : Option Extra → Event = made_event e.ev_id e.ev_time e.ev_txid e.ev_type e.ev_data in
     record {

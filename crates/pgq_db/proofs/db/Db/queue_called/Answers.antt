@@ -8,9 +8,9 @@ use Rattle.pgq_db.specs.Seen.{with_node, seen_database}
 use Rattle.pgq_db.proofs.db.Db.queue_called.Goals as goal
 
 pub returns-clause-ok : goal.returns-clause-ok
-returns-clause-ok c =
-    subst (λ (v : DbView). IfOk c.queue_called.result (λ number. queue_called c.args.queue.now (seen_database v) ≡ Ok number)) c.self.view_is (c.queue_called.ensures.ok (with_node c.self.inside.node (seen c.self.inside.rows)))
+returns-clause-ok g c =
+    subst (λ (v : DbView). IfOk c.queue_called.result (λ number. queue_called c.args.queue.now (seen_database v) ≡ Ok number)) c.self.view_is (c.queue_called.ensures.ok (with_node c.self.inside.node (seen (g.R.RowStore.state c.self.inside.rows))))
 
 pub returns-clause-err : goal.returns-clause-err
-returns-clause-err c =
-    subst (λ (v : DbView). IfErr c.queue_called.result (λ stop. StopsAs stop (queue_called c.args.queue.now (seen_database v)))) c.self.view_is (c.queue_called.ensures.err (with_node c.self.inside.node (seen c.self.inside.rows)))
+returns-clause-err g c =
+    subst (λ (v : DbView). IfErr c.queue_called.result (λ stop. StopsAs stop (queue_called c.args.queue.now (seen_database v)))) c.self.view_is (c.queue_called.ensures.err (with_node c.self.inside.node (seen (g.R.RowStore.state c.self.inside.rows))))

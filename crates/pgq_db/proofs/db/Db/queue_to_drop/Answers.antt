@@ -34,7 +34,7 @@ drops d name q found unset none untold idle =
         >> (refused_by (option_map QueueBusy (least_producer d n)) >> does_marks (Number 1) (queued (dropped n) ∷ []))))
 
 pub returns-in-Some-clause-err : goal.returns-in-Some-clause-err
-returns-in-Some-clause-err c =
+returns-in-Some-clause-err g c =
     let d = seen_database c.args.self.now in
     let count : c.consumer_count-consumers.result ≡ length (d.queue c.in_ok-queue.queue).members =
     c.consumer_count-consumers.ensures ∙ ap (λ (q : Queue). length q.members) c.queue.ensures ∙ ap (λ (v : DbView). length (queue_at v.queues c.in_ok-queue.queue).members) c.self.view_is in
@@ -43,12 +43,12 @@ returns-in-Some-clause-err c =
     (c.in-Some.ensures ∙ ap (λ (v : DbView). find (λ (t : TableTrigger). t.trigger.queue == c.in_ok-queue.queue) v.queues.triggers) c.self.view_is) c.in_ok-name.ensures
 
 pub returns-in-None-clause-triggers : goal.returns-in-None-clause-triggers
-returns-in-None-clause-triggers c =
+returns-in-None-clause-triggers g c =
     subst (λ (v : DbView). All (λ t. (t.trigger.queue == c.in_ok-queue.queue) ≡ false) v.queues.triggers) c.self.view_is
     (none-into c.in_ok-queue.queue c.self.inside.queues.triggers (ap (option_map (λ t. HasTriggers (shown_name t))) (sym c.in_default.ensures)))
 
 pub returns-in-None-clause-drops : goal.returns-in-None-clause-drops
-returns-in-None-clause-drops c =
+returns-in-None-clause-drops g c =
     let d = seen_database c.args.self.now in
     let count : c.consumer_count-consumers.result ≡ length (d.queue c.in_ok-queue.queue).members =
     c.consumer_count-consumers.ensures ∙ ap (λ (q : Queue). length q.members) c.queue.ensures ∙ ap (λ (v : DbView). length (queue_at v.queues c.in_ok-queue.queue).members) c.self.view_is in

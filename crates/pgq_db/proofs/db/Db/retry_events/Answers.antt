@@ -6,16 +6,16 @@ use Rattle.pgq_db.proofs.Daemons.{retries_end, retrying-fewer, retrying-more, re
 use Rattle.pgq_db.proofs.db.Db.retry_events.Goals as goal
 
 pub loop-smaller : goal.loop-smaller
-loop-smaller c =
+loop-smaller g c =
     retrying-fewer (seen_database c.loop.self) (seen_database c.retry_most.new.self) (to_z w64 (of_z w64 c.args.now)) (sym c.if-branch.true ∙ c.in_ok-retry_most.ensures.most) c.in_ok-retry_most.ensures.moved
 
 pub loop-preserved : goal.loop-preserved
-loop-preserved c =
+loop-preserved g c =
     retrying-more (seen_database c.args.self.now) (seen_database c.loop.self) (seen_database c.retry_most.new.self) (to_z w64 (of_z w64 c.args.now)) c.loop.invariant
     (sym c.if-branch.true ∙ c.in_ok-retry_most.ensures.most) c.in_ok-retry_most.ensures.moved
 
 pub returns : goal.returns
-returns c =
+returns g c =
     let d : Database = seen_database c.args.self.now in
     let new : Database = seen_database c.retry_most.new.self in
     subst (λ (now : ℤ). new ≡ retries_end now (length d.retries) d) (to_z-of_z w64 c.args.now c.ranges.now)

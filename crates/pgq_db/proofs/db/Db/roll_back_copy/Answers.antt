@@ -6,12 +6,12 @@ use Rattle.pgq_db.proofs.CopySteps.{aborted-as, agree-undone}
 use Rattle.pgq_db.proofs.db.Db.roll_back_copy.Goals as goal
 
 pub end_worker-requires : goal.end_worker-requires
-end_worker-requires c = subst (λ (v : DbView). contains c.args.txid (seen v.rows).workers ≡ true) (sym c.self.view_is) c.requires
+end_worker-requires g c = subst (λ (v : DbView). contains c.args.txid (seen v.rows).workers ≡ true) (sym c.self.view_is) c.requires
 
 pub invariant_of-self : goal.invariant_of-self
-invariant_of-self c = λ e.
-    agree-undone (seen c.self.inside.rows) (seen c.end_worker.new.self) c.self.inside.queues c.rolled_back.new.self c.args.txid c.end_worker.ensures.mark c.rolled_back.ensures (c.self.invariant e)
+invariant_of-self g c = λ e.
+    agree-undone (seen (g.R.RowStore.state c.self.inside.rows)) (seen (g.R.RowStore.state c.end_worker.new.self)) c.self.inside.queues c.rolled_back.new.self c.args.txid c.end_worker.ensures.mark c.rolled_back.ensures (c.self.invariant e)
 
 pub returns : goal.returns
-returns c = λ table.
-    aborted-as _ _ c.end_worker.new.self c.rolled_back.new.self c.end.new.self table c.args.txid c.self.view_is c.end_worker.ensures.mark c.rolled_back.ensures c.end.ensures
+returns g c = λ table.
+    aborted-as _ _ (g.R.RowStore.state c.end_worker.new.self) c.rolled_back.new.self c.end.new.self table c.args.txid c.self.view_is c.end_worker.ensures.mark c.rolled_back.ensures c.end.ensures

@@ -10,7 +10,7 @@ use Rattle.pgq_db.proofs.Results.{on-ok}
 use Rattle.pgq_db.proofs.db.Db.rotate.Goals as goal
 
 pub returns : goal.returns
-returns c =
+returns g c =
     let d : Database = seen_database c.args.self.now in
     let s : Database = seen_database c.end_rotation.new.self in
     on-ok c.end_rotation.result c.end_rotation.ensures

@@ -13,13 +13,13 @@ use Rattle.pgq_db.proofs.RotationSteps.{absent, switched-alone}
 use Rattle.pgq_db.proofs.db.Db.rotate_alone.Goals as goal
 
 pub invariant_of-self-2 : goal.invariant_of-self-2
-invariant_of-self-2 c = λ e.
-    agree-worked (seen c.self.inside.rows) (seen c.work_alone.new.rows) c.in_ok-txid.txid c.self.inside.queues c.switch.new.queues c.in_ok-txid.ensures.marks c.switch.ensures.rest (c.self.invariant e)
+invariant_of-self-2 g c = λ e.
+    agree-worked (seen (g.R.RowStore.state c.self.inside.rows)) (seen (g.R.RowStore.state c.work_alone.new.rows)) c.in_ok-txid.txid c.self.inside.queues c.switch.new.queues c.in_ok-txid.ensures.marks c.switch.ensures.rest (c.self.invariant e)
 
 pub returns-clause-changed : goal.returns-clause-changed
-returns-clause-changed c =
-    let p : RowPart = seen c.self.inside.rows in
-    let after : RowPart = seen c.work_alone.new.rows in
+returns-clause-changed g c =
+    let p : RowPart = seen (g.R.RowStore.state c.self.inside.rows) in
+    let after : RowPart = seen (g.R.RowStore.state c.work_alone.new.rows) in
     let d : Database = seen_with (with_node c.self.inside.node p) c.self.inside.queues in
     let left : Database = seen_with (with_node c.self.inside.node after) c.switch.new.queues in
     let none : None ≡ held_back c.args.now (d.queue c.args.queue) =

@@ -11,25 +11,25 @@ use Rattle.pgq_db.proofs.Results.{on-ok}
 use Rattle.pgq_db.proofs.db.Db.run.Goals as goal
 
 pub returns-in-Row-clause-adds : goal.returns-in-Row-clause-adds
-returns-in-Row-clause-adds c =
+returns-in-Row-clause-adds g c =
     let d : Database = seen_database c.args.self.now in
     on-ok c.step_rows.result c.step_rows.ensures.adds (subst (Adds d (seen_database c.step_rows.new.self) c.args.replies.now c.step_rows.new.replies)
     (λ i. database_turn database_by_itself d (to_z-of_z w64 c.args.now c.ranges.now i) c.args.who (sym c.in-Row.is i)))
 
 pub returns-in-Row-clause-moments : goal.returns-in-Row-clause-moments
-returns-in-Row-clause-moments c =
+returns-in-Row-clause-moments g c =
     let d : Database = seen_database c.args.self.now in
     on-ok c.step_rows.result c.step_rows.ensures.moments (subst (λ (turn : Turn). HaveMoments turn.answers)
     (λ i. database_turn database_by_itself d (to_z-of_z w64 c.args.now c.ranges.now i) c.args.who (sym c.in-Row.is i)))
 
 pub returns-in-Queue-clause-adds : goal.returns-in-Queue-clause-adds
-returns-in-Queue-clause-adds c =
+returns-in-Queue-clause-adds g c =
     let d : Database = seen_database c.args.self.now in
     on-ok c.run_on_queues.result c.run_on_queues.ensures.adds (subst (Adds d (seen_database c.run_on_queues.new.self) c.args.replies.now c.run_on_queues.new.replies)
     (λ i. database_turn database_by_itself d (to_z-of_z w64 c.args.now c.ranges.now i) c.args.who (sym c.in-Queue.is i)))
 
 pub returns-in-Queue-clause-moments : goal.returns-in-Queue-clause-moments
-returns-in-Queue-clause-moments c =
+returns-in-Queue-clause-moments g c =
     let d : Database = seen_database c.args.self.now in
     on-ok c.run_on_queues.result c.run_on_queues.ensures.moments (subst (λ (turn : Turn). HaveMoments turn.answers)
     (λ i. database_turn database_by_itself d (to_z-of_z w64 c.args.now c.ranges.now i) c.args.who (sym c.in-Queue.is i)))

@@ -13,22 +13,22 @@ use Rattle.pgq_db.proofs.Looking.{looks-then, lists-then}
 use Rattle.pgq_db.proofs.db.Db.run_on_queues.Goals as goal
 
 pub returns-clause-adds : goal.returns-clause-adds
-returns-clause-adds c =
+returns-clause-adds g c =
     let adds = adds-then (to_z w64 (of_z w64 c.args.now)) (seen_database c.args.self.now) _ _ _ _ _ _ c.in_ok-run_or_refuse.ensures.answers.0 c.in_ok-settle.ensures.adds in
     rw (to_z-of_z w64 c.args.now c.ranges.now) at adds
 
 pub returns-clause-moments : goal.returns-clause-moments
-returns-clause-moments c =
+returns-clause-moments g c =
     let d = seen_database c.args.self.now in
     subst (λ (now : ℤ). HaveMoments (database_turn database_by_itself d now c.args.who (Queue c.args.stmt.now)).answers) (to_z-of_z w64 c.args.now c.ranges.now)
     (then-moments (to_z w64 (of_z w64 c.args.now)) d _ (turn_of c.args.who (statement database_by_itself d (to_z w64 (of_z w64 c.args.now)) c.args.who (Queue c.args.stmt.now)))
     (one-moments c.args.who _ c.in_ok-run_or_refuse.ensures.answers.1) c.in_ok-run_or_refuse.ensures.answers.0.changed c.in_ok-settle.ensures.moments)
 
 pub returns-clause-looks : goal.returns-clause-looks
-returns-clause-looks c = looks-then c.args.self.now.queues c.run_or_refuse.new.self.queues c.settle.new.self.queues (Queue c.args.stmt.now) c.in_ok-run_or_refuse.ensures.looks c.in_ok-settle.ensures.reads
+returns-clause-looks g c = looks-then c.args.self.now.queues c.run_or_refuse.new.self.queues c.settle.new.self.queues (Queue c.args.stmt.now) c.in_ok-run_or_refuse.ensures.looks c.in_ok-settle.ensures.reads
 
 pub returns-clause-lists : goal.returns-clause-lists
-returns-clause-lists c =
+returns-clause-lists g c =
     let d = seen_database c.args.self.now in
     lists-then c.args.self.now.queues c.run_or_refuse.new.self.queues c.settle.new.self.queues (Queue c.args.stmt.now) (statement database_by_itself d c.args.now c.args.who (Queue c.args.stmt.now)).reply
     (subst (λ (now : ℤ). ListsLooked c.args.self.now.queues c.run_or_refuse.new.self.queues (Queue c.args.stmt.now) (statement database_by_itself d now c.args.who (Queue c.args.stmt.now)).reply) (to_z-of_z w64 c.args.now c.ranges.now) c.in_ok-run_or_refuse.ensures.lists)

@@ -16,28 +16,28 @@ use Rattle.pgq_db.proofs.Looking.{looks-none, lists-refused}
 use Rattle.pgq_db.proofs.db.Db.run_or_refuse.Goals as goal
 
 pub returns-in_ok-run_entered-in-None-clause-answers : goal.returns-in_ok-run_entered-in-None-clause-answers
-returns-in_ok-run_entered-in-None-clause-answers c =
+returns-in_ok-run_entered-in-None-clause-answers g c =
     answers-entered (seen_database c.args.self.now) (seen_database c.enter.new.self) _ _ c.args.now c.args.who (Queue c.args.stmt.now) _ _ _
     (to_z-of_z w64 c.args.now c.ranges.now) c.is_outside.ensures
     (subst (λ o. Enters (seen_database c.args.self.now).part (seen_database c.enter.new.self).part c.args.who (if c.is_outside.result then WhenOutside else WhenReading) o) c.in-None.is c.in_ok-enter.ensures.enters)
     c.in_ok-enter.ensures.but c.in_ok-run_entered-in-None.ensures.answers
 
 pub returns-in_ok-refuse-in-Some-clause-answers : goal.returns-in_ok-refuse-in-Some-clause-answers
-returns-in_ok-refuse-in-Some-clause-answers c =
+returns-in_ok-refuse-in-Some-clause-answers g c =
     answers-turned_away (seen_database c.args.self.now) (seen_database c.enter.new.self) _ c.args.now c.args.who (Queue c.args.stmt.now) _ _ _ c.in-Some.refusal c.is_outside.ensures
     (subst (λ o. Enters (seen_database c.args.self.now).part (seen_database c.enter.new.self).part c.args.who (if c.is_outside.result then WhenOutside else WhenReading) o) c.in-Some.is c.in_ok-enter.ensures.enters)
     c.in_ok-enter.ensures.but c.in_ok-refuse-in-Some.ensures.answers
 
 pub returns-in_ok-run_entered-in-None-clause-looks : goal.returns-in_ok-run_entered-in-None-clause-looks
-returns-in_ok-run_entered-in-None-clause-looks c =
+returns-in_ok-run_entered-in-None-clause-looks g c =
     subst (λ (q : QueuesView). LooksWithin q c.run_entered.new.self.queues (Queue c.args.stmt.now)) c.in_ok-enter.ensures.queues c.in_ok-run_entered-in-None.ensures.looks
 
 pub returns-in_ok-refuse-in-Some-clause-looks : goal.returns-in_ok-refuse-in-Some-clause-looks
-returns-in_ok-refuse-in-Some-clause-looks c =
+returns-in_ok-refuse-in-Some-clause-looks g c =
     looks-none c.args.self.now.queues c.refuse.new.self.queues (Queue c.args.stmt.now) (λ n. c.in_ok-refuse-in-Some.ensures.reads n ∙ ap (λ (q : QueuesView). reads_at q.queues n) c.in_ok-enter.ensures.queues)
 
 pub returns-in_ok-run_entered-in-None-clause-lists : goal.returns-in_ok-run_entered-in-None-clause-lists
-returns-in_ok-run_entered-in-None-clause-lists c =
+returns-in_ok-run_entered-in-None-clause-lists g c =
     let d = seen_database c.args.self.now in
     let s : Database = seen_database c.enter.new.self in
     let done = λ (now : ℤ). (or_refused c.args.who (s.part.session c.args.who) (form s (shown_by s) now c.args.who (Queue c.args.stmt.now))).reply in
@@ -48,7 +48,7 @@ returns-in_ok-run_entered-in-None-clause-lists c =
     c.in_ok-run_entered-in-None.ensures.lists)
 
 pub returns-in_ok-refuse-in-Some-clause-lists : goal.returns-in_ok-refuse-in-Some-clause-lists
-returns-in_ok-refuse-in-Some-clause-lists c =
+returns-in_ok-refuse-in-Some-clause-lists g c =
     let d = seen_database c.args.self.now in
     let s : Database = seen_database c.enter.new.self in
     lists-refused c.args.self.now.queues c.refuse.new.self.queues (Queue c.args.stmt.now) _ c.in-Some.refusal (reply-turned_away d s c.args.now c.args.who (Queue c.args.stmt.now) _ c.in-Some.refusal c.is_outside.ensures

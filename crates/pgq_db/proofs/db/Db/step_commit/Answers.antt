@@ -17,12 +17,12 @@ use Rattle.pgq_db.proofs.Switched.{answers-first, adds-first}
 use Rattle.pgq_db.proofs.db.Db.step_commit.Goals as goal
 
 pub invariant_of-self : goal.invariant_of-self
-invariant_of-self c = λ e. agree-stay (seen c.self.inside.rows) c.self.inside.queues c.switch_before_commit-checked.new.queues c.switch_before_commit-checked.ensures.rest (c.self.invariant e)
+invariant_of-self g c = λ e. agree-stay (seen (g.R.RowStore.state c.self.inside.rows)) c.self.inside.queues c.switch_before_commit-checked.new.queues c.switch_before_commit-checked.ensures.rest (c.self.invariant e)
 
 pub returns-clause-adds : goal.returns-clause-adds
-returns-clause-adds c =
+returns-clause-adds g c =
     let d : Database = seen_database c.args.self.now in
-    let mid : Database = seen_with (with_node c.self.inside.node (seen c.self.inside.rows)) c.switch_before_commit-checked.new.queues in
+    let mid : Database = seen_with (with_node c.self.inside.node (seen (g.R.RowStore.state c.self.inside.rows))) c.switch_before_commit-checked.new.queues in
     let first : mid ≡ after_marks d (switches_before_commit d c.args.now c.args.who) =
     c.switch_before_commit-checked.ensures.marks c.self.inside.node
     ∙ ap (λ (v : DbView). after_marks (seen_database v) (switches_before_commit (seen_database v) (to_z w64 (of_z w64 c.args.now)) c.args.who)) c.self.view_is
@@ -31,9 +31,9 @@ returns-clause-adds c =
     adds-first d mid c.args.now c.args.who first _ c.args.replies.now _ (rw (to_z-of_z w64 c.args.now c.ranges.now) at adds))
 
 pub returns-clause-moments : goal.returns-clause-moments
-returns-clause-moments c =
+returns-clause-moments g c =
     let d : Database = seen_database c.args.self.now in
-    let mid : Database = seen_with (with_node c.self.inside.node (seen c.self.inside.rows)) c.switch_before_commit-checked.new.queues in
+    let mid : Database = seen_with (with_node c.self.inside.node (seen (g.R.RowStore.state c.self.inside.rows))) c.switch_before_commit-checked.new.queues in
     let first : mid ≡ after_marks d (switches_before_commit d c.args.now c.args.who) =
     c.switch_before_commit-checked.ensures.marks c.self.inside.node
     ∙ ap (λ (v : DbView). after_marks (seen_database v) (switches_before_commit (seen_database v) (to_z w64 (of_z w64 c.args.now)) c.args.who)) c.self.view_is

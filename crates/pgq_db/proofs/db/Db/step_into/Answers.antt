@@ -7,11 +7,11 @@ use Rattle.pgq_db.proofs.Waiters.{statement-within}
 use Rattle.pgq_db.proofs.db.Db.step_into.Goals as goal
 
 pub returns-clause-within : goal.returns-clause-within
-returns-clause-within c =
+returns-clause-within g c =
     let within = statement-within (seen_database c.args.self.now) _ _ c.args.who c.args.stmt.now c.in_ok-run.ensures.adds.changed in
     rw (to_z-of_z w64 c.args.now c.ranges.now) at within
 
 pub returns-clause-steps : goal.returns-clause-steps
-returns-clause-steps c =
+returns-clause-steps g c =
     let changed = rw (to_z-of_z w64 c.args.now c.ranges.now) at c.in_ok-run.ensures.adds.changed in
     database_steps_from_exact (seen_database c.args.self.now) (seen_database c.run.new.self) (stepped c.args.who c.args.stmt.now c.args.now) changed

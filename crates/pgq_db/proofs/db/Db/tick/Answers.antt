@@ -12,12 +12,12 @@ use Rattle.pgq_db.proofs.Databases.{ticked-as, tick-stops, unmarked-as, err-and}
 use Rattle.pgq_db.proofs.db.Db.tick.Goals as goal
 
 pub returns-in_err-id-clause-err : goal.returns-in_err-id-clause-err
-returns-in_err-id-clause-err c =
+returns-in_err-id-clause-err g c =
     err-and c.from_residual-in_err-id.result c.from_residual-in_err-id.ensures.1 (λ stop. tick-stops c.tick.result c.in_err-id.field-0.0 stop _ _ _ _ c.in_err-id.was (ap (λ (v : DbView). newest_id (queue_at v.queues c.args.queue) + 1) c.self.view_is) c.tick.ensures.spent
     (unmarked-as _ _ c.tick.new.self c.self.view_is c.in_err-id.ensures.err))
 
 pub returns-clause-mark : goal.returns-clause-mark
-returns-clause-mark c =
+returns-clause-mark g c =
     ticked-as _ _ c.tick.new.self c.in_ok-snapshot.snapshot (λ (q : QueuesView). queued (ticked c.args.queue c.in_ok-id.id c.args.now (queue_at q c.args.queue).seq) ∷ []) c.self.view_is
     (c.in_ok-snapshot.ensures ∙ ap (λ (v : DbView). snapshot_now (seen v.rows)) c.self.view_is)
     (λ part snap. c.in_ok-id.ensures.mark part snap

@@ -8,7 +8,7 @@ use Rattle.pgq_db.proofs.ConsumerSteps.{counted, gives-leave, marked-if, unmarke
 use Rattle.pgq_db.proofs.db.Db.unregister_consumer.Goals as goal
 
 pub returns : goal.returns
-returns c =
+returns g c =
     gives-leave (seen_database c.args.self.now) c.args.name.now c.args.consumer.now c.in_ok-queue.queue c.in_ok-queue.ensures.ok (sym c.is_nodes.ensures ∙ c.if-is_nodes.false) _ c.args.who _ c.unregister.result _ _
     (c.unregister.ensures.was ∙ ap (λ (v : DbView). option_map Subscription.id ((queue_at v.queues c.in_ok-queue.queue).sub c.args.consumer.now)) c.self.view_is)
     (marked-if _ _ c.unregister.new.self c.unregister.result (unregistered c.in_ok-queue.queue c.args.consumer.now) c.self.view_is c.unregister.ensures.mark)

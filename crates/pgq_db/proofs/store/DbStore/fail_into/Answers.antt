@@ -11,7 +11,7 @@ use Rattle.pgq_db.proofs.Waiters.{failure-within}
 use Rattle.pgq_db.proofs.store.DbStore.fail_into.Goals as goal
 
 pub returns-clause-exact : goal.returns-clause-exact
-returns-clause-exact c =
+returns-clause-exact g c =
     let d = seen_database c.args.self.now in
     on-ok c.settle.result c.settle.ensures.adds (λ settled.
     let adds = adds-then (to_z w64 (of_z w64 c.args.now)) d (seen_database c.roll_back.new.self) _ (failing d.part c.args.who) c.args.replies.now c.args.replies.now _
@@ -19,15 +19,15 @@ returns-clause-exact c =
     rw (to_z-of_z w64 c.args.now c.ranges.now) at adds)
 
 pub returns-clause-moments : goal.returns-clause-moments
-returns-clause-moments c =
+returns-clause-moments g c =
     let d = seen_database c.args.self.now in
     on-ok c.settle.result c.settle.ensures.moments (λ settled.
     let have = then-moments (to_z w64 (of_z w64 c.args.now)) d _ (failing d.part c.args.who) (λ k a at. absurd (omega arith)) c.in_ok-roll_back.ensures.marks settled in
     rw (to_z-of_z w64 c.args.now c.ranges.now) at have)
 
 pub returns-clause-within : goal.returns-clause-within
-returns-clause-within c = on-ok c.settle.result (returns-clause-exact c) (λ adds. failure-within c.args.now (seen_database c.args.self.now) _ c.args.who adds.changed)
+returns-clause-within g c = on-ok c.settle.result (returns-clause-exact g c) (λ adds. failure-within c.args.now (seen_database c.args.self.now) _ c.args.who adds.changed)
 
 pub returns-clause-steps : goal.returns-clause-steps
-returns-clause-steps c =
-    on-ok c.settle.result (returns-clause-exact c) (λ adds. database_steps_from_exact (seen_database c.args.self.now) (seen_database c.settle.new.self) (failed c.args.who c.args.now) adds.changed)
+returns-clause-steps g c =
+    on-ok c.settle.result (returns-clause-exact g c) (λ adds. database_steps_from_exact (seen_database c.args.self.now) (seen_database c.settle.new.self) (failed c.args.who c.args.now) adds.changed)

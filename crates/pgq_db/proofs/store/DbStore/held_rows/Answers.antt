@@ -5,8 +5,8 @@ use Rattle.pgq_db.proofs.CopySteps.{held-rows-if}
 use Rattle.pgq_db.proofs.store.DbStore.held_rows.Goals as goal
 
 pub rows_under-requires : goal.rows_under-requires
-rows_under-requires c = subst (λ (v : DbView). c.args.table < length (seen v.rows).tables) (sym c.self.view_is) c.requires.there
+rows_under-requires g c = subst (λ (v : DbView). c.args.table < length (seen v.rows).tables) (sym c.self.view_is) c.requires.there
 
 pub returns : goal.returns
-returns c = λ name number.
+returns g c = λ name number.
     held-rows-if (λ rows. rows.items) c.rows_under.result _ _ name c.args.table c.self.view_is number c.held_snapshot-snapshot.result.now _ c.held_snapshot-snapshot.ensures _ c.args.most c.rows_under.ensures

@@ -6,5 +6,5 @@ use Rattle.pgq_db.proofs.Idle.{idle-until}
 use Rattle.pgq_db.proofs.store.DbStore.is_idle_until.Goals as goal
 
 pub returns-clause-until : goal.returns-clause-until
-returns-clause-until c = λ yes. idle-until (seen_database c.args.self.now) c.args.moment
+returns-clause-until g c = λ yes. idle-until (seen_database c.args.self.now) c.args.moment
     (ap (λ moment. idles_at moment (seen_database c.args.self.now)) (sym (to_z-of_z w64 c.args.moment c.ranges.moment)) ∙ sym c.idles_at.ensures ∙ yes)

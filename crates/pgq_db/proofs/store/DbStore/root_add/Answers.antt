@@ -18,17 +18,17 @@ use Rattle.sky_store.proofs.Serving.{serves-steps}
 use Rattle.pgq_db.proofs.store.DbStore.root_add.Goals as goal
 
 pub returns-in_default-clause-serves : goal.returns-in_default-clause-serves
-returns-in_default-clause-serves c = listing-nowhere (seen_database c.args.self.now) c.args.table.now c.requires.may (sym c.in_default.ensures.queue)
+returns-in_default-clause-serves g c = listing-nowhere (seen_database c.args.self.now) c.args.table.now c.requires.may (sym c.in_default.ensures.queue)
 
 pub returns-in_default-clause-steps : goal.returns-in_default-clause-steps
-returns-in_default-clause-steps c =
+returns-in_default-clause-steps g c =
     serves-steps (seen_database c.args.self.now) _ (listing c.args.table.now) (listing-nowhere (seen_database c.args.self.now) c.args.table.now c.requires.may (sym c.in_default.ensures.queue))
 
 pub schema-schema-requires : goal.schema-schema-requires
-schema-schema-requires c = table-low _ _ c.args.table.now c.args.number c.self.view_is c.requires.number
+schema-schema-requires g c = table-low _ _ c.args.table.now c.args.number c.self.view_is c.requires.number
 
 pub returns-then-trigger_count-most-clause-fault : goal.returns-then-trigger_count-most-clause-fault
-returns-then-trigger_count-most-clause-fault c =
+returns-then-trigger_count-most-clause-fault g c =
     let number = c.args.number in
     let many : 8 ≤ c.trigger_count.result = omega (arith, c.most.ensures, c.if-trigger_count-most.true) in
     record {
@@ -38,7 +38,7 @@ returns-then-trigger_count-most-clause-fault c =
     }
 
 pub returns-in-Some-least_writer-clause-serves : goal.returns-in-Some-least_writer-clause-serves
-returns-in-Some-least_writer-clause-serves c =
+returns-in-Some-least_writer-clause-serves g c =
     let d = seen_database c.args.self.now in
     let name = c.args.table.now in
     let number = c.args.number in
@@ -51,7 +51,7 @@ returns-in-Some-least_writer-clause-serves c =
     }
 
 pub returns-in-Some-least_writer-clause-steps : goal.returns-in-Some-least_writer-clause-steps
-returns-in-Some-least_writer-clause-steps c =
+returns-in-Some-least_writer-clause-steps g c =
     let d = seen_database c.args.self.now in
     let name = c.args.table.now in
     let number = c.args.number in
@@ -64,21 +64,21 @@ returns-in-Some-least_writer-clause-steps c =
     })
 
 pub invariant_of-self-in-Err : goal.invariant_of-self-in-Err
-invariant_of-self-in-Err c = λ e.
+invariant_of-self-in-Err g c = λ e.
     let there = table-there _ _ c.args.table.now c.args.number c.self.view_is c.requires.number in
     let at = there ∙ ap Some (sym (ap TableTrigger.table c.set_trigger-trigger.ensures)) in
-    agree-traced (seen c.self.inside.rows) c.self.inside.queues c.trace.new.self c.trace.ensures.rounds
-    (c.trace.ensures.tables (seen c.self.inside.rows) (is-table (seen c.self.inside.rows) c.args.table.now c.set_trigger-trigger.result.table _ _ at there c.schema-schema.ensures) (c.self.invariant e).tables) (c.self.invariant e)
+    agree-traced (seen (g.R.RowStore.state c.self.inside.rows)) c.self.inside.queues c.trace.new.self c.trace.ensures.rounds
+    (c.trace.ensures.tables (seen (g.R.RowStore.state c.self.inside.rows)) (is-table (seen (g.R.RowStore.state c.self.inside.rows)) c.args.table.now c.set_trigger-trigger.result.table _ _ at there c.schema-schema.ensures) (c.self.invariant e).tables) (c.self.invariant e)
 
 pub invariant_of-self-in_default-trace : goal.invariant_of-self-in_default-trace
-invariant_of-self-in_default-trace c = λ e.
+invariant_of-self-in_default-trace g c = λ e.
     let there = table-there _ _ c.args.table.now c.args.number c.self.view_is c.requires.number in
     let at = there ∙ ap Some (sym (ap TableTrigger.table c.set_trigger-trigger.ensures)) in
-    agree-traced (seen c.self.inside.rows) c.self.inside.queues c.trace.new.self c.trace.ensures.rounds
-    (c.trace.ensures.tables (seen c.self.inside.rows) (is-table (seen c.self.inside.rows) c.args.table.now c.set_trigger-trigger.result.table _ _ at there c.schema-schema.ensures) (c.self.invariant e).tables) (c.self.invariant e)
+    agree-traced (seen (g.R.RowStore.state c.self.inside.rows)) c.self.inside.queues c.trace.new.self c.trace.ensures.rounds
+    (c.trace.ensures.tables (seen (g.R.RowStore.state c.self.inside.rows)) (is-table (seen (g.R.RowStore.state c.self.inside.rows)) c.args.table.now c.set_trigger-trigger.result.table _ _ at there c.schema-schema.ensures) (c.self.invariant e).tables) (c.self.invariant e)
 
 pub returns-clause-serves : goal.returns-clause-serves
-returns-clause-serves c =
+returns-clause-serves g c =
     let d = seen_database c.args.self.now in
     let name = c.args.table.now in
     let number = c.args.number in
@@ -92,7 +92,7 @@ returns-clause-serves c =
     (c.in_ok-add_root_table.ensures.ok ∙ ap (λ n. after_node (set_added n) c.self.inside.node.own) c.in_ok-name.ensures))
 
 pub returns-clause-steps : goal.returns-clause-steps
-returns-clause-steps c =
+returns-clause-steps g c =
     let d = seen_database c.args.self.now in
     let name = c.args.table.now in
     let number = c.args.number in
@@ -107,10 +107,10 @@ returns-clause-steps c =
     (c.in_ok-add_root_table.ensures.ok ∙ ap (λ n. after_node (set_added n) c.self.inside.node.own) c.in_ok-name.ensures)))
 
 pub returns-in-Err-clause-fault : goal.returns-in-Err-clause-fault
-returns-in-Err-clause-fault c =
+returns-in-Err-clause-fault g c =
     let name = c.args.table.now in
     let v = c.self.inside in
-    subst (λ fault. RootRefused fault (seen_database c.args.self.now) (seen_database (record { rows = v.rows; queues = c.trace.new.self; node = record v.node { own = c.remove_root_table.new.node } })) name) (sym c.from.ensures)
+    subst (λ fault. RootRefused fault (seen_database c.args.self.now) (seen_database (record { rows = g.R.RowStore.state v.rows; queues = c.trace.new.self; node = record v.node { own = c.remove_root_table.new.node } })) name) (sym c.from.ensures)
     (back-as _ _ c.trace.new.self c.remove_root_table.new.node c.self.view_is c.in-Err.ensures.err
     (c.remove_root_table.ensures ∙ ap (after_node (set_removed name)) (c.in_ok-add_root_table.ensures.ok ∙ ap (λ n. after_node (set_added n) v.node.own) c.in_ok-name.ensures)
     ∙ set_added-back v.node.own name (subst (λ (w : DbView). may_serve (listing name) w.node.own ≡ true) (sym c.self.view_is) c.requires.may)))

@@ -4,7 +4,7 @@ use Rattle.pgq_db.specs.Views.{DbView}
 use Rattle.pgq_db.proofs.store.DbStore.schema.Goals as goal
 
 pub schema-requires : goal.schema-requires
-schema-requires c = subst (λ (v : DbView). c.args.table < length (seen v.rows).tables) (sym c.self.view_is) c.requires
+schema-requires g c = subst (λ (v : DbView). c.args.table < length (seen v.rows).tables) (sym c.self.view_is) c.requires
 
 pub returns : goal.returns
-returns c = c.schema.ensures ∙ ap (λ (v : DbView). (seen v.rows).columns c.args.table) c.self.view_is
+returns g c = c.schema.ensures ∙ ap (λ (v : DbView). (seen v.rows).columns c.args.table) c.self.view_is

@@ -11,23 +11,23 @@ use Rattle.pgq_db.specs.Seen.{seen_database}
 use Rattle.pgq_db.proofs.store.DbStore.step_into.Goals as goal
 
 pub returns-clause-exact : goal.returns-clause-exact
-returns-clause-exact c =
+returns-clause-exact g c =
     let d = seen_database c.args.self.now in
     subst (λ now. OnOk c.step_into.result (Adds d (seen_database c.step_into.new.self) c.args.replies.now c.step_into.new.replies (database_turn database_by_itself d now c.args.who c.args.stmt.now))) (to_z-of_z w64 c.args.now c.ranges.now)
     c.step_into.ensures.exact
 
 pub returns-clause-moments : goal.returns-clause-moments
-returns-clause-moments c =
+returns-clause-moments g c =
     subst (λ now. OnOk c.step_into.result (HaveMoments (database_turn database_by_itself (seen_database c.args.self.now) now c.args.who c.args.stmt.now).answers)) (to_z-of_z w64 c.args.now c.ranges.now) c.step_into.ensures.moments
 
 pub returns-clause-within : goal.returns-clause-within
-returns-clause-within c =
+returns-clause-within g c =
     let d = seen_database c.args.self.now in
     subst (λ now. OnOk c.step_into.result (StaysWithin d (seen_database c.step_into.new.self) c.args.who (database_turn database_by_itself d now c.args.who c.args.stmt.now).answers)) (to_z-of_z w64 c.args.now c.ranges.now)
     c.step_into.ensures.within
 
 pub returns-clause-steps : goal.returns-clause-steps
-returns-clause-steps c =
+returns-clause-steps g c =
     let d = seen_database c.args.self.now in
     subst (λ now. OnOk c.step_into.result (DatabaseSteps d (seen_database c.step_into.new.self) (stepped c.args.who c.args.stmt.now now) (database_turn database_by_itself d now c.args.who c.args.stmt.now))) (to_z-of_z w64 c.args.now c.ranges.now)
     c.step_into.ensures.steps

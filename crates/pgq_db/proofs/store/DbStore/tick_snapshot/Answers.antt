@@ -4,6 +4,6 @@ use Rattle.pgq_db.proofs.ProviderSteps.{snapshot-as}
 use Rattle.pgq_db.proofs.store.DbStore.tick_snapshot.Goals as goal
 
 pub returns : goal.returns
-returns c =
+returns g c =
     snapshot-as _ _ c.provided_queue.result c.args.tick _ _ _ c.self.view_is c.provided_queue.ensures.queue c.queue-queue.ensures c.ticks.ensures
     (ap Some c.snapshot.ensures ∙ ap (option_map Tick.snapshot) c.in_ok-tick.ensures)

@@ -7,8 +7,8 @@ use Rattle.sky_model.specs.Gates.{by_gate}
 use Rattle.sky_model.specs.Rooms.{room_of}
 use Rattle.sky_model.specs.RowCalls.{row_failed}
 use Rattle.sky_histories.proofs.RowCallStanding.{gated_fail_from_exact}
-use Rattle.sky_session.specs.declared.answer.RowStep.{RowStep}
-use Rattle.sky_session.specs.Gives.{Adds, Settles}
+use Rattle.sky_row_store.specs.declared.row_step.RowStep.{RowStep}
+use Rattle.sky_row_store.specs.Gives.{Adds, Settles}
 use Rattle.sky_state.specs.Views.{RowStateView}
 use Rattle.sky_state.specs.Seen.{seen}
 use Rattle.sky_session.proofs.Steps.{adds-failing, adds-settled}
