@@ -1,5 +1,4 @@
 use crate::runs::Runs;
-use crate::streams;
 use anyhow::bail;
 use std::alloc::Global;
 use trials::{Tables, first_word};
@@ -22,7 +21,6 @@ impl Tables for RunTables {
     fn answer(&mut self, alloc: Global, table: &str, row: &str) -> anyhow::Result<String> {
         let (command, rest) = first_word(row);
         match table {
-            "streams.txt" => streams::answer(alloc, command, rest),
             "runs.txt" => self.runs.answer(alloc, command, rest),
             _ => bail!("no trials of this name"),
         }

@@ -1,4 +1,4 @@
-//! Runs the tables of cases of values and texts, and the settings and ticks of a queue.
+//! Runs the tables of cases of values and texts, sources and sinks, and the settings and ticks of a queue.
 #![tactic(auto)]
 
 mod copies;
@@ -6,6 +6,7 @@ mod encoding;
 mod lines;
 mod settings;
 mod states;
+mod streams;
 mod tables;
 mod ticks;
 

@@ -1,7 +1,7 @@
 use crate::encoding::Encoding;
 use crate::settings::Settings;
 use crate::ticks::Kept;
-use crate::{copies, lines, states};
+use crate::{copies, lines, states, streams};
 use anyhow::bail;
 use std::alloc::Global;
 use trials::{Tables, first_word};
@@ -34,6 +34,7 @@ impl Tables for ValueTables {
             "lines.txt" => lines::answer(alloc, command, rest),
             "settings.txt" => self.settings.answer(alloc, command, rest),
             "ticks.txt" => self.ticks.answer(alloc, command, rest),
+            "streams.txt" => streams::answer(alloc, command, rest),
             _ => bail!("no trials of this name"),
         }
     }
