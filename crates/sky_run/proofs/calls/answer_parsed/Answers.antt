@@ -1,4 +1,4 @@
-use Rattle.std.proofs.Common.{ℕ, Result, Err, subst}
+use Rattle.std.proofs.Common.{Result, subst}
 use Rattle.sky_model.specs.declared.stmt.Stmt.{Stmt}
 use Rattle.sky_script.specs.declared.cause.LineCause.{LineCause}
 use Rattle.sky_script.specs.Reading.{IsAnswer}

@@ -1,5 +1,5 @@
-use Rattle.std.proofs.Common.{Ok, Err, refl, ap, sym, ◌∙◌}
-use Rattle.sky_model.specs.Grammar.{line_of, line_of_words, run_of, statement_of}
+use Rattle.std.proofs.Common.{ap, sym, ◌∙◌}
+use Rattle.sky_model.specs.Grammar.{line_of_words, statement_of}
 use Rattle.sky_run.proofs.ParsedLemmas.{run_in_form}
 use Rattle.sky_run.proofs.calls.answer_text.Goals as goal
 

@@ -1,4 +1,4 @@
-use Rattle.std.proofs.Common.{Ok, Err, refl, ◌∙◌, ap}
+use Rattle.std.proofs.Common.{Err, refl}
 use Rattle.sky_run.proofs.ParsedLemmas.{Tells-parsed, said_in-utf8, said_in-not_utf8}
 use Rattle.sky_run.proofs.run.Run.answer.Goals as goal
 
