@@ -13,7 +13,6 @@ use Rattle.sky_histories.proofs.MadeCopies.{made-after}
 use Rattle.londiste_calls.specs.declared.faults.ApplyFault.{ApplyFault}
 use Rattle.londiste_calls.specs.declared.faults.ApplyFault.TheVariants as fault
 use Rattle.sky_store.specs.Applying.{ApplyRefused}
-use Rattle.pgq_db.specs.Seen.{seen_database}
 use Rattle.trials_databases.specs.Views.{ReplicaView}
 
 -- after one more call, unless it failed, as a test says
@@ -32,5 +31,5 @@ made-applied (Err (fault.BadEvent id)) test old new events pick tick made steps 
 made-applied (Err fault.NoMemory) test old new events pick tick made steps refused ran whole = let out = ran refl in absurd (cc)
 
 -- a table's number, as it is seen and as it is kept
-pub number-inside : (v now : ReplicaView) (name : List ℕ) (table : ℕ) → v ≡ now → table_number (seen_database now.db) name ≡ Some table → table_number (seen_database v.db) name ≡ Some table
-number-inside v now name table same number = subst (λ (r : ReplicaView). table_number (seen_database r.db) name ≡ Some table) (sym same) number
+pub number-inside : {D : Type 0} (seen : D → Database) (v now : ReplicaView D) (name : List ℕ) (table : ℕ) → v ≡ now → table_number (seen now.db) name ≡ Some table → table_number (seen v.db) name ≡ Some table
+number-inside {D} seen v now name table same number = subst (λ (r : ReplicaView D). table_number (seen r.db) name ≡ Some table) (sym same) number

@@ -1,23 +1,21 @@
 ghost use Rattle.std.specs.Prelude.{◌≡◌, true, OnOk, is_some};
 ghost use Rattle.sky_model.specs.StepApply.{may_apply, kept_snapshot};
 ghost use Rattle.londiste_calls.specs.Picks.{pick_of};
-ghost use Rattle.pgq_db.specs.Seen.{seen_database};
 
+use crate::event_store::EventStore;
 use crate::replica::Replica;
 use crate::{leaf_copies, leaves};
 use anyhow::bail;
 use londiste_calls::Pick;
 use londiste_state::{Leaf, Node};
-use pgq_db::{Db, Store};
-use sky_session::RowDb;
 use sky_val::{Event, Text};
 use std::alloc::Global;
 use trials::{first_number, first_word, no_command, shown};
 
 /// What the database of a leaf answers to a command, to which batches are applied.
-pub fn answer(
+pub fn answer<D: EventStore>(
     alloc: Global,
-    db: &mut Replica,
+    db: &mut Replica<D>,
     command: &str,
     words: &str,
 ) -> anyhow::Result<String> {
@@ -30,7 +28,7 @@ pub fn answer(
     }
 }
 
-fn apply(alloc: Global, db: &mut Replica, words: &str) -> anyhow::Result<String> {
+fn apply<D: EventStore>(alloc: Global, db: &mut Replica<D>, words: &str) -> anyhow::Result<String> {
     let (pick, words) = first_word(words);
     let (tick, words) = first_number(words)?;
     let pick = pick_in(alloc, pick)?;
@@ -89,8 +87,8 @@ fn text_in(alloc: Global, word: &str) -> anyhow::Result<Option<Text>> {
 }
 
 // Whether the node is a leaf, and the table that is picked was copied.
-fn check_pick(db: &Db<RowDb>, pick: &Pick) -> anyhow::Result<()>
-    ensures { OnOk result (may_apply (pick_of pick.now) (seen_database db.now).node ≡ true) }
+fn check_pick<D: EventStore>(db: &D, pick: &Pick) -> anyhow::Result<()>
+    ensures { OnOk result (may_apply (pick_of pick.now) (D.seen db.now).node ≡ true) }
 {
     let Some(Node::Leaf(leaf)) = db.node() else {
         bail!("no leaf");

@@ -2,14 +2,12 @@ ghost use Rattle.std.specs.Prelude.{◌≡◌, true, IfOk, OnOk, Some};
 ghost use Rattle.sky_model.specs.StepCopy.{all_fit};
 ghost use Rattle.sky_model.specs.StepNode.{table_number, may_copy};
 ghost use Rattle.sky_store.specs.Copying.{MayCopy};
-ghost use Rattle.pgq_db.specs.Seen.{seen_database};
 
+use crate::event_store::EventStore;
 use crate::nodes::number_of;
 use crate::replica::Replica;
 use anyhow::bail;
 use londiste_state::{Node, TableState};
-use pgq_db::{Db, Store};
-use sky_session::RowDb;
 use sky_txid::Snapshot;
 use sky_urlenc::decode_row;
 use sky_val::{Row, Schema, Text};
@@ -17,9 +15,9 @@ use std::alloc::Global;
 use trials::{first_number, first_word, no_command, ok, shown};
 
 /// What the database of a leaf answers to a command of the copy of a table.
-pub fn answer(
+pub fn answer<D: EventStore>(
     alloc: Global,
-    db: &mut Replica,
+    db: &mut Replica<D>,
     command: &str,
     words: &str,
 ) -> anyhow::Result<String> {
@@ -35,12 +33,16 @@ pub fn answer(
     }
 }
 
-fn copy_of(alloc: Global, db: &Db<RowDb>, table: &Text) -> anyhow::Result<String> {
+fn copy_of<D: EventStore>(alloc: Global, db: &D, table: &Text) -> anyhow::Result<String> {
     let number = number_of(db, table)?;
     shown(alloc, Ok(db.copy_of(number)))
 }
 
-fn copy_begin(alloc: Global, db: &mut Replica, table: &Text) -> anyhow::Result<String> {
+fn copy_begin<D: EventStore>(
+    alloc: Global,
+    db: &mut Replica<D>,
+    table: &Text,
+) -> anyhow::Result<String> {
     let number = number_in_copy(db.db(), table)?;
     if db.db().copy_of(number).is_some() {
         bail!("a copy runs");
@@ -48,13 +50,23 @@ fn copy_begin(alloc: Global, db: &mut Replica, table: &Text) -> anyhow::Result<S
     shown(alloc, Ok(db.copy_begin(number)))
 }
 
-fn copy_rows(alloc: Global, db: &mut Replica, table: &Text, words: &str) -> anyhow::Result<String> {
+fn copy_rows<D: EventStore>(
+    alloc: Global,
+    db: &mut Replica<D>,
+    table: &Text,
+    words: &str,
+) -> anyhow::Result<String> {
     let number = number_in_copy(db.db(), table)?;
     let rows = rows_in(alloc, db.db().schema(number), words)?;
     shown(alloc, db.copy_rows(number, rows))
 }
 
-fn copy_end(alloc: Global, db: &mut Replica, table: &Text, words: &str) -> anyhow::Result<String> {
+fn copy_end<D: EventStore>(
+    alloc: Global,
+    db: &mut Replica<D>,
+    table: &Text,
+    words: &str,
+) -> anyhow::Result<String> {
     let (snapshot, words) = first_word(words);
     let snapshot = Snapshot::parse(alloc, snapshot.as_bytes())?;
     let (tick, _) = first_number(words)?;
@@ -65,25 +77,29 @@ fn copy_end(alloc: Global, db: &mut Replica, table: &Text, words: &str) -> anyho
     )
 }
 
-fn copy_drop(alloc: Global, db: &mut Replica, table: &Text) -> anyhow::Result<String> {
+fn copy_drop<D: EventStore>(
+    alloc: Global,
+    db: &mut Replica<D>,
+    table: &Text,
+) -> anyhow::Result<String> {
     let number = number_in_copy(db.db(), table)?;
     db.copy_drop(number)?;
     ok(alloc)
 }
 
 // The number of a table of the leaf that is in the state for a copy.
-fn number_in_copy(db: &Db<RowDb>, table: &Text) -> anyhow::Result<u32>
-    ensures number { IfOk result (λ number. table_number (seen_database db.now) table.now ≡ Some number) }
-    ensures named { OnOk result (may_copy table.now (seen_database db.now).node ≡ true) }
-    ensures may { IfOk result (λ number. MayCopy (seen_database db.now) number) }
+fn number_in_copy<D: EventStore>(db: &D, table: &Text) -> anyhow::Result<u32>
+    ensures number { IfOk result (λ number. table_number (D.seen db.now) table.now ≡ Some number) }
+    ensures named { OnOk result (may_copy table.now (D.seen db.now).node ≡ true) }
+    ensures may { IfOk result (λ number. MayCopy (D.seen db.now) number) }
 {
     check_in_copy(db, table)?;
     number_of(db, table)
 }
 
 // Whether a table of the leaf is in the state for a copy.
-fn check_in_copy(db: &Db<RowDb>, table: &Text) -> anyhow::Result<()>
-    ensures { OnOk result (may_copy table.now (seen_database db.now).node ≡ true) }
+fn check_in_copy<D: EventStore>(db: &D, table: &Text) -> anyhow::Result<()>
+    ensures { OnOk result (may_copy table.now (D.seen db.now).node ≡ true) }
 {
     let Some(Node::Leaf(leaf)) = db.node() else {
         return Err(no_command());

@@ -1,17 +1,18 @@
+use crate::event_store::EventStore;
 use crate::nodes::number_of;
 use crate::replica::Replica;
 use crate::statements::statement;
 use anyhow::bail;
 use londiste_state::{Node, TableState};
-use pgq_db::Store;
+use sky_model::Replies;
 use sky_val::Text;
 use std::alloc::Global;
 use trials::{first_number, first_word, line, no_command, ok, shown};
 
 /// What the database of a leaf answers to a command.
-pub fn answer(
+pub fn answer<D: EventStore>(
     alloc: Global,
-    db: &mut Replica,
+    db: &mut Replica<D>,
     command: &str,
     words: &str,
 ) -> anyhow::Result<String> {
@@ -25,14 +26,20 @@ pub fn answer(
     }
 }
 
-fn step(alloc: Global, db: &mut Replica, words: &str) -> anyhow::Result<String> {
+fn step<D: EventStore>(alloc: Global, db: &mut Replica<D>, words: &str) -> anyhow::Result<String> {
     let (who, words) = first_number(words)?;
     let line = line(alloc, words)?;
     let stmt = statement(&line)?;
-    shown(alloc, db.step(who, stmt))
+    let mut replies = Replies::new(alloc);
+    db.step(who, stmt, &mut replies)?;
+    shown(alloc, Ok(replies))
 }
 
-fn make_leaf(alloc: Global, db: &mut Replica, words: &str) -> anyhow::Result<String> {
+fn make_leaf<D: EventStore>(
+    alloc: Global,
+    db: &mut Replica<D>,
+    words: &str,
+) -> anyhow::Result<String> {
     let (tick, words) = first_number(words)?;
     let (name, provider) = first_word(words);
     let name = Text::from_str(alloc, name)?;
@@ -44,7 +51,11 @@ fn make_leaf(alloc: Global, db: &mut Replica, words: &str) -> anyhow::Result<Str
 }
 
 // A table joins the leaf. That it leaves is tried by scripts.
-fn leaf_add(alloc: Global, db: &mut Replica, table: &str) -> anyhow::Result<String> {
+fn leaf_add<D: EventStore>(
+    alloc: Global,
+    db: &mut Replica<D>,
+    table: &str,
+) -> anyhow::Result<String> {
     let table = Text::from_str(alloc, table)?;
     let number = number_of(db.db(), &table)?;
     let Some(Node::Leaf(leaf)) = db.db().node() else {
@@ -57,7 +68,11 @@ fn leaf_add(alloc: Global, db: &mut Replica, table: &str) -> anyhow::Result<Stri
 }
 
 // A table of the leaf goes to a state.
-fn set_state(alloc: Global, db: &mut Replica, words: &str) -> anyhow::Result<String> {
+fn set_state<D: EventStore>(
+    alloc: Global,
+    db: &mut Replica<D>,
+    words: &str,
+) -> anyhow::Result<String> {
     let (table, to) = first_word(words);
     let name = Text::from_str(alloc, table)?;
     let to = TableState::parse(to.as_bytes())?;

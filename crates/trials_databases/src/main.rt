@@ -3,6 +3,7 @@
 
 mod applies;
 mod databases;
+mod event_store;
 mod leaf_copies;
 mod leaves;
 mod nodes;

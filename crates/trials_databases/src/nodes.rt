@@ -1,29 +1,28 @@
 ghost use Rattle.std.specs.Prelude.{◌≡◌, Some, IfOk};
 ghost use Rattle.sky_model.specs.StepNode.{table_number};
-ghost use Rattle.pgq_db.specs.Seen.{seen_database};
 
+use crate::event_store::EventStore;
 use crate::replica::Replica;
 use crate::statements::statement;
 use crate::{leaves, providers};
 use anyhow::bail;
 use londiste_state::Node;
-use pgq_db::{Db, Store};
-use sky_session::RowDb;
+use sky_model::Replies;
 use sky_val::{Schema, Text};
 use std::alloc::Global;
 use trials::{first_number, first_word, line, no_command, ok, shown};
 
 /// The databases of a root and of a leaf.
 #[derive(Drop)]
-pub struct Nodes {
-    root: Db<RowDb>,
-    leaf: Replica,
+pub struct Nodes<D: EventStore> {
+    root: D,
+    leaf: Replica<D>,
 }
 
-impl Nodes {
-    pub fn new(alloc: Global) -> Nodes {
+impl<D: EventStore> Nodes<D> {
+    pub fn new(alloc: Global) -> Nodes<D> {
         Nodes {
-            root: Db::new(alloc),
+            root: D::new(alloc),
             leaf: Replica::new(alloc),
         }
     }
@@ -39,7 +38,12 @@ impl Nodes {
 }
 
 // What the database of the root answers to a command.
-fn answer(alloc: Global, db: &mut Db<RowDb>, command: &str, words: &str) -> anyhow::Result<String> {
+fn answer<D: EventStore>(
+    alloc: Global,
+    db: &mut D,
+    command: &str,
+    words: &str,
+) -> anyhow::Result<String> {
     match command {
         "step" => step(alloc, db, words),
         "node" => shown(alloc, Ok(db.node())),
@@ -56,15 +60,17 @@ fn answer(alloc: Global, db: &mut Db<RowDb>, command: &str, words: &str) -> anyh
     }
 }
 
-fn step(alloc: Global, db: &mut Db<RowDb>, words: &str) -> anyhow::Result<String> {
+fn step<D: EventStore>(alloc: Global, db: &mut D, words: &str) -> anyhow::Result<String> {
     let (who, words) = first_number(words)?;
     let line = line(alloc, words)?;
     let stmt = statement(&line)?;
-    shown(alloc, db.step(who, stmt, 0))
+    let mut replies = Replies::new(alloc);
+    db.step_into(who, stmt, 0, &mut replies)?;
+    shown(alloc, Ok(replies))
 }
 
 // The clock is at its start.
-fn make_root(alloc: Global, db: &mut Db<RowDb>, words: &str) -> anyhow::Result<String> {
+fn make_root<D: EventStore>(alloc: Global, db: &mut D, words: &str) -> anyhow::Result<String> {
     let (name, queue) = first_word(words);
     let name = Text::from_str(alloc, name)?;
     let queue = Text::from_str(alloc, queue)?;
@@ -75,9 +81,9 @@ fn make_root(alloc: Global, db: &mut Db<RowDb>, words: &str) -> anyhow::Result<S
 }
 
 // A table joins the root's set, or leaves it.
-fn move_table(
+fn move_table<D: EventStore>(
     alloc: Global,
-    db: &mut Db<RowDb>,
+    db: &mut D,
     command: &str,
     words: &str,
 ) -> anyhow::Result<String> {
@@ -88,7 +94,7 @@ fn move_table(
     }
 }
 
-fn root_add(alloc: Global, db: &mut Db<RowDb>, table: &Text) -> anyhow::Result<String> {
+fn root_add<D: EventStore>(alloc: Global, db: &mut D, table: &Text) -> anyhow::Result<String> {
     let number = number_of(db, table)?;
     let Some(Node::Root(root)) = db.node() else {
         return Err(no_command());
@@ -99,7 +105,7 @@ fn root_add(alloc: Global, db: &mut Db<RowDb>, table: &Text) -> anyhow::Result<S
     shown(alloc, Ok(db.root_add(table, number)))
 }
 
-fn root_drop(alloc: Global, db: &mut Db<RowDb>, table: &Text) -> anyhow::Result<String> {
+fn root_drop<D: EventStore>(alloc: Global, db: &mut D, table: &Text) -> anyhow::Result<String> {
     let Some(Node::Root(root)) = db.node() else {
         return Err(no_command());
     };
@@ -112,8 +118,8 @@ fn root_drop(alloc: Global, db: &mut Db<RowDb>, table: &Text) -> anyhow::Result<
 }
 
 /// The number of a table of the database.
-pub fn number_of(db: &Db<RowDb>, table: &Text) -> anyhow::Result<u32>
-    ensures { IfOk result (λ number. table_number (seen_database db.now) table.now ≡ Some number) }
+pub fn number_of<D: EventStore>(db: &D, table: &Text) -> anyhow::Result<u32>
+    ensures { IfOk result (λ number. table_number (D.seen db.now) table.now ≡ Some number) }
 {
     match db.table(table) {
         Some((number, _)) => Ok(number),

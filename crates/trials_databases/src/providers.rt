@@ -1,19 +1,18 @@
 ghost use Rattle.std.specs.Prelude.{◌≡◌, true, IfOk, IfSome, OnOk, is_some};
 ghost use Rattle.sky_model.specs.StepNode.{set_queue};
-ghost use Rattle.pgq_db.specs.Seen.{seen_database};
 
+use crate::event_store::EventStore;
 use anyhow::bail;
 use londiste_calls::JoinFault;
-use pgq_db::{Db, NodeBatch, Store};
-use sky_session::RowDb;
+use pgq_db::NodeBatch;
 use sky_val::{Event, Text};
 use std::alloc::Global;
 use trials::{no_command, ok, shown};
 
 /// What a root's database answers to a command of a consumer, or of a tick.
-pub fn answer(
+pub fn answer<D: EventStore>(
     alloc: Global,
-    db: &mut Db<RowDb>,
+    db: &mut D,
     command: &str,
     words: &str,
 ) -> anyhow::Result<String> {
@@ -27,9 +26,9 @@ pub fn answer(
     }
 }
 
-fn answer_to(
+fn answer_to<D: EventStore>(
     alloc: Global,
-    db: &mut Db<RowDb>,
+    db: &mut D,
     command: &str,
     consumer: &Text,
 ) -> anyhow::Result<String> {
@@ -48,16 +47,16 @@ fn answer_to(
     }
 }
 
-fn snapshot(alloc: Global, db: &Db<RowDb>, words: &str) -> anyhow::Result<String> {
+fn snapshot<D: EventStore>(alloc: Global, db: &D, words: &str) -> anyhow::Result<String> {
     let tick = words.parse::<u64>()?;
     check_provider(db)?;
     shown(alloc, Ok(db.tick_snapshot(tick)))
 }
 
 // The batch of a consumer. If it may not join once more, it is registered.
-fn fetch(db: &mut Db<RowDb>, consumer: &Text) -> anyhow::Result<Option<NodeBatch>>
-    requires { is_some (set_queue (seen_database db.old)) ≡ true }
-    ensures { IfOk result (λ batch. IfSome batch (λ b. is_some ((seen_database db.new).batch b.id) ≡ true)) }
+fn fetch<D: EventStore>(db: &mut D, consumer: &Text) -> anyhow::Result<Option<NodeBatch>>
+    requires { is_some (set_queue (D.seen db.old)) ≡ true }
+    ensures { IfOk result (λ batch. IfSome batch (λ b. is_some ((D.seen db.new).batch b.id) ≡ true)) }
 {
     match db.join(consumer) {
         Err(JoinFault::ConsumerExists) => {
@@ -69,8 +68,8 @@ fn fetch(db: &mut Db<RowDb>, consumer: &Text) -> anyhow::Result<Option<NodeBatch
 }
 
 // The events of its batch.
-fn events(db: &mut Db<RowDb>, consumer: &Text) -> anyhow::Result<Vec<Event>>
-    requires { is_some (set_queue (seen_database db.old)) ≡ true }
+fn events<D: EventStore>(db: &mut D, consumer: &Text) -> anyhow::Result<Vec<Event>>
+    requires { is_some (set_queue (D.seen db.old)) ≡ true }
 {
     let Some(batch) = fetch(db, consumer)? else {
         bail!("no batch");
@@ -79,8 +78,8 @@ fn events(db: &mut Db<RowDb>, consumer: &Text) -> anyhow::Result<Vec<Event>>
     Ok(db.batch_events(batch.id)?)
 }
 
-fn finish(alloc: Global, db: &mut Db<RowDb>, consumer: &Text) -> anyhow::Result<String>
-    requires { is_some (set_queue (seen_database db.old)) ≡ true }
+fn finish<D: EventStore>(alloc: Global, db: &mut D, consumer: &Text) -> anyhow::Result<String>
+    requires { is_some (set_queue (D.seen db.old)) ≡ true }
 {
     let Some(batch) = fetch(db, consumer)? else {
         bail!("no batch");
@@ -91,8 +90,8 @@ fn finish(alloc: Global, db: &mut Db<RowDb>, consumer: &Text) -> anyhow::Result<
 }
 
 // Whether the database is a root's.
-fn check_provider(db: &Db<RowDb>) -> anyhow::Result<()>
-    ensures { OnOk result (is_some (set_queue (seen_database db.now)) ≡ true) }
+fn check_provider<D: EventStore>(db: &D) -> anyhow::Result<()>
+    ensures { OnOk result (is_some (set_queue (D.seen db.now)) ≡ true) }
 {
     if !db.is_provider() {
         bail!("no root");

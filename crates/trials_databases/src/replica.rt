@@ -5,13 +5,11 @@ ghost use Rattle.sky_model.specs.StepCopy.{all_fit};
 ghost use Rattle.sky_model.specs.StepNode.{table_number, may_copy, may_serve, adding, applying, moving};
 ghost use Rattle.londiste_calls.specs.Picks.{pick_of};
 ghost use Rattle.sky_store.specs.Copying.{MayCopy};
-ghost use Rattle.pgq_db.specs.Seen.{seen_database};
 
+use crate::event_store::EventStore;
 use londiste_calls::{ApplyFault, CopyFault, Pick};
 use londiste_state::TableState;
-use pgq_db::{Db, Store};
 use sky_model::{DbStmt, Replies};
-use sky_session::RowDb;
 use sky_txid::Snapshot;
 use sky_val::{Event, NoMemory, Row, SessionId, Text};
 use std::alloc::{AllocError, Global};
@@ -20,55 +18,59 @@ use std::marker::Model;
 /// The database of a leaf, which calls have made. Once memory has run out in one of them nothing is said of it, and no
 /// call is made any more.
 #[derive(Drop)]
-pub struct Replica {
-    db: Db<RowDb>,
+pub struct Replica<D: EventStore> {
+    db: D,
     has_failed: bool,
 }
 
-impl Model for Replica {
+impl<D: EventStore> Model for Replica<D> {
     ghost use Rattle.std.specs.Prelude.{◌≡◌, false};
     ghost use Rattle.sky_model.specs.DatabaseSteps.{IsMade};
-    ghost use Rattle.pgq_db.specs.Seen.{seen_database};
     ghost use Rattle.trials_databases.specs.Views.{ReplicaView};
 
-    ghost Value = { ReplicaView };
+    ghost Value = { ReplicaView D };
 
     ghost view = { λ r. record { db = r.db; has_failed = r.has_failed } };
 
-    ghost invariant = { λ r. r.has_failed ≡ false → IsMade (seen_database r.db) };
+    ghost invariant = { λ r. r.has_failed ≡ false → IsMade (D.seen r.db) };
 }
 
-impl Replica {
+impl<D: EventStore> Replica<D> {
     /// One in which nothing has happened.
-    pub fn new(alloc: Global) -> Replica {
+    pub fn new(alloc: Global) -> Replica<D> {
         Replica {
-            db: Db::new(alloc),
+            db: D::new(alloc),
             has_failed: false,
         }
     }
 
     /// The database.
-    pub fn db(&self) -> &Db<RowDb>
+    pub fn db(&self) -> &D
         ensures { result.now ≡ self.now.db }
     {
         &self.db
     }
 
     /// Runs a statement of a session. The clock is at its start.
-    pub fn step(&mut self, who: SessionId, stmt: &DbStmt) -> Result<Replies, NoMemory>
+    pub fn step(
+        &mut self,
+        who: SessionId,
+        stmt: &DbStmt,
+        replies: &mut Replies,
+    ) -> Result<(), NoMemory>
         requires { IsDbInForm stmt.now }
     {
         if self.has_failed {
             return Err(AllocError);
         }
-        let stepped = self.db.step(who, stmt, 0);
+        let stepped = self.db.step_into(who, stmt, 0, replies);
         self.has_failed = stepped.is_err();
         stepped
     }
 
     /// Makes the leaf.
     pub fn make_leaf(&mut self, name: &Text, provider: &Text, tick: u64) -> Result<(), NoMemory>
-        requires { (seen_database self.old.db).node ≡ None }
+        requires { (D.seen self.old.db).node ≡ None }
     {
         if self.has_failed {
             return Err(AllocError);
@@ -80,8 +82,8 @@ impl Replica {
 
     /// Adds a table to the leaf.
     pub fn leaf_add(&mut self, table: &Text, number: u32) -> Result<Option<u64>, NoMemory>
-        requires number { table_number (seen_database self.old.db) table.now ≡ Some number }
-        requires may { may_serve (adding table.now) (seen_database self.old.db).node ≡ true }
+        requires number { table_number (D.seen self.old.db) table.now ≡ Some number }
+        requires may { may_serve (adding table.now) (D.seen self.old.db).node ≡ true }
     {
         if self.has_failed {
             return Err(AllocError);
@@ -93,8 +95,8 @@ impl Replica {
 
     /// Sets the state of a table.
     pub fn set_state(&mut self, table: &Text, number: u32, to: TableState) -> Result<(), NoMemory>
-        requires number { table_number (seen_database self.old.db) table.now ≡ Some number }
-        requires may { may_serve (moving table.now to) (seen_database self.old.db).node ≡ true }
+        requires number { table_number (D.seen self.old.db) table.now ≡ Some number }
+        requires may { may_serve (moving table.now to) (D.seen self.old.db).node ≡ true }
     {
         if self.has_failed {
             return Err(AllocError);
@@ -105,7 +107,7 @@ impl Replica {
 
     /// Applies a batch.
     pub fn apply(&mut self, events: &[Event], pick: &Pick, tick: u64) -> Result<u64, ApplyFault>
-        requires { may_serve (applying events.now (pick_of pick.now) tick) (seen_database self.old.db).node ≡ true }
+        requires { may_serve (applying events.now (pick_of pick.now) tick) (D.seen self.old.db).node ≡ true }
     {
         if self.has_failed {
             return Err(ApplyFault::NoMemory);
@@ -117,8 +119,8 @@ impl Replica {
 
     /// Begins the copy of a table.
     pub fn copy_begin(&mut self, table: u32) -> Result<(), CopyFault>
-        requires may { MayCopy (seen_database self.old.db) table }
-        requires idle { copy_txid table (seen_database self.old.db).copies ≡ None }
+        requires may { MayCopy (D.seen self.old.db) table }
+        requires idle { copy_txid table (D.seen self.old.db).copies ≡ None }
     {
         if self.has_failed {
             return Err(CopyFault::NoMemory);
@@ -130,8 +132,8 @@ impl Replica {
 
     /// Writes rows of a copy.
     pub fn copy_rows(&mut self, table: u32, rows: Vec<Row>) -> Result<(), NoMemory>
-        requires may { MayCopy (seen_database self.old.db) table }
-        requires fit { all_fit ((seen_database self.old.db).part.columns table) rows.items ≡ true }
+        requires may { MayCopy (D.seen self.old.db) table }
+        requires fit { all_fit ((D.seen self.old.db).part.columns table) rows.items ≡ true }
     {
         if self.has_failed {
             return Err(AllocError);
@@ -149,8 +151,8 @@ impl Replica {
         snapshot: &Snapshot,
         tick: u64,
     ) -> Result<(), NoMemory>
-        requires number { table_number (seen_database self.old.db) table.now ≡ Some number }
-        requires may { may_copy table.now (seen_database self.old.db).node ≡ true }
+        requires number { table_number (D.seen self.old.db) table.now ≡ Some number }
+        requires may { may_copy table.now (D.seen self.old.db).node ≡ true }
     {
         if self.has_failed {
             return Err(AllocError);
@@ -162,7 +164,7 @@ impl Replica {
 
     /// Gives a copy up.
     pub fn copy_drop(&mut self, table: u32) -> Result<(), NoMemory>
-        requires { MayCopy (seen_database self.old.db) table }
+        requires { MayCopy (D.seen self.old.db) table }
     {
         if self.has_failed {
             return Err(AllocError);

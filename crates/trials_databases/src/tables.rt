@@ -3,6 +3,8 @@ use crate::databases::Database;
 use crate::nodes::Nodes;
 use crate::replica::Replica;
 use anyhow::bail;
+use pgq_db::Db;
+use sky_session::RowDb;
 use std::alloc::Global;
 use trials::{Tables, first_word};
 
@@ -10,9 +12,9 @@ use trials::{Tables, first_word};
 #[derive(Drop)]
 pub struct DatabaseTables {
     database: Database,
-    nodes: Nodes,
+    nodes: Nodes<Db<RowDb>>,
     // Of the table `applies.txt`.
-    replica: Replica,
+    replica: Replica<Db<RowDb>>,
 }
 
 impl DatabaseTables {

@@ -1,0 +1,39 @@
+//! What trials ask of a database that no world does.
+
+ghost use Rattle.std.specs.Prelude.{◌≡◌, true, IfErr, OnOk, is_some};
+ghost use Rattle.londiste_calls.specs.Picks.{pick_of};
+ghost use Rattle.sky_model.specs.Daemon.{quietly};
+ghost use Rattle.sky_model.specs.DatabaseCalls.{served};
+ghost use Rattle.sky_model.specs.DatabaseSteps.{DatabaseSteps, IsMade};
+ghost use Rattle.sky_model.specs.StepNode.{applying, may_serve, node_does, set_queue};
+ghost use Rattle.sky_store.specs.Applying.{ApplyRefused};
+
+use londiste_calls::{ApplyFault, Pick};
+use pgq_db::{Db, Store};
+use sky_session::RowStore;
+use sky_val::{Event, NoMemory};
+
+/// A store that also gives the events of a batch, and applies those that it is given.
+pub trait EventStore: Store {
+    /// The events of an active batch.
+    fn batch_events(&mut self, batch: u64) -> Result<Vec<Event>, NoMemory>
+        requires provider { is_some (set_queue (Self.seen self.old)) ≡ true }
+        requires active { is_some ((Self.seen self.old).batch batch) ≡ true };
+
+    /// Applies the events of a batch that are picked, and stores the tick; returns how many they are.
+    fn apply(&mut self, events: &[Event], pick: &Pick, tick: u64) -> Result<u64, ApplyFault>
+        requires made { IsMade (Self.seen self.old) }
+        requires may { may_serve (applying events.now (pick_of pick.now) tick) (Self.seen self.old).node ≡ true }
+        ensures fault { IfErr result (λ fault. ApplyRefused fault (Self.seen self.old) (Self.seen self.new) events.now (pick_of pick.now) tick) }
+        ensures steps { OnOk result (DatabaseSteps (Self.seen self.old) (Self.seen self.new) (served (applying events.now (pick_of pick.now) tick)) (quietly (node_does (Self.seen self.old) (applying events.now (pick_of pick.now) tick)))) };
+}
+
+impl<R: RowStore> EventStore for Db<R> {
+    fn batch_events(&mut self, batch: u64) -> Result<Vec<Event>, NoMemory> {
+        Db::batch_events(self, batch)
+    }
+
+    fn apply(&mut self, events: &[Event], pick: &Pick, tick: u64) -> Result<u64, ApplyFault> {
+        Db::apply(self, events, pick, tick)
+    }
+}
