@@ -42,9 +42,9 @@ use std::alloc::{AllocError, Global};
 use std::marker::Model;
 use std::mem;
 
-/// One database: its transactions, sessions, tables and rows; its queues; and its node, if it has one, with the copies
-/// that run here and the snapshots that are held. Once memory has run out in `step`, `fail`, `apply`, or a
-/// method of `Store` whose contract says nothing of that, nothing is said of it.
+/// One database: its transactions, sessions, tables and rows, in any `RowStore`; its queues; and its node, if it has
+/// one, with the copies that run here and the snapshots that are held. Once memory has run out in `step`, `fail`,
+/// `apply`, or a method of `Store` whose contract says nothing of that, nothing is said of it.
 #[derive(Drop)]
 pub struct Db<R: RowStore> {
     pub(crate) alloc: Global,

@@ -82,7 +82,7 @@ impl Effects {
         self.is_whole
     }
 
-    /// Appends an effect.
+    /// Appends an effect. Callers append no write to a list that isn't whole.
     pub fn push(&mut self, effect: Effect) -> Result<(), NoMemory>
         ensures { OnOk result (self.new ≡ record self.old { items = self.old.items ++ effect ∷ [] }) }
     {

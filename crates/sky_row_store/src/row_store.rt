@@ -38,9 +38,9 @@ use sky_val::{Key, NoMemory, Row, Schema, SessionId, Text};
 use std::alloc::Global;
 
 /// The transactions, sessions, tables and rows of one database, as its queues, its node and the workers of leaves use
-/// them.
+/// them. Once memory has run out in a call whose contract says nothing of that, nothing is said of it.
 pub trait RowStore: Drop {
-    // What it keeps; `seen` reads this as the definitions' part of a database.
+    // What it keeps, in the form that sky_state has; `seen` reads this as the definitions' part of a database.
     ghost state: { Self → RowStateView };
 
     /// No table, no transaction, and every session at rest.
@@ -86,8 +86,8 @@ pub trait RowStore: Drop {
         ensures steps { OnOk result (RowSteps (seen (state self.old)) (seen (state self.new)) (row_entered who outside) (entry (seen (state self.old)) who (entry_place outside))) };
 
     /// Runs a statement of a session, and those that it unblocks; its answers and effects are added to what was given
-    /// before. The gate is notified of the writes, the statement's own and those of the statements that it unblocks, and of
-    /// rollbacks, in their order. A write that it has no room for is refused, if nothing else refuses it.
+    /// before. The gate is notified of the writes, the statement's own and those of the statements that it unblocks,
+    /// and of rollbacks, in their order. A write that it has no room for is refused, if nothing else refuses it.
     fn step_into<G: WriteGate>(
         &mut self,
         who: SessionId,
@@ -112,9 +112,9 @@ pub trait RowStore: Drop {
         ensures { OnOk result (Settles G.rule (seen (state self.old), gate.old) (seen (state self.new), gate.new) step.old step.new
             (row_stepped (room_of G.rule gate.old) who RowStmt.Commit) (row_turn (by_gate G.rule part_by_itself) (seen (state self.old), gate.old) who RowStmt.Commit)) };
 
-    /// Runs the statements that are ready to resume; their answers and effects are added to what was given before. After
-    /// `step_into` and `commit_into` there is none; after `roll_back` and `write_elsewhere`, by which a statement on queues
-    /// ends a transaction, there may be some. Their writes go through the gate.
+    /// Runs the statements that are ready to resume; their answers and effects are added to what was given before.
+    /// After `step_into` and `commit_into` there is none; after `roll_back` and `write_elsewhere`, by which a statement
+    /// on queues ends a transaction, there may be some. Their writes go through the gate.
     fn settle_into<G: WriteGate>(
         &mut self,
         gate: &mut G,
@@ -186,8 +186,8 @@ pub trait RowStore: Drop {
         ensures mark { (old : Option (List Val)) → OnOk result (seen (state self.new) ≡ after_part (seen (state self.old)) (tabled (wrote of_worker txid table key old row))) }
         ensures same { OnErr result (seen (state self.new) ≡ seen (state self.old)) };
 
-    /// The same, but only if the key has a row before, as the worker's transaction left it or else in the snapshot, or, if
-    /// `needs_row` is false, only if it has none. Answers whether it was written.
+    /// The same, but only if the key has a row before, as the worker's transaction left it or else in the snapshot, or,
+    /// if `needs_row` is false, only if it has none. Answers whether it was written.
     fn worker_write_if(
         &mut self,
         txid: u64,

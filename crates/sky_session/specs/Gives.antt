@@ -13,7 +13,7 @@ use Rattle.sky_row_store.specs.Gives.{Settles, nothing}
 use Rattle.sky_state.specs.Views.{RowStateView}
 use Rattle.sky_state.specs.Seen.{seen}
 
--- the same without a gate, added to nothing, with all effects
+-- a call without a gate settles, added to nothing, with all effects
 abbrev pub Gives : RowPart → RowPart → RowStep → RowCall → Turn → Type 0
 Gives old new step call turn = Settles open_gate (old, tt) (new, tt) (nothing true) step call turn
 

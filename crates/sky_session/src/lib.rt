@@ -1,9 +1,10 @@
 //! The statements on the sessions, transactions, tables and rows of one database.
 //!
-//! `RowDb` is the `RowStore` of the program. What a contract sees of a `RowDb` is what it sees of the `RowState` inside,
-//! which is read by `seen` as the definitions' part of a database. For those that follow the rows by themselves,
+//! `RowDb` is the `RowStore` of the program. What a contract sees of a `RowDb` is what it sees of the `RowState`
+//! inside, which is read by `seen` as the definitions' part of a database. For a caller that has no queues
 //! `RowDb::step` runs a statement of one session, and answers with the replies and with the effects on rows and
-//! transactions. Nothing here knows how rows and sessions are kept, a queue, a name of a session, or a byte of a script.
+//! transactions. Nothing here knows how rows and sessions are kept, a queue, a name of a session, or a byte of a
+//! script.
 #![tactic(auto)]
 
 mod committing;

@@ -143,6 +143,7 @@ impl RowDb {
 
     /// Commits the session's transaction, if the session is in no block. Nothing happens in a block, or if no id was
     /// taken. No effect is reported for the commit, as for the one of `write_elsewhere`: it is the caller's own.
+    /// After `take_txid` it does what `write_elsewhere` does in one call.
     pub fn end_single(&mut self, who: SessionId)
         ensures marks { seen self.new ≡ after_part_marks (seen self.old) (ending (seen self.old) who).marks }
         ensures steps { RowSteps (seen self.old) (seen self.new) (single_ended who) (ending (seen self.old) who) }

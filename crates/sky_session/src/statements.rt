@@ -18,8 +18,8 @@ ghost use Rattle.sky_model.specs.Gates.{by_gate, passed_all};
 ghost use Rattle.sky_row_store.specs.Committing.{commits_of};
 ghost use Rattle.sky_row_store.specs.Effects.{with_effects};
 ghost use Rattle.sky_row_store.specs.Gives.{Adds};
-ghost use Rattle.sky_session.specs.Gives.{Ran, Passes, Runs, Writes};
 ghost use Rattle.sky_row_store.specs.declared.row_step.RowStep.{RowStep};
+ghost use Rattle.sky_session.specs.Gives.{Ran, Passes, Runs, Writes};
 ghost use Rattle.sky_state.specs.Views.{RowStateView};
 ghost use Rattle.sky_state.specs.Seen.{seen};
 

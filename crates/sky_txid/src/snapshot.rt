@@ -87,7 +87,7 @@ impl Snapshot {
         ensures { IfOk result (λ snapshot. snapshot ≡ snapshot_of next running.now) }
     {
         let xmin = first_or(running, next);
-        let xip = Vec::from_slice(alloc, running)?;
+        let xip = copied(alloc, running)?;
         Ok(Snapshot {
             xmin,
             xmax: next,
@@ -99,7 +99,7 @@ impl Snapshot {
     pub fn copy(&self, alloc: Global) -> Result<Snapshot, NoMemory>
         ensures { IfOk result (λ snapshot. snapshot ≡ self.now) }
     {
-        let xip = Vec::from_slice(alloc, &self.xip)?;
+        let xip = copied(alloc, &self.xip)?;
         Ok(Snapshot {
             xmin: self.xmin,
             xmax: self.xmax,
@@ -177,6 +177,16 @@ fn first_or(ids: &[u64], next: u64) -> u64
     ensures { result ≡ first_or next ids.now }
 {
     ids.first().copied().unwrap_or(next)
+}
+
+/// Equal ids. Mostly there are none, and then nothing is copied.
+fn copied(alloc: Global, ids: &[u64]) -> Result<Vec<u64>, NoMemory>
+    ensures { IfOk result (λ copy. copy.items ≡ ids.now) }
+{
+    if ids.is_empty() {
+        return Ok(Vec::new(alloc));
+    }
+    Vec::from_slice(alloc, ids)
 }
 
 /// Whether the ids rise strictly, from `low` on and below `high`.

@@ -1,6 +1,6 @@
 //! Runs each script that its arguments name, and prints the results: the script's name, its output, its error output,
-//! and the status. Arguments that don't end in `.sky` name tables of cases, of whole runs of the program, which no script
-//! can show.
+//! and the status. Arguments that don't end in `.sky` name tables of cases, of whole runs of the program, which no
+//! script can show.
 #![tactic(auto)]
 
 mod ran;

@@ -8,6 +8,7 @@ use crate::{leaf_copies, leaves};
 use anyhow::bail;
 use londiste_calls::Pick;
 use londiste_state::{Leaf, Node};
+use pgq_db::Store;
 use sky_val::{Event, Text};
 use std::alloc::Global;
 use trials::{first_number, first_word, no_command, shown};
@@ -87,7 +88,7 @@ fn text_in(alloc: Global, word: &str) -> anyhow::Result<Option<Text>> {
 }
 
 // Whether the node is a leaf, and the table that is picked was copied.
-fn check_pick<D: EventStore>(db: &D, pick: &Pick) -> anyhow::Result<()>
+fn check_pick<D: Store>(db: &D, pick: &Pick) -> anyhow::Result<()>
     ensures { OnOk result (may_apply (pick_of pick.now) (D.seen db.now).node ≡ true) }
 {
     let Some(Node::Leaf(leaf)) = db.node() else {

@@ -1,4 +1,5 @@
-//! What trials ask of a database that no world does.
+//! What trials ask of a database, and no world does. The trials of nodes are written over any such store, so that their
+//! proofs don't carry what a `Db` is made of.
 
 ghost use Rattle.std.specs.Prelude.{◌≡◌, true, IfErr, OnOk, is_some};
 ghost use Rattle.londiste_calls.specs.Picks.{pick_of};

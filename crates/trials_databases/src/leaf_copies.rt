@@ -8,6 +8,7 @@ use crate::nodes::number_of;
 use crate::replica::Replica;
 use anyhow::bail;
 use londiste_state::{Node, TableState};
+use pgq_db::Store;
 use sky_txid::Snapshot;
 use sky_urlenc::decode_row;
 use sky_val::{Row, Schema, Text};
@@ -33,7 +34,7 @@ pub fn answer<D: EventStore>(
     }
 }
 
-fn copy_of<D: EventStore>(alloc: Global, db: &D, table: &Text) -> anyhow::Result<String> {
+fn copy_of<D: Store>(alloc: Global, db: &D, table: &Text) -> anyhow::Result<String> {
     let number = number_of(db, table)?;
     shown(alloc, Ok(db.copy_of(number)))
 }
@@ -88,7 +89,7 @@ fn copy_drop<D: EventStore>(
 }
 
 // The number of a table of the leaf that is in the state for a copy.
-fn number_in_copy<D: EventStore>(db: &D, table: &Text) -> anyhow::Result<u32>
+fn number_in_copy<D: Store>(db: &D, table: &Text) -> anyhow::Result<u32>
     ensures number { IfOk result (λ number. table_number (D.seen db.now) table.now ≡ Some number) }
     ensures named { OnOk result (may_copy table.now (D.seen db.now).node ≡ true) }
     ensures may { IfOk result (λ number. MayCopy (D.seen db.now) number) }
@@ -98,7 +99,7 @@ fn number_in_copy<D: EventStore>(db: &D, table: &Text) -> anyhow::Result<u32>
 }
 
 // Whether a table of the leaf is in the state for a copy.
-fn check_in_copy<D: EventStore>(db: &D, table: &Text) -> anyhow::Result<()>
+fn check_in_copy<D: Store>(db: &D, table: &Text) -> anyhow::Result<()>
     ensures { OnOk result (may_copy table.now (D.seen db.now).node ≡ true) }
 {
     let Some(Node::Leaf(leaf)) = db.node() else {

@@ -31,7 +31,7 @@ fn step<D: EventStore>(alloc: Global, db: &mut Replica<D>, words: &str) -> anyho
     let line = line(alloc, words)?;
     let stmt = statement(&line)?;
     let mut replies = Replies::new(alloc);
-    db.step(who, stmt, &mut replies)?;
+    db.step_into(who, stmt, &mut replies)?;
     shown(alloc, Ok(replies))
 }
 

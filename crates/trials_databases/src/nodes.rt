@@ -7,6 +7,7 @@ use crate::statements::statement;
 use crate::{leaves, providers};
 use anyhow::bail;
 use londiste_state::Node;
+use pgq_db::Store;
 use sky_model::Replies;
 use sky_val::{Schema, Text};
 use std::alloc::Global;
@@ -60,7 +61,7 @@ fn answer<D: EventStore>(
     }
 }
 
-fn step<D: EventStore>(alloc: Global, db: &mut D, words: &str) -> anyhow::Result<String> {
+fn step<D: Store>(alloc: Global, db: &mut D, words: &str) -> anyhow::Result<String> {
     let (who, words) = first_number(words)?;
     let line = line(alloc, words)?;
     let stmt = statement(&line)?;
@@ -70,7 +71,7 @@ fn step<D: EventStore>(alloc: Global, db: &mut D, words: &str) -> anyhow::Result
 }
 
 // The clock is at its start.
-fn make_root<D: EventStore>(alloc: Global, db: &mut D, words: &str) -> anyhow::Result<String> {
+fn make_root<D: Store>(alloc: Global, db: &mut D, words: &str) -> anyhow::Result<String> {
     let (name, queue) = first_word(words);
     let name = Text::from_str(alloc, name)?;
     let queue = Text::from_str(alloc, queue)?;
@@ -81,7 +82,7 @@ fn make_root<D: EventStore>(alloc: Global, db: &mut D, words: &str) -> anyhow::R
 }
 
 // A table joins the root's set, or leaves it.
-fn move_table<D: EventStore>(
+fn move_table<D: Store>(
     alloc: Global,
     db: &mut D,
     command: &str,
@@ -94,7 +95,7 @@ fn move_table<D: EventStore>(
     }
 }
 
-fn root_add<D: EventStore>(alloc: Global, db: &mut D, table: &Text) -> anyhow::Result<String> {
+fn root_add<D: Store>(alloc: Global, db: &mut D, table: &Text) -> anyhow::Result<String> {
     let number = number_of(db, table)?;
     let Some(Node::Root(root)) = db.node() else {
         return Err(no_command());
@@ -105,7 +106,7 @@ fn root_add<D: EventStore>(alloc: Global, db: &mut D, table: &Text) -> anyhow::R
     shown(alloc, Ok(db.root_add(table, number)))
 }
 
-fn root_drop<D: EventStore>(alloc: Global, db: &mut D, table: &Text) -> anyhow::Result<String> {
+fn root_drop<D: Store>(alloc: Global, db: &mut D, table: &Text) -> anyhow::Result<String> {
     let Some(Node::Root(root)) = db.node() else {
         return Err(no_command());
     };
@@ -118,7 +119,7 @@ fn root_drop<D: EventStore>(alloc: Global, db: &mut D, table: &Text) -> anyhow::
 }
 
 /// The number of a table of the database.
-pub fn number_of<D: EventStore>(db: &D, table: &Text) -> anyhow::Result<u32>
+pub fn number_of<D: Store>(db: &D, table: &Text) -> anyhow::Result<u32>
     ensures { IfOk result (λ number. table_number (D.seen db.now) table.now ≡ Some number) }
 {
     match db.table(table) {

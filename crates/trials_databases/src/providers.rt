@@ -4,7 +4,7 @@ ghost use Rattle.sky_model.specs.StepNode.{set_queue};
 use crate::event_store::EventStore;
 use anyhow::bail;
 use londiste_calls::JoinFault;
-use pgq_db::NodeBatch;
+use pgq_db::{NodeBatch, Store};
 use sky_val::{Event, Text};
 use std::alloc::Global;
 use trials::{no_command, ok, shown};
@@ -47,14 +47,14 @@ fn answer_to<D: EventStore>(
     }
 }
 
-fn snapshot<D: EventStore>(alloc: Global, db: &D, words: &str) -> anyhow::Result<String> {
+fn snapshot<D: Store>(alloc: Global, db: &D, words: &str) -> anyhow::Result<String> {
     let tick = words.parse::<u64>()?;
     check_provider(db)?;
     shown(alloc, Ok(db.tick_snapshot(tick)))
 }
 
 // The batch of a consumer. If it may not join once more, it is registered.
-fn fetch<D: EventStore>(db: &mut D, consumer: &Text) -> anyhow::Result<Option<NodeBatch>>
+fn fetch<D: Store>(db: &mut D, consumer: &Text) -> anyhow::Result<Option<NodeBatch>>
     requires { is_some (set_queue (D.seen db.old)) ≡ true }
     ensures { IfOk result (λ batch. IfSome batch (λ b. is_some ((D.seen db.new).batch b.id) ≡ true)) }
 {
@@ -78,7 +78,7 @@ fn events<D: EventStore>(db: &mut D, consumer: &Text) -> anyhow::Result<Vec<Even
     Ok(db.batch_events(batch.id)?)
 }
 
-fn finish<D: EventStore>(alloc: Global, db: &mut D, consumer: &Text) -> anyhow::Result<String>
+fn finish<D: Store>(alloc: Global, db: &mut D, consumer: &Text) -> anyhow::Result<String>
     requires { is_some (set_queue (D.seen db.old)) ≡ true }
 {
     let Some(batch) = fetch(db, consumer)? else {
@@ -90,7 +90,7 @@ fn finish<D: EventStore>(alloc: Global, db: &mut D, consumer: &Text) -> anyhow::
 }
 
 // Whether the database is a root's.
-fn check_provider<D: EventStore>(db: &D) -> anyhow::Result<()>
+fn check_provider<D: Store>(db: &D) -> anyhow::Result<()>
     ensures { OnOk result (is_some (set_queue (D.seen db.now)) ≡ true) }
 {
     if !db.is_provider() {

@@ -51,8 +51,8 @@ impl<D: EventStore> Replica<D> {
         &self.db
     }
 
-    /// Runs a statement of a session. The clock is at its start.
-    pub fn step(
+    /// Runs a statement of a session, whose answers are added to those before. The clock is at its start.
+    pub fn step_into(
         &mut self,
         who: SessionId,
         stmt: &DbStmt,
