@@ -13,7 +13,7 @@ use Rattle.sky_model.specs.Steps.{IsCallInForm}
 use Rattle.sky_model.proofs.Splitting.{IsUnbroken}
 use Rattle.sky_model.proofs.Scripts.{transcript_from-asks, transcript_from-idle, bad_line_from-asks, bad_line_from-idle, said-fits}
 use Rattle.sky_lines.specs.Reader.{Reader, TakesLine}
-use Rattle.pgq_db.specs.Seen.{seen_database}
+use Rattle.sky_model.specs.State.{Database}
 use Rattle.sky_world.specs.Seen.{seen_world}
 use Rattle.sky_run.specs.declared.run.Run.{Run}
 use Rattle.sky_run.specs.Running.{GoesOn, said_in, Called, Answers}
@@ -144,9 +144,9 @@ GoesOn-answered taken line pending idle g says answers unbroken = GoesOn-idle ta
 GoesOn-answered taken line pending (bad cause) g says answers unbroken = absurd answers
 
 -- what was gathered is written, as the program keeps it
-pub Goes-written : (old new : Run) (source first held new_held : Option (List ℕ)) (bytes : List ℕ)
-    → SameButGathered old new → new.gathered.items ≡ [] → Appends held new_held old.gathered.items → Goes old source first held bytes → Goes new source first new_held bytes
-Goes-written old new source first held new_held bytes same emptied appends g =
+pub Goes-written : {D : Type 0} (seen : D → Database) (old new : Run D) (source first held new_held : Option (List ℕ)) (bytes : List ℕ)
+    → SameButGathered old new → new.gathered.items ≡ [] → Appends held new_held old.gathered.items → Goes seen old source first held bytes → Goes seen new source first new_held bytes
+Goes-written seen old new source first held new_held bytes same emptied appends g =
     rw (same.world_is, same.reader_is, same.number_is, emptied) (GoesOn-written new_held g appends)
 
 -- the next line is read
@@ -165,5 +165,5 @@ GoesOn-line old new after line line_taken answers g =
     rw takes.taken_is (GoesOn-answered old.taken line new.pending (said_in line) (GoesOn-taken old new g.left after line g g.told takes) says answers takes.unbroken)
 
 -- a fresh run has read and written nothing
-pub Goes-start : (run : Run) (source held : Option (List ℕ)) (bytes : List ℕ) → IsFresh run → source ≡ Some bytes → Goes run source held held bytes
-Goes-start run source held bytes fresh told = rw (fresh.reader_is, fresh.gathered_is, fresh.number_is) (GoesOn-start (seen_world seen_database run.world) source held bytes fresh.world_is told)
+pub Goes-start : {D : Type 0} (seen : D → Database) (run : Run D) (source held : Option (List ℕ)) (bytes : List ℕ) → IsFresh seen run → source ≡ Some bytes → Goes seen run source held held bytes
+Goes-start seen run source held bytes fresh told = rw (fresh.reader_is, fresh.gathered_is, fresh.number_is) (GoesOn-start (seen_world seen run.world) source held bytes fresh.world_is told)

@@ -7,7 +7,6 @@ ghost use Rattle.sky_model.specs.InForm.{IsInForm, IsLineInForm};
 ghost use Rattle.sky_model.specs.Transcript.{said_by, most_in_script};
 ghost use Rattle.sky_model.specs.World.{world_of};
 ghost use Rattle.sky_lines.specs.Reader.{is_at_hand};
-ghost use Rattle.pgq_db.specs.Seen.{seen_database};
 ghost use Rattle.sky_world.specs.Seen.{seen_world};
 ghost use Rattle.sky_run.specs.Running.{Answers, Called, said_in};
 ghost use Rattle.sky_run.specs.Goes.{IsFresh, Counts, Goes, SameButGathered};
@@ -21,6 +20,7 @@ use sky_lines::{LineFault, LineReader};
 use sky_model::{Cause, Replies};
 use sky_script::LineCause;
 use sky_session::RowDb;
+use sky_store::Store;
 use sky_val::NoMemory;
 use sky_world::World;
 use std::alloc::Global;
@@ -38,7 +38,7 @@ pub fn run_lines<S: Source, O: Sink>(alloc: Global, src: &mut S, out: &mut O) ->
     ensures read_relied { result ≡ End.Read → ¬ (S.reliable src.old) }
     ensures write_relied { result ≡ End.Write → ¬ (O.reliable out.old) }
 {
-    match Run::new(alloc) {
+    match Run::<Db<RowDb>>::new(alloc) {
         Ok(mut fresh) => {
             let end = fresh.finish(src, out);
             // The program ends after this, and then all memory is freed at once.
@@ -49,11 +49,11 @@ pub fn run_lines<S: Source, O: Sink>(alloc: Global, src: &mut S, out: &mut O) ->
     }
 }
 
-// A script that is running.
+// A script that is running, over databases of any type, so that the prover needn't know what one keeps.
 #[derive(Drop)]
-struct Run {
+struct Run<D: Store> {
     alloc: Global,
-    world: World<Db<RowDb>>,
+    world: World<D>,
     reader: LineReader,
     // The answers of the last statement, whose memory the next ones reuse.
     replies: Replies,
@@ -63,9 +63,9 @@ struct Run {
     number: u64,
 }
 
-impl Run {
-    fn new(alloc: Global) -> Result<Run, NoMemory>
-        ensures { IfOk result (λ run. IsFresh run) }
+impl<D: Store> Run<D> {
+    fn new(alloc: Global) -> Result<Run<D>, NoMemory>
+        ensures { IfOk result (λ run. IsFresh D.seen run) }
     {
         // Before the world, which would have to be freed if there were no memory for it.
         let reader = LineReader::new(alloc)?;
@@ -82,7 +82,7 @@ impl Run {
     // Runs line after line.
     fn finish<S: Source, O: Sink>(&mut self, src: &mut S, out: &mut O) -> End
         requires { Counts self.old }
-        ensures ends { (first : Option (List ℕ)) (bytes : List ℕ) → Goes self.old (S.left src.old) first (O.held out.old) bytes
+        ensures ends { (first : Option (List ℕ)) (bytes : List ℕ) → Goes D.seen self.old (S.left src.old) first (O.held out.old) bytes
             → Ends result (S.left src.new) first (O.held out.new) [] bytes }
         ensures read { result ≡ End.Read → Rose (S.faults src.old) (S.faults src.new) }
         ensures write { result ≡ End.Write → Rose (O.faults out.old) (O.faults out.new) }
@@ -100,11 +100,11 @@ impl Run {
     // each answer comes before the wait for the next line.
     fn turn<S: Source, O: Sink>(&mut self, src: &mut S, out: &mut O) -> Result<(), End>
         requires { Counts self.old }
-        ensures goes { OnOk result ((first : Option (List ℕ)) (bytes : List ℕ) → Goes self.old (S.left src.old) first (O.held out.old) bytes
-            → Goes self.new (S.left src.new) first (O.held out.new) bytes) }
+        ensures goes { OnOk result ((first : Option (List ℕ)) (bytes : List ℕ) → Goes D.seen self.old (S.left src.old) first (O.held out.old) bytes
+            → Goes D.seen self.new (S.left src.new) first (O.held out.new) bytes) }
         ensures counts { OnOk result (Counts self.new) }
         ensures nearer { OnOk result ((self.old.reader.taken < self.new.reader.taken) × (self.new.reader.taken ≤ most_in_script)) }
-        ensures ends { IfErr result (λ end. (first : Option (List ℕ)) (bytes : List ℕ) → Goes self.old (S.left src.old) first (O.held out.old) bytes
+        ensures ends { IfErr result (λ end. (first : Option (List ℕ)) (bytes : List ℕ) → Goes D.seen self.old (S.left src.old) first (O.held out.old) bytes
             → Ends end (S.left src.new) first (O.held out.new) [] bytes) }
         ensures read { IsErrOf result End.Read → Rose (S.faults src.old) (S.faults src.new) }
         ensures write { IsErrOf result End.Write → Rose (O.faults out.old) (O.faults out.new) }
@@ -141,11 +141,11 @@ impl Run {
     fn line<S: Source>(&mut self, src: &mut S) -> Result<(), End>
         requires counts { Counts self.old }
         requires written { is_at_hand self.old.reader ≡ false → self.old.gathered.items ≡ [] }
-        ensures goes { OnOk result ((first held : Option (List ℕ)) (bytes : List ℕ) → Goes self.old (S.left src.old) first held bytes
-            → Goes self.new (S.left src.new) first held bytes) }
+        ensures goes { OnOk result ((first held : Option (List ℕ)) (bytes : List ℕ) → Goes D.seen self.old (S.left src.old) first held bytes
+            → Goes D.seen self.new (S.left src.new) first held bytes) }
         ensures counts { OnOk result (Counts self.new) }
         ensures nearer { OnOk result ((self.old.reader.taken < self.new.reader.taken) × (self.new.reader.taken ≤ most_in_script)) }
-        ensures ends { IfErr result (λ end. (first held : Option (List ℕ)) (bytes : List ℕ) → Goes self.old (S.left src.old) first held bytes
+        ensures ends { IfErr result (λ end. (first held : Option (List ℕ)) (bytes : List ℕ) → Goes D.seen self.old (S.left src.old) first held bytes
             → Ends end (S.left src.new) first held self.new.gathered.items bytes) }
         ensures read { IsErrOf result End.Read → Rose (S.faults src.old) (S.faults src.new) }
         ensures never_writes { ¬ (IsErrOf result End.Write) }
@@ -163,7 +163,7 @@ impl Run {
     // Answers the line that was taken, which is parsed without being copied, and counts it.
     fn answer(&mut self) -> Result<(), End>
         requires { self.old.number ≤ most_in_script }
-        ensures answers { OnOk result (Answers (said_in self.old.reader.line) (seen_world seen_database self.old.world) (seen_world seen_database self.new.world) self.old.gathered.items self.new.gathered.items) }
+        ensures answers { OnOk result (Answers (said_in self.old.reader.line) (seen_world D.seen self.old.world) (seen_world D.seen self.new.world) self.old.gathered.items self.new.gathered.items) }
         ensures number { OnOk result (self.new.number ≡ self.old.number + 1) }
         ensures bad { IfErr result (λ end. IsBadLine end self.old.number (said_in self.old.reader.line)) }
         ensures err { OnErr result (self.new.gathered.items ≡ self.old.gathered.items) }
@@ -213,9 +213,9 @@ impl Run {
 
     // Writes what was answered, if `wanted`.
     fn write_where<O: Sink>(&mut self, wanted: bool, out: &mut O) -> Result<(), End>
-        ensures goes { OnOk result ((source first : Option (List ℕ)) (bytes : List ℕ) → Goes self.old source first (O.held out.old) bytes
-            → Goes self.new source first (O.held out.new) bytes) }
-        ensures ends { IfErr result (λ end. (source after first : Option (List ℕ)) (bytes : List ℕ) → Goes self.old source first (O.held out.old) bytes
+        ensures goes { OnOk result ((source first : Option (List ℕ)) (bytes : List ℕ) → Goes D.seen self.old source first (O.held out.old) bytes
+            → Goes D.seen self.new source first (O.held out.new) bytes) }
+        ensures ends { IfErr result (λ end. (source after first : Option (List ℕ)) (bytes : List ℕ) → Goes D.seen self.old source first (O.held out.old) bytes
             → Ends end after first (O.held out.new) [] bytes) }
         ensures emptied { wanted ≡ true → OnOk result (self.new.gathered.items ≡ []) }
         ensures same { SameButGathered self.old self.new }

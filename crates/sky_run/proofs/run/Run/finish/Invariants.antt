@@ -5,8 +5,8 @@ use Rattle.sky_run.proofs.run.Run.finish.Given as goal
 
 abbrev pub invariant-lines : goal.invariant-lines
 invariant-lines g l = record {
-  goes : (first : Option (List ℕ)) (bytes : List ℕ) → Goes l.initial.self (g.S.Source.left l.initial.src) first (g.O.Sink.held l.initial.out) bytes
-      → Goes l.self (g.S.Source.left l.src) first (g.O.Sink.held l.out) bytes;
+  goes : (first : Option (List ℕ)) (bytes : List ℕ) → Goes g.D.Store.seen l.initial.self (g.S.Source.left l.initial.src) first (g.O.Sink.held l.initial.out) bytes
+      → Goes g.D.Store.seen l.self (g.S.Source.left l.src) first (g.O.Sink.held l.out) bytes;
   counts : Counts l.self;
   src_kept : g.S.Source.faults l.initial.src ≤ g.S.Source.faults l.src;
   out_kept : g.O.Sink.faults l.initial.out ≤ g.O.Sink.faults l.out;

@@ -5,7 +5,7 @@ use Rattle.sky_run.proofs.run.Run.write_where.Goals as goal
 
 pub returns-then-wanted-clause-goes : goal.returns-then-wanted-clause-goes
 returns-then-wanted-clause-goes g c = on_ok_weaker c.write.result
-    (λ appends source first bytes goes. Goes-written c.args.self.now c.write.new.self source first _ _ bytes c.write.ensures.same c.write.ensures.emptied appends goes)
+    (λ appends source first bytes goes. Goes-written g.D.Store.seen c.args.self.now c.write.new.self source first _ _ bytes c.write.ensures.same c.write.ensures.emptied appends goes)
     c.write.ensures.ok
 
 pub returns-then-wanted-clause-ends : goal.returns-then-wanted-clause-ends
