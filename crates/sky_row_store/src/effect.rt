@@ -1,4 +1,4 @@
-ghost use Rattle.std.specs.Prelude.{◌≡◌, [], ◌∷◌, ◌++◌, true, false, OnOk};
+ghost use Rattle.std.specs.Prelude.{◌≡◌, [], ◌∷◌, ◌++◌, true, false, OnOk, OnErr};
 
 use sky_val::{NoMemory, Op, Row};
 use std::alloc::Global;
@@ -84,7 +84,8 @@ impl Effects {
 
     /// Appends an effect. Callers append no write to a list that isn't whole.
     pub fn push(&mut self, effect: Effect) -> Result<(), NoMemory>
-        ensures { OnOk result (self.new ≡ record self.old { items = self.old.items ++ effect ∷ [] }) }
+        ensures ok { OnOk result (self.new ≡ record self.old { items = self.old.items ++ effect ∷ [] }) }
+        ensures err { OnErr result (self.new ≡ self.old) }
     {
         self.items.push(effect)?;
         Ok(())

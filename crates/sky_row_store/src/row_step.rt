@@ -1,4 +1,4 @@
-ghost use Rattle.std.specs.Prelude.{◌≡◌, [], ◌∷◌, ◌++◌, true, false, OnOk};
+ghost use Rattle.std.specs.Prelude.{◌≡◌, [], ◌∷◌, ◌++◌, true, false, OnOk, OnErr};
 ghost use Rattle.sky_row_store.specs.Effects.{with_effects};
 ghost use Rattle.sky_row_store.specs.Gives.{nothing};
 
@@ -41,6 +41,7 @@ impl RowStep {
         ensures replied { OnOk result (self.new.replies ≡ self.old.replies ++ (who, reply) ∷ []) }
         ensures same { OnOk result (self.new.effects ≡ self.old.effects) }
         ensures told { OnOk result (self.new.effects ≡ with_effects self.old.effects []) }
+        ensures err { OnErr result (self.new ≡ self.old) }
     {
         self.replies.push(who, reply)?;
         Ok(())
