@@ -18,8 +18,8 @@ ghost use Rattle.pgq_tables.specs.Tables.{recorded_part};
 ghost use Rattle.pgq_queues.specs.Seen.{batch_at};
 ghost use Rattle.londiste_calls.specs.Picks.{pick_of};
 ghost use Rattle.sky_store.specs.Applying.{ApplyRefused};
-ghost use Rattle.pgq_db.specs.Looks.{LooksFor, LooksFrom, LooksAtNoOther};
-ghost use Rattle.pgq_db.specs.Seen.{seen_database};
+ghost use Rattle.pgq_parts.specs.Looks.{LooksFor, LooksFrom, LooksAtNoOther};
+ghost use Rattle.pgq_parts.specs.Seen.{seen_database};
 ghost use Rattle.sky_store.specs.Served.{Serves};
 
 use crate::db::Db;

@@ -3,25 +3,22 @@
 ghost use Rattle.std.specs.Prelude.{◌≡◌, ◌+◌, false, None, Some, IfOk, IfErr, IfSome, OnOk, is_some};
 ghost use Rattle.sky_model.specs.Queues.{tick};
 ghost use Rattle.sky_model.specs.StepConsumer.{registers, register_consumer, register_consumer_at, unregister_consumer, opens_batch, next_batch, get_batch_events, get_batch_info, is_nodes_batch, finish_batch, consumer_info};
-ghost use Rattle.sky_model.specs.Outcome.{answers, reply_of};
+ghost use Rattle.sky_model.specs.Outcome.{reply_of};
 ghost use Rattle.sky_model.specs.Reader.{shown_by};
 ghost use Rattle.sky_model.specs.Stops.{StopsAs};
 ghost use Rattle.sky_model.specs.declared.reply.Reply.TheVariants.{BatchInfo};
 ghost use Rattle.pgq_sub.specs.Views.{seen_sub};
-ghost use Rattle.pgq_queues.specs.Seen.{Beside, seen_with, Stands};
-ghost use Rattle.pgq_db.specs.Seen.{seen_database};
-ghost use Rattle.pgq_db.specs.Looks.{LooksUnlessCut, ListsFrom};
-ghost use Rattle.pgq_db.specs.Gives.{Ran};
+ghost use Rattle.pgq_queues.specs.Seen.{Stands};
+ghost use Rattle.pgq_parts.specs.Seen.{seen_database};
+ghost use Rattle.pgq_parts.specs.Looks.{LooksUnlessCut, ListsFrom};
+ghost use Rattle.pgq_parts.specs.Gives.{Ran};
 
 use crate::db::Db;
-use pgq_queues::Queues;
+use pgq_parts::batch_info;
 use pgq_sub::Sub;
-use sky_model::{
-    BoxedBatchInfo, ConsumerInfo, ConsumerPosition, Events, Limit, Refusal, Replies, Reply, Stop,
-};
+use sky_model::{ConsumerInfo, ConsumerPosition, Events, Limit, Refusal, Replies, Reply, Stop};
 use sky_row_store::RowStore;
 use sky_val::{SessionId, Text};
-use std::alloc::Global;
 
 impl<R: RowStore> Db<R> {
     /// `register_consumer NAME CONSUMER`: a subscription at the newest tick.
@@ -264,16 +261,4 @@ impl<R: RowStore> Db<R> {
         replies.push(who, Reply::ConsumerInfo(info))?;
         Ok(())
     }
-}
-
-/// What is shown of an active batch, or a refusal if none has this id.
-fn batch_info(alloc: Global, queues: &Queues, id: u64) -> Result<BoxedBatchInfo, Stop>
-    ensures ok { (beside : Beside) → IfOk result (λ info. get_batch_info (seen_with beside queues.now) id ≡ answers (BatchInfo info)) }
-    ensures err { (beside : Beside) → IfErr result (λ stop. StopsAs stop (get_batch_info (seen_with beside queues.now) id)) }
-{
-    let Some(batch) = queues.batch(id) else {
-        return Err(Stop::Refused(Refusal::NoBatch));
-    };
-    let info = queues.batch_info(&batch)?;
-    Ok(BoxedBatchInfo::new(alloc, info)?)
 }

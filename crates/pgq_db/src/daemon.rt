@@ -12,7 +12,7 @@ ghost use Rattle.sky_model.specs.Daemon.{quietly, ticks_of, moved_by, retries_of
 ghost use Rattle.sky_model.specs.StepRotation.{rotates_by_itself, lack_second_step, maint_rotate_step2};
 ghost use Rattle.sky_model.specs.declared.daemon.DaemonPart.TheVariants.{Maintain};
 ghost use Rattle.pgq_queues.specs.Seen.{Stands};
-ghost use Rattle.pgq_db.specs.Seen.{seen_database};
+ghost use Rattle.pgq_parts.specs.Seen.{seen_database};
 ghost use Rattle.sky_store.specs.Idle.{all_idle, idles_at};
 
 use crate::db::Db;

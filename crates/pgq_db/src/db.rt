@@ -21,19 +21,18 @@ ghost use Rattle.sky_model.specs.DatabaseCalls.{entered, failed};
 ghost use Rattle.sky_model.specs.DatabaseSteps.{DatabaseSteps};
 ghost use Rattle.pgq_sub.specs.Views.{seen_sub};
 ghost use Rattle.pgq_queues.specs.Seen.{Stands, batch_of};
-ghost use Rattle.pgq_db.specs.Seen.{seen_database};
+ghost use Rattle.pgq_parts.specs.Seen.{seen_database};
 ghost use Rattle.sky_store.specs.Waiters.{StaysWithin};
-ghost use Rattle.pgq_db.specs.RowRuns.{MayRun, run_turn};
-ghost use Rattle.pgq_db.specs.Gives.{Gives, Adds};
-ghost use Rattle.pgq_db.specs.Looks.{ReadsNone};
-ghost use Rattle.pgq_db.specs.Configured.{refusal_for, configured_as, Configures};
+ghost use Rattle.pgq_parts.specs.RowRuns.{MayRun, run_turn};
+ghost use Rattle.pgq_parts.specs.Gives.{Gives, Adds};
+ghost use Rattle.pgq_parts.specs.Looks.{ReadsNone};
+ghost use Rattle.pgq_parts.specs.Configured.{refusal_for, configured_as, Configures};
 
-use crate::node_part::NodePart;
-use crate::rotation::switch_before_commit;
-use crate::row_run::{CheckedCommit, Ready, RunsRows, Statement};
+use pgq_parts::{
+    CheckedCommit, NodePart, Ready, RunsRows, Statement, refusal_for, switch_before_commit,
+};
 use pgq_queues::Queues;
 use pgq_sub::Sub;
-use pgq_tick::ConfigFault;
 use sky_model::{Refusal, Replies, RowStmt, Stop};
 use sky_row_store::{RowStep, RowStore};
 use sky_store::Store;
@@ -62,8 +61,8 @@ pub struct Db<R: RowStore> {
 impl<R: RowStore> Model for Db<R> {
     ghost use Rattle.std.specs.Prelude.{◌≡◌, false};
     ghost use Rattle.sky_state.specs.Seen.{seen};
-    ghost use Rattle.pgq_db.specs.Views.{DbView};
-    ghost use Rattle.pgq_db.specs.Agreeing.{Agree};
+    ghost use Rattle.pgq_parts.specs.Views.{DbView};
+    ghost use Rattle.pgq_parts.specs.Agreeing.{Agree};
 
     ghost Value = { DbView };
 
@@ -305,16 +304,5 @@ fn noted(is_cut: &mut bool, ran: Result<(), NoMemory>) -> Result<(), NoMemory>
             *is_cut = true;
             Err(no_memory)
         }
-    }
-}
-
-/// Why a parameter isn't set.
-fn refusal_for(alloc: Global, param: &Text, fault: ConfigFault) -> Result<Refusal, NoMemory>
-    ensures { IfOk result (λ refusal. refusal ≡ refusal_for param.now fault) }
-{
-    let param = param.copy(alloc)?;
-    match fault {
-        ConfigFault::NoParam => Ok(Refusal::NoParam(param)),
-        ConfigFault::BadValue => Ok(Refusal::BadValue(param)),
     }
 }

@@ -6,8 +6,8 @@ ghost use Rattle.sky_model.specs.Printed.{EventsHaveMoments};
 ghost use Rattle.sky_model.specs.Reader.{shown_by};
 ghost use Rattle.sky_model.specs.StepNode.{set_queue};
 ghost use Rattle.pgq_queues.specs.Seen.{Stands, batch_at};
-ghost use Rattle.pgq_db.specs.Looks.{LooksFor, LooksFrom, LooksAtNoOther};
-ghost use Rattle.pgq_db.specs.Seen.{seen_database};
+ghost use Rattle.pgq_parts.specs.Looks.{LooksFor, LooksFrom, LooksAtNoOther};
+ghost use Rattle.pgq_parts.specs.Seen.{seen_database};
 
 use crate::db::Db;
 use sky_row_store::RowStore;

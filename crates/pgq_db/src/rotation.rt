@@ -1,28 +1,19 @@
-//! How the event tables of queues are rotated: the statements of both steps, the switches that a `commit` makes, and
-//! what the daemon does of it.
+//! How the event tables of queues are rotated: the statements of both steps, and what the daemon does of it.
 
-ghost use Rattle.std.specs.Prelude.{◌≡◌, Option, None, IfOk, IfErr, OnOk, if◌then◌else◌};
-ghost use Rattle.pgq_db.specs.Views.{NodePart};
+ghost use Rattle.std.specs.Prelude.{◌≡◌, IfOk, IfErr, OnOk};
 ghost use Rattle.sky_model.specs.Moment.{IsTime};
 ghost use Rattle.sky_model.specs.Outcome.{reply_of, marks_of};
-ghost use Rattle.sky_model.specs.Sessions.{outside, inside};
 ghost use Rattle.sky_model.specs.State.{after_marks};
-ghost use Rattle.sky_model.specs.StepRotation.{switch_of, maint_rotate_step1, rotates_by_itself, maint_rotate_step2};
+ghost use Rattle.sky_model.specs.StepRotation.{maint_rotate_step1, rotates_by_itself, maint_rotate_step2};
 ghost use Rattle.sky_model.specs.Stops.{Stops};
 ghost use Rattle.sky_model.specs.declared.reply.Reply.TheVariants.{Number};
-ghost use Rattle.sky_row_store.specs.Committing.{commits_of, committed_in};
-ghost use Rattle.sky_state.specs.Seen.{seen};
-ghost use Rattle.pgq_queues.specs.Batches.{StillStand};
-ghost use Rattle.pgq_queues.specs.Seen.{Beside, seen_with, queue_at, Stands};
-ghost use Rattle.pgq_queues.specs.Traced.{KeepsRest};
-ghost use Rattle.pgq_db.specs.Gives.{Ran};
-ghost use Rattle.pgq_db.specs.Seen.{with_node, seen_database};
-ghost use Rattle.pgq_db.specs.Switches.{switches_before_commit};
+ghost use Rattle.pgq_queues.specs.Seen.{Stands};
+ghost use Rattle.pgq_parts.specs.Gives.{Ran};
+ghost use Rattle.pgq_parts.specs.Seen.{seen_database};
 
 use crate::db::Db;
-use crate::retries::work_alone;
-use pgq_queues::Queues;
-use sky_model::{Refusal, Replies, Reply, Stop};
+use pgq_parts::{switch, work_alone};
+use sky_model::{Replies, Reply, Stop};
 use sky_row_store::RowStore;
 use sky_val::{SessionId, Text};
 
@@ -95,53 +86,5 @@ impl<R: RowStore> Db<R> {
         let txid = work_alone(&mut self.rows)?;
         self.queues.end_switches(txid);
         Ok(count)
-    }
-}
-
-/// A switch of a queue's event tables is pending, by a transaction. If that is the statement's own, outside a block, it
-/// has committed already, and the switch is made.
-fn switch(queues: &mut Queues, queue: usize, txid: u64, is_alone: bool, now: i64)
-    requires stands { Stands queues.old.queues queue }
-    requires time { IsTime now }
-    requires none { (queue_at queues.old queue).event_tables.pending ≡ None }
-    ensures marks { (beside : Beside) → seen_with beside queues.new
-        ≡ after_marks (seen_with beside queues.old) (switch_of queue txid now (if is_alone then outside else inside)) }
-    ensures stand { StillStand queues.old.queues queues.new.queues }
-    ensures rest { KeepsRest queues.old queues.new }
-{
-    queues.begin_switch(queue, txid);
-    if is_alone {
-        queues.commit_switch(queue, now);
-    }
-}
-
-/// Makes the switches of event tables that the session's transaction has pending, if a `commit` would make that
-/// permanent. Returns which transaction that is, if there is one, or why the `commit` would be refused.
-pub(crate) fn switch_before_commit<R: RowStore>(
-    queues: &mut Queues,
-    rows: &R,
-    now: i64,
-    who: SessionId,
-) -> Result<Option<u64>, Refusal>
-    requires { IsTime now }
-    ensures checked { result ≡ commits_of (seen (R.state rows.now)) who }
-    ensures marks { (node : NodePart) → seen_with (with_node node (seen (R.state rows.now))) queues.new
-        ≡ after_marks (seen_with (with_node node (seen (R.state rows.now))) queues.old) (switches_before_commit (seen_with (with_node node (seen (R.state rows.now))) queues.old) now who) }
-    ensures rest { KeepsRest queues.old queues.new }
-{
-    let checked = rows.check_commit(who);
-    if let Some(txid) = committed(&checked) {
-        queues.switch_tables(txid, now);
-    }
-    checked
-}
-
-/// The transaction that a `commit` which was checked makes permanent, if there is one.
-fn committed(checked: &Result<Option<u64>, Refusal>) -> Option<u64>
-    ensures { result ≡ committed_in checked.now }
-{
-    match checked {
-        Ok(txid) => *txid,
-        Err(_) => None,
     }
 }

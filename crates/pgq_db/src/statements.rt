@@ -22,25 +22,25 @@ ghost use Rattle.sky_model.specs.Calls.{form, statement, database_turn};
 ghost use Rattle.sky_model.specs.DatabaseCalls.{stepped};
 ghost use Rattle.sky_model.specs.DatabaseSteps.{DatabaseSteps};
 ghost use Rattle.sky_model.specs.Moment.{HasMoment, IsTime};
-ghost use Rattle.pgq_queues.specs.Seen.{Beside, seen_with, Stands};
-ghost use Rattle.pgq_queues.specs.Traced.{KeepsRest};
-ghost use Rattle.pgq_db.specs.Seen.{seen_database};
+ghost use Rattle.pgq_queues.specs.Seen.{Stands};
+ghost use Rattle.pgq_parts.specs.Seen.{seen_database};
 ghost use Rattle.sky_store.specs.Waiters.{StaysWithin};
-ghost use Rattle.pgq_db.specs.Looks.{LooksWithin, RanWithin, ListsLooked, ReadsNone};
-ghost use Rattle.pgq_db.specs.Gives.{Gives, Adds, Answers, Ran};
+ghost use Rattle.pgq_parts.specs.Looks.{LooksWithin, RanWithin, ListsLooked, ReadsNone};
+ghost use Rattle.pgq_parts.specs.Gives.{Gives, Adds, Answers, Ran};
 ghost use Rattle.sky_model.specs.Stops.{StopsAs};
 
 use crate::db::Db;
 use londiste_calls::tells_of_rows;
-use pgq_queues::{EVENT_ID_END, Queues, TableTrigger};
+use pgq_parts::{plain_event, put_with_extra, queue_called, shown_name};
+use pgq_queues::EVENT_ID_END;
 use pgq_tables::PlainEvent;
 use sky_model::{
-    BoxedExtra, DbStmt, Extra, InsertedEvent, Limit, QueueSetting, QueueStmt, Refusal, Replies,
-    Reply, Stop,
+    BoxedExtra, DbStmt, InsertedEvent, Limit, QueueSetting, QueueStmt, Refusal, Replies, Reply,
+    Stop,
 };
 use sky_row_store::RowStore;
-use sky_val::{Event, NoMemory, SessionId, Text, copy_option};
-use std::alloc::{AllocError, Global};
+use sky_val::{NoMemory, SessionId, Text};
+use std::alloc::AllocError;
 
 impl<R: RowStore> Db<R> {
     /// Runs a statement of a session, and those that it unblocks. For `get_batch_events` and `event_retry` no more stored
@@ -511,101 +511,6 @@ struct Forced {
     seq: u64,
     /// The id of the newest tick.
     newest: u64,
-}
-
-/// The number of the queue of this name, of the queues alone, for those that have no whole database at hand.
-pub(crate) fn queue_called(alloc: Global, queues: &Queues, queue: &Text) -> Result<usize, Stop>
-    ensures ok { (beside : Beside) → IfOk result (λ number. queue_called queue.now (seen_with beside queues.now) ≡ Ok number) }
-    ensures stands { IfOk result (λ number. Stands queues.now.queues number) }
-    ensures err { (beside : Beside) → IfErr result (λ stop. StopsAs stop (queue_called queue.now (seen_with beside queues.now))) }
-{
-    match queues.number(queue) {
-        Some(number) => Ok(number),
-        None => Err(Stop::Refused(Refusal::NoQueue(queue.copy(alloc)?))),
-    }
-}
-
-/// The name that a refusal shows for a trigger.
-fn shown_name(alloc: Global, trigger: &TableTrigger) -> Result<Text, NoMemory>
-    ensures { IfOk result (λ name. name ≡ shown_name trigger.now) }
-{
-    match &trigger.name {
-        Some(name) => name.copy(alloc),
-        None => Text::from_str(alloc, ""),
-    }
-}
-
-/// An event of this type and data, without further texts.
-#[inline(always)]
-fn plain_event(
-    alloc: Global,
-    id: u64,
-    now: i64,
-    txid: u64,
-    inserted: &InsertedEvent,
-) -> Result<PlainEvent, NoMemory>
-    ensures { IfOk result (λ event. event ≡ record { ev_id = id; ev_time = now; ev_txid = txid; ev_type = inserted.now.ev_type; ev_data = inserted.now.ev_data }) }
-{
-    Ok(PlainEvent {
-        ev_id: id,
-        ev_time: now,
-        ev_txid: txid,
-        ev_type: copy_option(alloc, &inserted.ev_type)?,
-        ev_data: copy_option(alloc, &inserted.ev_data)?,
-    })
-}
-
-/// Stores an event with these further texts.
-// Never inlined, so that an event without them isn't made as one that has room for them.
-#[inline(never)]
-fn put_with_extra(
-    alloc: Global,
-    queues: &mut Queues,
-    queue: usize,
-    event: PlainEvent,
-    extra: &BoxedExtra,
-) -> Result<(), NoMemory>
-    requires queue { Stands queues.old.queues queue }
-    requires time { HasMoment event.ev_time }
-    ensures mark { OnOk result ((beside : Beside) → seen_with beside queues.new ≡ after_mark (seen_with beside queues.old)
-        (queued (put queue (made_event event.ev_id event.ev_time event.ev_txid event.ev_type event.ev_data (Some extra.now))))) }
-    ensures rest { KeepsRest queues.old queues.new }
-{
-    let event = with_extra(alloc, event, extra)?;
-    queues.put(queue, event)?;
-    Ok(())
-}
-
-/// The event with these further texts.
-fn with_extra(alloc: Global, event: PlainEvent, extra: &BoxedExtra) -> Result<Event, NoMemory>
-    ensures { IfOk result (λ made. made ≡ made_event event.ev_id event.ev_time event.ev_txid event.ev_type event.ev_data (Some extra.now)) }
-{
-    let extra = copy_extra(alloc, extra.as_extra())?;
-    Ok(Event {
-        ev_id: event.ev_id,
-        ev_time: event.ev_time,
-        ev_txid: event.ev_txid,
-        ev_owner: None,
-        ev_retry: None,
-        ev_type: event.ev_type,
-        ev_data: event.ev_data,
-        ev_extra1: extra.ev_extra1,
-        ev_extra2: extra.ev_extra2,
-        ev_extra3: extra.ev_extra3,
-        ev_extra4: extra.ev_extra4,
-    })
-}
-
-/// Equal texts.
-fn copy_extra(alloc: Global, extra: &Extra) -> Result<Extra, NoMemory>
-    ensures { IfOk result (λ copy. copy ≡ extra.now) }
-{
-    Ok(Extra {
-        ev_extra1: copy_option(alloc, &extra.ev_extra1)?,
-        ev_extra2: copy_option(alloc, &extra.ev_extra2)?,
-        ev_extra3: copy_option(alloc, &extra.ev_extra3)?,
-        ev_extra4: copy_option(alloc, &extra.ev_extra4)?,
-    })
 }
 
 /// Whether a statement on queues may be made only outside blocks.

@@ -1,16 +1,16 @@
 //! What a database does for a world and for the workers of leaves: for its own node, and for those of other databases.
 //! A caller decides which of these calls a statement makes, and in which databases.
 
-use crate::copies::{delete_all, end_leaf_copy, keys_now, under_keys, write_all};
 use crate::db::Db;
-use crate::node::{
-    add_consumer, add_leaf_table, add_root_table, check_set_queue, make_leaf, make_root,
-    remove_consumer, remove_leaf_table, remove_root_table, set_leaf_state, set_trigger,
-};
 use londiste_calls::{
     ApplyFault, CopyFault, FetchFault, JoinFault, MakeRootFault, Pick, RootFault,
 };
 use londiste_state::{Node, TableState};
+use pgq_parts::{
+    add_consumer, add_leaf_table, add_root_table, check_set_queue, delete_all, end_leaf_copy,
+    keys_now, make_leaf, make_root, remove_consumer, remove_leaf_table, remove_root_table,
+    set_leaf_state, set_trigger, under_keys, write_all,
+};
 use sky_model::{DaemonPart, DbStmt, Limit, Refusal, Replies};
 use sky_row_store::RowStore;
 use sky_store::{NodeBatch, Store};
@@ -19,7 +19,7 @@ use sky_val::{Key, NoMemory, Row, Schema, SessionId, Text};
 use std::alloc::Global;
 
 impl<R: RowStore> Store for Db<R> {
-    ghost use Rattle.pgq_db.specs.Seen.{seen_database};
+    ghost use Rattle.pgq_parts.specs.Seen.{seen_database};
 
     ghost seen = { seen_database };
 

@@ -9,10 +9,12 @@ use Rattle.sky_model.specs.StepRetry.{back}
 use Rattle.pgq_retry.specs.declared.retry.Retry.{Retry}
 use Rattle.pgq_retry.specs.Retries.{is_event, put_by, sorted_by, by_due, is_due, due_now, without}
 use Rattle.pgq_retry.proofs.TakingDue.{taken_are}
-use Rattle.pgq_queues.specs.Views.{QueueView, QueuesView}
-use Rattle.pgq_queues.specs.Seen.{seen_queue, queue_at, seen_with, Beside}
+use Rattle.pgq_queue.specs.Views.{QueueView}
+use Rattle.pgq_queues.specs.Views.{QueuesView}
+use Rattle.pgq_queue.specs.Seen.{seen_queue}
+use Rattle.pgq_queues.specs.Seen.{queue_at, seen_with, Beside}
 use Rattle.pgq_tables.specs.Tables.{with_stored}
-use Rattle.pgq_queues.specs.Rotated.{retabled}
+use Rattle.pgq_queue.specs.Changed.{retabled}
 use Rattle.pgq_queues.specs.Retried.{IsWaiting, RetriedWithin}
 use Rattle.pgq_queues.proofs.Marked.{queues-set}
 

@@ -17,8 +17,10 @@ use Rattle.pgq_sub.specs.declared.sub.OpenBatch.{OpenBatch}
 use Rattle.pgq_sub.specs.Views.{SubView, seen_sub, with_open, at_tick, after_batch, finished}
 use Rattle.pgq_sub.specs.Seen.{SubsSeen, seen_subs, shown, with_member, with_sub, without_member}
 use Rattle.pgq_queues.specs.declared.batch.Place.{Place}
-use Rattle.pgq_queues.specs.Views.{QueueView, TracedTableView, QueuesView}
-use Rattle.pgq_queues.specs.Seen.{no_queue, seen_queue, sub_at, batch_of, batch_by, batch_at, kept, queue_at, seen_with, Stands, Beside}
+use Rattle.pgq_queue.specs.Views.{QueueView}
+use Rattle.pgq_queues.specs.Views.{TracedTableView, QueuesView}
+use Rattle.pgq_queue.specs.Seen.{no_queue, seen_queue}
+use Rattle.pgq_queues.specs.Seen.{sub_at, batch_of, batch_by, batch_at, kept, queue_at, seen_with, Stands, Beside}
 use Rattle.pgq_queues.specs.Batches.{open_id, but_of, AreIndexed, BatchesWithin}
 use Rattle.pgq_queues.specs.Numbers.{AreNumbers}
 use Rattle.pgq_queues.specs.Traced.{TracedWithin}

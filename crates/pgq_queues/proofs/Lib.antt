@@ -1,6 +1,5 @@
 pub mod NumberedQueues
 pub mod Slotted
-pub mod AllStored
 pub mod Marked
 pub mod Places
 pub mod TracedLists
@@ -10,6 +9,5 @@ pub mod Waiting
 pub mod BroughtBack
 pub mod Telling
 pub mod RotatedQueues
-pub mod HeldBack
 pub mod Unchanged
 pub mod Asked

@@ -22,8 +22,10 @@ use Rattle.sky_model.specs.ShownRows.{snapshot_now}
 use Rattle.pgq_queues.specs.declared.batch.Place.{Place}
 use Rattle.pgq_sub.specs.Views.{SubView}
 use Rattle.pgq_sub.specs.Seen.{SubsSeen, seen_subs, shown, no_subs}
-use Rattle.pgq_queues.specs.Views.{QueueView, TracedTableView, QueuesView}
-use Rattle.pgq_queues.specs.Seen.{seen_queue, no_queue, batch_by, sub_at, kept, numbered, queue_at, seen_with, Beside}
+use Rattle.pgq_queue.specs.Views.{QueueView}
+use Rattle.pgq_queues.specs.Views.{TracedTableView, QueuesView}
+use Rattle.pgq_queue.specs.Seen.{seen_queue, no_queue}
+use Rattle.pgq_queues.specs.Seen.{batch_by, sub_at, kept, numbered, queue_at, seen_with, Beside}
 use Rattle.pgq_queues.specs.Traced.{AreTables}
 use Rattle.pgq_queues.specs.Numbers.{Rise}
 use Rattle.pgq_queues.proofs.NumberedQueues.{numbered-more, others-removed}

@@ -8,8 +8,10 @@ use Rattle.std.proofs.lemmas.Option.{slice_get_read, get_or_from_slice_get, slic
 use Rattle.sky_names.specs.Places.{place_of, named}
 use Rattle.sky_names.specs.Named.{NamedView, value_of}
 use Rattle.sky_model.specs.Queues.{NamedQueue, others_than, queue_number}
-use Rattle.pgq_queues.specs.Views.{QueueView, QueuesView}
-use Rattle.pgq_queues.specs.Seen.{no_queue, numbered, unnamed, queues_of, Stands}
+use Rattle.pgq_queue.specs.Views.{QueueView}
+use Rattle.pgq_queues.specs.Views.{QueuesView}
+use Rattle.pgq_queue.specs.Seen.{no_queue}
+use Rattle.pgq_queues.specs.Seen.{numbered, unnamed, queues_of, Stands}
 use Rattle.pgq_queues.specs.Numbers.{Rise, AreNumbers}
 
 -- the number of a name is the value that is kept under it

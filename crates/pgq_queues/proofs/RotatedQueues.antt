@@ -12,14 +12,17 @@ use Rattle.sky_model.specs.History.{Mark, QueueMark, queued, switched, second_st
 use Rattle.sky_model.specs.Queues.{NamedQueue, is_pending, without_transaction}
 use Rattle.sky_model.specs.State.{Queue, Database, changed_at, with_tables, after_switch, after_mark, after_marks}
 use Rattle.sky_model.specs.StepRotation.{switches_by, second_steps, lack_second_step}
-use Rattle.pgq_queues.specs.Views.{QueueView, QueuesView}
-use Rattle.pgq_queues.specs.Seen.{no_queue, seen_queue, numbered, unnamed, queues_of, queue_at, seen_with, Stands, Beside}
+use Rattle.pgq_queue.specs.Views.{QueueView}
+use Rattle.pgq_queues.specs.Views.{QueuesView}
+use Rattle.pgq_queue.specs.Seen.{no_queue, seen_queue}
+use Rattle.pgq_queues.specs.Seen.{numbered, unnamed, queues_of, queue_at, seen_with, Stands, Beside}
 use Rattle.pgq_queues.specs.Numbers.{Rise, AreNumbers}
 use Rattle.pgq_queues.specs.Batches.{StillStand}
-use Rattle.pgq_queues.specs.Retried.{RetriedAtMost, RetriedWithin}
-use Rattle.pgq_queues.specs.Stored.{AllStored}
-use Rattle.pgq_queues.specs.Rotated.{retabled, undone_in, switched_in, settled_in, ended_in, each_changed}
-use Rattle.pgq_queues.proofs.AllStored.{stored-without, stored-switched}
+use Rattle.pgq_queue.specs.Stored.{RetriedAtMost, AllStored}
+use Rattle.pgq_queues.specs.Retried.{RetriedWithin}
+use Rattle.pgq_queue.specs.Changed.{retabled, undone_in, switched_in, settled_in, ended_in}
+use Rattle.pgq_queues.specs.Rotated.{each_changed}
+use Rattle.pgq_queue.proofs.AllStored.{stored-without, stored-switched}
 use Rattle.pgq_queues.proofs.Slotted.{any-default, undone-get}
 use Rattle.pgq_queues.proofs.Marked.{get_or-slice_set, batches-same, queues-set, queue-kept}
 use Rattle.pgq_queues.proofs.TracedLists.{there, goes-then, Stays, some-above, stand-set}

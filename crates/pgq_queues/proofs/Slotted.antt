@@ -1,9 +1,10 @@
 -- What is shown of slots, each of which has one queue or none.
 use Rattle.std.proofs.Common.{◌≡◌, ℕ, zero, suc, ◌<◌, List, [], ◌∷◌, ◌++◌, map, length, get_or, slice_set, refl, sym, ◌∙◌, ap, subst, arith}
 use Rattle.std.proofs.lemmas.List.{map-append}
-use Rattle.pgq_queues.specs.Views.{QueueView}
-use Rattle.pgq_queues.specs.Seen.{no_queue, Stands}
-use Rattle.pgq_queues.specs.Rotated.{undone_in}
+use Rattle.pgq_queue.specs.Views.{QueueView}
+use Rattle.pgq_queue.specs.Seen.{no_queue}
+use Rattle.pgq_queues.specs.Seen.{Stands}
+use Rattle.pgq_queue.specs.Changed.{undone_in}
 use Rattle.pgq_queues.proofs.TracedLists.{there}
 
 -- one slot has changed

@@ -10,10 +10,13 @@ use Rattle.sky_val.specs.declared.val.Val.{Val}
 use Rattle.sky_urlenc.specs.RowEvents.{TracedWrite, Trigger, RowEvent, leaves_out, event_of}
 use Rattle.sky_model.specs.Triggers.{TableTrigger}
 use Rattle.sky_model.specs.State.{changed_at}
-use Rattle.pgq_queues.specs.Views.{QueueView, TracedView, QueuesView}
-use Rattle.pgq_queues.specs.Seen.{no_queue, Stands}
+use Rattle.pgq_queue.specs.Views.{QueueView}
+use Rattle.pgq_queues.specs.Views.{TracedView, QueuesView}
+use Rattle.pgq_queue.specs.Seen.{no_queue}
+use Rattle.pgq_queues.specs.Seen.{Stands}
 use Rattle.pgq_queues.specs.Traced.{no_trigger, traced_at}
-use Rattle.pgq_queues.specs.EventRule.{events_by, table_events, events_at, count_of, sequences, ids_left, telling, telling_all, event_rule}
+use Rattle.pgq_queues.specs.EventRule.{events_by, table_events, events_at, count_of, sequences, ids_left, telling_all, event_rule}
+use Rattle.pgq_queue.specs.Changed.{telling}
 use Rattle.pgq_queues.specs.Batches.{StillStand}
 use Rattle.pgq_queues.proofs.Marked.{get_or-slice_set}
 use Rattle.pgq_queues.proofs.TracedLists.{goes-alike}

@@ -14,15 +14,17 @@ use Rattle.sky_val.specs.declared.column.Column.{Column}
 use Rattle.sky_model.specs.History.{queued, untraced}
 use Rattle.sky_model.specs.Triggers.{TableTrigger, is_sets, but_sets, triggers_of}
 use Rattle.sky_model.specs.State.{RowPart, after_mark}
-use Rattle.pgq_queues.specs.Views.{QueueView, TracedTableView, TracedView, QueuesView}
-use Rattle.pgq_queues.specs.Seen.{no_queue, seen_queue, sub_at, Stands, kept, seen_with, Beside}
+use Rattle.pgq_queue.specs.Views.{QueueView}
+use Rattle.pgq_queues.specs.Views.{TracedTableView, TracedView, QueuesView}
+use Rattle.pgq_queue.specs.Seen.{no_queue, seen_queue}
+use Rattle.pgq_queues.specs.Seen.{sub_at, Stands, kept, seen_with, Beside}
 use Rattle.pgq_queues.specs.Traced.{no_trigger, triggers_at, traced_by, traced_at, places_without, places_of, ArePlaced, TracedWithin, IsTable, IsTraced, AreTables}
 use Rattle.pgq_queues.specs.declared.batch.Place.{Place}
 use Rattle.sky_names.specs.Named.{NamedView}
 use Rattle.pgq_sub.specs.Seen.{no_subs}
 use Rattle.sky_model.specs.Queues.{Tick, newest_tick, id_of, is_above, ticks_above, second_step_of}
 use Rattle.pgq_tick.proofs.TickLists.{newest_tick-at, some-filter}
-use Rattle.pgq_queues.specs.Rotated.{switched_in}
+use Rattle.pgq_queue.specs.Changed.{switched_in}
 use Rattle.pgq_queues.specs.Batches.{StillStand, open_id, AreIndexed, BatchesWithin}
 use Rattle.pgq_queues.specs.Numbers.{AreNumbers}
 use Rattle.pgq_queues.proofs.NumberedQueues.{numbers-more, numbers-removed, stands-there}

@@ -4,8 +4,10 @@ use Rattle.std.proofs.lemmas.List.{get_or_read}
 use Rattle.sky_names.specs.Named.{NamedView}
 use Rattle.sky_model.specs.State.{Queue}
 use Rattle.sky_model.specs.Triggers.{TableTrigger}
-use Rattle.pgq_queues.specs.Views.{QueueView, QueuesView}
-use Rattle.pgq_queues.specs.Seen.{no_queue, seen_queue, queue_at, reads_at, seen_with, Stands, Beside}
+use Rattle.pgq_queue.specs.Views.{QueueView}
+use Rattle.pgq_queues.specs.Views.{QueuesView}
+use Rattle.pgq_queue.specs.Seen.{no_queue, seen_queue}
+use Rattle.pgq_queues.specs.Seen.{queue_at, reads_at, seen_with, Stands, Beside}
 use Rattle.pgq_queues.specs.Batches.{StillStand}
 use Rattle.pgq_queues.specs.Traced.{KeepsRest}
 use Rattle.pgq_queues.proofs.Marked.{get_or-slice_set, queues-set, queue-at}

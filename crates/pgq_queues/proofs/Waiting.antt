@@ -15,19 +15,21 @@ use Rattle.sky_names.specs.Named.{value_of}
 use Rattle.pgq_sub.specs.Views.{SubView, at_tick, finished, after_batch, with_open}
 use Rattle.pgq_sub.specs.declared.sub.OpenBatch.{OpenBatch}
 use Rattle.pgq_sub.specs.Seen.{no_subs}
-use Rattle.pgq_queues.specs.Views.{QueueView, QueuesView}
-use Rattle.pgq_queues.specs.Seen.{no_queue, seen_queue, sub_at, Stands}
+use Rattle.pgq_queue.specs.Views.{QueueView}
+use Rattle.pgq_queues.specs.Views.{QueuesView}
+use Rattle.pgq_queue.specs.Seen.{no_queue, seen_queue}
+use Rattle.pgq_queues.specs.Seen.{sub_at, Stands}
 use Rattle.pgq_queues.specs.Batches.{StillStand, BatchesWithin}
 use Rattle.pgq_queues.specs.Numbers.{AreNumbers}
 use Rattle.pgq_queues.specs.Traced.{TracedWithin}
-use Rattle.pgq_queues.specs.Retried.{RetriedAtMost, sub_id, HasConsumer, IsWaiting, RetriedWithin}
+use Rattle.pgq_queue.specs.Stored.{RetriedAtMost, AllStored}
+use Rattle.pgq_queues.specs.Retried.{sub_id, HasConsumer, IsWaiting, RetriedWithin}
 use Rattle.sky_model.specs.Telling.{told_event}
-use Rattle.pgq_queues.specs.EventRule.{telling, telling_all}
+use Rattle.pgq_queue.specs.Changed.{telling, retabled, switched_in}
+use Rattle.pgq_queues.specs.EventRule.{telling_all}
 use Rattle.pgq_tables.specs.Tables.{Stored, Tables, with_stored}
 use Rattle.pgq_tables.specs.Views.{TablesView}
-use Rattle.pgq_queues.specs.Stored.{AllStored}
-use Rattle.pgq_queues.specs.Rotated.{retabled, switched_in}
-use Rattle.pgq_queues.proofs.AllStored.{stored-one, stored-switched}
+use Rattle.pgq_queue.proofs.AllStored.{stored-one, stored-switched}
 use Rattle.pgq_queues.proofs.Marked.{no-subs, sub_at-gone, sub_at-more}
 use Rattle.pgq_queues.proofs.TracedLists.{stands-set, ticks-kept, Stays, stays-alike, stand-set, stand-shown, stands-kept, within-still, stands-more, there, gone-apart}
 use Rattle.pgq_queues.proofs.Indexed.{is_one, same_parts}

@@ -4,8 +4,9 @@ use Rattle.pgq_sub.specs.declared.sub.OpenBatch.{OpenBatch}
 use Rattle.pgq_sub.specs.Views.{SubView}
 use Rattle.pgq_sub.specs.Seen.{open_in}
 use Rattle.pgq_queues.specs.declared.batch.Place.{Place}
-use Rattle.pgq_queues.specs.Views.{QueueView}
-use Rattle.pgq_queues.specs.Seen.{no_queue, Stands, kept, sub_at}
+use Rattle.pgq_queue.specs.Views.{QueueView}
+use Rattle.pgq_queue.specs.Seen.{no_queue}
+use Rattle.pgq_queues.specs.Seen.{Stands, kept, sub_at}
 
 -- the queues that existed exist, no other does, and the subscriptions are what they were
 pub record StillStand (old new : List QueueView) : Type 0 where

@@ -3,14 +3,13 @@
 use Rattle.std.specs.Prelude.{ℕ, ℤ, ◌+◌, ◌^◌, Bool, true, not, ◌&&◌, ◌==◌, nat_le, if◌then◌else◌, List, [], ◌∷◌, Option, Some, None, map, slice_set, slice_index_or}
 use Rattle.sky_val.specs.declared.val.Val.{Val}
 use Rattle.sky_urlenc.specs.RowEvents.{RowEvent, events_of}
-use Rattle.pgq_tables.specs.Tables.{with_stored}
 use Rattle.sky_model.specs.Triggers.{TableTrigger}
 use Rattle.sky_model.specs.State.{changed_at}
-use Rattle.sky_model.specs.Telling.{told_event}
 use Rattle.sky_model.specs.Gates.{Gate, RowWrite}
-use Rattle.pgq_queues.specs.Views.{QueueView, TracedView, QueuesView}
-use Rattle.pgq_queues.specs.Seen.{no_queue}
-use Rattle.pgq_queues.specs.Rotated.{undone_in}
+use Rattle.pgq_queue.specs.Views.{QueueView}
+use Rattle.pgq_queues.specs.Views.{TracedView, QueuesView}
+use Rattle.pgq_queue.specs.Seen.{no_queue}
+use Rattle.pgq_queue.specs.Changed.{undone_in, telling}
 use Rattle.pgq_queues.specs.Traced.{traced_at}
 
 -- the events of triggers that record a write in a table, and those of all its triggers
@@ -39,10 +38,6 @@ sequences queues n = (slice_index_or queues n no_queue).seq
 abbrev pub ids_left : (ℕ → ℕ) → List RowEvent → Bool
 ids_left seq [] = true
 ids_left seq (e ∷ es) = not (nat_le (2 ^ 62) (seq e.queue + 1)) && ids_left (changed_at e.queue (λ n. n + 1) seq) es
-
--- a queue with one more event of a trigger, at a time, of a transaction: it takes the next id
-abbrev pub telling : ℤ → ℕ → RowEvent → QueueView → QueueView
-telling now t e q = record q { seq = q.seq + 1; event_tables = record q.event_tables { tables = with_stored (told_event (q.seq + 1) now t e) q.event_tables.tables } }
 
 -- queues with events, each in its own
 abbrev pub telling_all : ℤ → ℕ → List RowEvent → List QueueView → List QueueView

@@ -2,11 +2,7 @@ pub mod Views
 pub mod Seen
 pub mod Batches
 pub mod Numbers
-pub mod Stored
-pub mod Held
-pub mod Looked
 pub mod Rotated
 pub mod Traced
 pub mod Retried
 pub mod EventRule
-pub mod Made

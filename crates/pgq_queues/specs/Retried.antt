@@ -1,17 +1,13 @@
 -- What holds of the retries that a database keeps, and of the events that were retried.
-use Rattle.std.specs.Prelude.{◌≡◌, ℕ, ◌+◌, ◌≤◌, List, Option, Some, option_map, unwrap_or, slice_index_or}
+use Rattle.std.specs.Prelude.{◌≡◌, ℕ, ◌+◌, List, Option, Some, option_map, slice_index_or}
 use Rattle.std.specs.List.{All}
-use Rattle.sky_val.specs.declared.event.Event.{Event}
 use Rattle.pgq_retry.specs.declared.retry.Retry.{Retry}
 use Rattle.sky_model.specs.Moment.{HasMoment}
 use Rattle.pgq_sub.specs.Views.{SubView}
-use Rattle.pgq_queues.specs.Views.{QueueView}
-use Rattle.pgq_queues.specs.Stored.{AllStored}
-use Rattle.pgq_queues.specs.Seen.{no_queue, sub_at, Stands}
-
--- an event was retried at most so often
-abbrev pub RetriedAtMost : ℕ → Event → Type 0
-RetriedAtMost rounds e = unwrap_or e.ev_retry 0 ≤ rounds
+use Rattle.pgq_queue.specs.Views.{QueueView}
+use Rattle.pgq_queue.specs.Stored.{AllStored, RetriedAtMost}
+use Rattle.pgq_queue.specs.Seen.{no_queue}
+use Rattle.pgq_queues.specs.Seen.{sub_at, Stands}
 
 -- the id of a consumer's subscription
 abbrev pub sub_id : List QueueView → ℕ → List ℕ → Option ℕ

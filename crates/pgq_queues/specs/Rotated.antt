@@ -1,30 +1,7 @@
--- How a queue is rotated, as the code keeps it.
-use Rattle.std.specs.Prelude.{ℕ, ℤ, List, [], ◌∷◌, is_none, if◌then◌else◌, slice_index_or, slice_set}
-use Rattle.pgq_tables.specs.Tables.{Tables, with_second_step}
-use Rattle.pgq_tables.specs.Tables as tables_of
-use Rattle.sky_model.specs.Queues.{is_pending, without_transaction, ticks_above, second_step_of}
-use Rattle.pgq_queues.specs.Views.{QueueView}
-use Rattle.pgq_queues.specs.Seen.{no_queue}
-
--- a queue with its event tables changed; how often events were looked at stays
-abbrev pub retabled : (Tables → Tables) → QueueView → QueueView
-retabled change q = record q { event_tables = record q.event_tables { tables = change q.event_tables.tables } }
-
--- a queue once a transaction was rolled back
-abbrev pub undone_in : ℕ → QueueView → QueueView
-undone_in t q = retabled (without_transaction t) q
-
--- a queue whose pending switch was made at a time
-abbrev pub switched_in : ℤ → QueueView → QueueView
-switched_in now q = record (retabled (tables_of.with_switch now) q) { ticks = ticks_above (second_step_of q.event_tables.tables) q.ticks }
-
--- one whose pending switch was made if it is this transaction's
-abbrev pub settled_in : ℕ → ℤ → QueueView → QueueView
-settled_in t now q = if is_pending t q.event_tables.tables then switched_in now q else q
-
--- one whose second step was made by this transaction if it was missing
-abbrev pub ended_in : ℕ → QueueView → QueueView
-ended_in t q = if is_none q.event_tables.tables.second_step then retabled (with_second_step t) q else q
+-- How queues are rotated, as the code keeps them.
+use Rattle.std.specs.Prelude.{ℕ, List, [], ◌∷◌, slice_index_or, slice_set}
+use Rattle.pgq_queue.specs.Views.{QueueView}
+use Rattle.pgq_queue.specs.Seen.{no_queue}
 
 -- each of the queues of some numbers is changed, one after another
 abbrev pub each_changed : (QueueView → QueueView) → List ℕ → List QueueView → List QueueView

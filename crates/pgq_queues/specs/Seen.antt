@@ -6,31 +6,16 @@ use Rattle.std.specs.Map.{lookup}
 use Rattle.londiste_state.specs.Nodes.{Node}
 use Rattle.sky_model.specs.History as model
 use Rattle.sky_model.specs.Queues.{NamedQueue}
-use Rattle.pgq_tables.specs.Tables.{no_tables}
-use Rattle.sky_model.specs.Config.{default_config}
 use Rattle.sky_model.specs.Copies.{Copy, Hold}
 use Rattle.sky_model.specs.State.{Queue, RowPart, Database}
 use Rattle.pgq_sub.specs.declared.sub.OpenBatch.{OpenBatch}
 use Rattle.pgq_sub.specs.Views.{SubView}
-use Rattle.pgq_sub.specs.Seen.{seen_subs, shown, no_subs}
+use Rattle.pgq_sub.specs.Seen.{seen_subs}
 use Rattle.pgq_queues.specs.declared.batch.Batch.{Batch}
-use Rattle.pgq_queues.specs.declared.batch.Span.{Span}
 use Rattle.pgq_queues.specs.declared.batch.Place.{Place}
-use Rattle.pgq_queues.specs.Views.{QueueView, QueuesView}
-
-abbrev pub seen_queue : QueueView → Queue
-seen_queue q = record {
-  config = q.config;
-  seq = q.seq;
-  event_tables = q.event_tables.tables;
-  tick_list = q.ticks;
-  members = (seen_subs q.subs).members;
-  sub = shown (seen_subs q.subs).kept;
-}
-
--- a queue that isn't made, or was dropped
-abbrev pub no_queue : QueueView
-no_queue = record { config = default_config; seq = 0; event_tables = record { tables = no_tables; reads = 0 }; ticks = []; subs = no_subs }
+use Rattle.pgq_queue.specs.Views.{QueueView}
+use Rattle.pgq_queues.specs.Views.{QueuesView}
+use Rattle.pgq_queue.specs.Seen.{seen_queue, no_queue}
 
 -- the queue of a number exists: it has a tick
 abbrev pub Stands : List QueueView → ℕ → Type 0
@@ -43,10 +28,6 @@ sub_at queues n consumer = (seen_subs (slice_index_or queues n no_queue).subs).k
 -- a batch that is read
 abbrev pub seen_batch : Batch → model.Batch
 seen_batch b = record { id = b.id; queue = b.queue; consumer = b.consumer.now; sub = b.sub; prev = b.prev; cur = b.cur }
-
--- what decides which events a batch has: its queue, its subscription and its two ticks, and neither its id nor its consumer
-abbrev pub seen_span : Span → model.Batch
-seen_span s = record { id = 0; queue = s.queue; consumer = []; sub = s.sub; prev = s.prev; cur = s.cur }
 
 -- how many stored events of the queue of a number were ever looked at
 abbrev pub reads_at : List QueueView → ℕ → ℕ

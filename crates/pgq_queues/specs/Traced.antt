@@ -4,7 +4,8 @@ use Rattle.std.specs.List.{All}
 use Rattle.sky_val.specs.declared.column.Column.{Column}
 use Rattle.sky_model.specs.Triggers.{TableTrigger, triggers_of}
 use Rattle.sky_model.specs.State.{RowPart}
-use Rattle.pgq_queues.specs.Views.{QueueView, TracedTableView, TracedView, QueuesView}
+use Rattle.pgq_queue.specs.Views.{QueueView}
+use Rattle.pgq_queues.specs.Views.{TracedTableView, TracedView, QueuesView}
 use Rattle.pgq_queues.specs.Seen.{Stands, kept}
 
 -- a trigger that isn't made

@@ -1,22 +1,11 @@
--- What contracts see of a queue and of a database's queues, as the code keeps them.
+-- What contracts see of a database's queues, as the code keeps them.
 use Rattle.std.specs.Prelude.{ℕ, ℤ, List}
 use Rattle.sky_val.specs.declared.column.Column.{Column}
 use Rattle.sky_names.specs.Named.{NamedView}
 use Rattle.pgq_retry.specs.declared.retry.Retry.{Retry}
-use Rattle.pgq_tables.specs.Views.{TablesView}
-use Rattle.sky_model.specs.Config.{Config}
-use Rattle.sky_model.specs.Queues.{Tick}
 use Rattle.sky_model.specs.Triggers.{TableTrigger}
-use Rattle.pgq_sub.specs.Views.{SubView}
 use Rattle.pgq_queues.specs.declared.batch.Place.{Place}
-
-pub record QueueView : Type 0 where
-  pub config : Config
-  pub seq : ℕ
-  pub event_tables : TablesView
-  pub ticks : List Tick
-  -- by their consumers, in the order of registering
-  pub subs : NamedView SubView
+use Rattle.pgq_queue.specs.Views.{QueueView}
 
 -- a table with triggers: its name, its columns, and the places of its own among the triggers of all tables
 pub record TracedTableView : Type 0 where

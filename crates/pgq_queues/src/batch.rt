@@ -1,6 +1,7 @@
 ghost use Rattle.std.specs.Prelude.{◌≡◌, option_copied};
 ghost use Rattle.sky_model.specs.Queues.{seq_at};
 
+use pgq_queue::Span;
 use pgq_tick::Tick;
 use sky_val::Text;
 
@@ -18,16 +19,6 @@ pub struct Batch<'a> {
     pub id: u64,
     pub queue: usize,
     pub consumer: &'a Text,
-    pub sub: u64,
-    pub prev: u64,
-    pub cur: u64,
-}
-
-/// What decides which events a batch has: its queue's number, its subscription, and the ids of its opening and closing
-/// tick.
-#[derive(Clone, Copy)]
-pub struct Span {
-    pub queue: usize,
     pub sub: u64,
     pub prev: u64,
     pub cur: u64,

@@ -5,7 +5,8 @@ ghost use Rattle.std.specs.List.{All};
 ghost use Rattle.sky_model.specs.Moment.{HasMoment};
 ghost use Rattle.pgq_queues.specs.Seen.{Stands};
 ghost use Rattle.pgq_queues.specs.Batches.{StillStand};
-ghost use Rattle.pgq_queues.specs.Rotated.{undone_in, each_changed};
+ghost use Rattle.pgq_queue.specs.Changed.{undone_in};
+ghost use Rattle.pgq_queues.specs.Rotated.{each_changed};
 ghost use Rattle.pgq_queues.specs.EventRule.{events_by, table_events, count_of, sequences, ids_left, telling_all, event_rule};
 
 use crate::queues::Queues;

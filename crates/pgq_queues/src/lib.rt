@@ -9,17 +9,15 @@
 
 mod batch;
 mod gate;
-mod held;
-mod queue;
 mod queues;
 mod retries;
 mod rotation;
 mod slots;
 mod traced;
 
-pub use batch::{Batch, Span};
+pub use batch::Batch;
 pub use gate::EVENT_ID_END;
-pub use queue::Queue;
+pub use pgq_queue::{Queue, Span};
 pub use queues::Queues;
 pub use retries::MOST_BACK;
 pub use traced::TableTrigger;

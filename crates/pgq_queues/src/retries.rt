@@ -8,14 +8,16 @@ ghost use Rattle.sky_model.specs.Moment.{HasMoment};
 ghost use Rattle.sky_model.specs.Selection.{selected};
 ghost use Rattle.sky_model.specs.State.{after_mark, after_marks};
 ghost use Rattle.sky_model.specs.StepRetry.{back, most_back};
-ghost use Rattle.pgq_queues.specs.Seen.{seen_with, seen_span, queue_at, reads_at, Stands, Beside};
+ghost use Rattle.pgq_queues.specs.Seen.{seen_with, queue_at, reads_at, Stands, Beside};
+ghost use Rattle.pgq_queue.specs.Seen.{seen_span};
 ghost use Rattle.pgq_queues.specs.Batches.{StillStand};
-ghost use Rattle.pgq_queues.specs.Looked.{most_in};
+ghost use Rattle.pgq_queue.specs.Looked.{most_in};
 ghost use Rattle.pgq_queues.specs.Traced.{KeepsRest};
-ghost use Rattle.pgq_queues.specs.Retried.{RetriedAtMost, HasConsumer};
+ghost use Rattle.pgq_queue.specs.Stored.{RetriedAtMost};
+ghost use Rattle.pgq_queues.specs.Retried.{HasConsumer};
 
-use crate::batch::Span;
 use crate::queues::Queues;
+use pgq_queue::Span;
 use pgq_retry::Retry;
 use sky_val::{Event, NoMemory};
 

@@ -8,8 +8,9 @@ ghost use Rattle.sky_model.specs.State.{after_mark, after_marks};
 ghost use Rattle.sky_model.specs.StepRotation.{held_back, lack_second_step, second_steps, switches_of};
 ghost use Rattle.pgq_queues.specs.Seen.{seen_with, queue_at, Stands, Beside};
 ghost use Rattle.pgq_queues.specs.Batches.{StillStand};
-ghost use Rattle.pgq_queues.specs.Held.{IsPrinted};
-ghost use Rattle.pgq_queues.specs.Rotated.{settled_in, ended_in, each_changed};
+ghost use Rattle.pgq_queue.specs.Held.{IsPrinted};
+ghost use Rattle.pgq_queue.specs.Changed.{settled_in, ended_in};
+ghost use Rattle.pgq_queues.specs.Rotated.{each_changed};
 ghost use Rattle.pgq_queues.specs.Traced.{KeepsRest};
 
 use crate::queues::Queues;

@@ -1,11 +1,12 @@
 ghost use Rattle.std.specs.Prelude.{◌≡◌, ◌<◌, [], ◌∷◌, ◌++◌, List, OnOk, OnErr, length, slice_index_or, slice_set};
 ghost use Rattle.std.specs.Borrow.{Lends, sem};
 ghost use Rattle.sky_model.specs.Moment.{IsTime};
-ghost use Rattle.pgq_queues.specs.Views.{QueueView};
-ghost use Rattle.pgq_queues.specs.Seen.{no_queue, Stands};
-ghost use Rattle.pgq_queues.specs.Made.{new_queue};
+ghost use Rattle.pgq_queue.specs.Views.{QueueView};
+ghost use Rattle.pgq_queue.specs.Seen.{no_queue};
+ghost use Rattle.pgq_queues.specs.Seen.{Stands};
+ghost use Rattle.pgq_queue.specs.Made.{new_queue};
 
-use crate::queue::Queue;
+use pgq_queue::Queue;
 use sky_txid::Snapshot;
 use sky_val::NoMemory;
 use std::alloc::Global;
@@ -22,8 +23,8 @@ pub struct Slots {
 
 impl Model for Slots {
     ghost use Rattle.std.specs.Prelude.{List, map, slice_index_or};
-    ghost use Rattle.pgq_queues.specs.Views.{QueueView};
-    ghost use Rattle.pgq_queues.specs.Seen.{no_queue};
+    ghost use Rattle.pgq_queue.specs.Views.{QueueView};
+    ghost use Rattle.pgq_queue.specs.Seen.{no_queue};
 
     ghost Value = { List QueueView };
 
@@ -32,7 +33,7 @@ impl Model for Slots {
 
 impl Slots {
     ghost use Rattle.pgq_queues.specs.contracts.slots.Slots.{the_row};
-    ghost use Rattle.pgq_queues.specs.contracts.queue.Queue as of_queue;
+    ghost use Rattle.pgq_queue.specs.contracts.queue.Queue as of_queue;
 
     /// No queues.
     pub(crate) fn new(alloc: Global) -> Slots

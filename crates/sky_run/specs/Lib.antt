@@ -1,5 +1,2 @@
-pub mod Running
-pub mod Ends
-pub mod Goes
 pub mod Statuses
 pub mod Words

@@ -5,7 +5,7 @@ use Rattle.sky_io.specs.declared.sink.SinkFault.{SinkFault}
 use Rattle.sky_io.specs.declared.sink.SinkFault.TheVariants as faults
 use Rattle.sky_model.specs.declared.line.Cause.{Cause}
 use Rattle.sky_model.specs.Transcript.{transcript, bad_line, bad_text, usage}
-use Rattle.sky_run.specs.Ends.{IsGoodSoFar}
+use Rattle.sky_loop.specs.Ends.{IsGoodSoFar}
 
 -- the words, as bytes
 abbrev pub texts : {A : Type 0} → List (String A) → List (List ℕ)

@@ -7,11 +7,12 @@ ghost use Rattle.sky_model.specs.Transcript as spec;
 ghost use Rattle.sky_run.specs.Statuses.{texts, Known, KnownIfRelied, PrintsWhole, TellsBadLine, PrintsGiven, complaint, due_status};
 ghost use Rattle.sky_run.specs.Statuses as statuses;
 
-use crate::end::End;
-use crate::run::run_lines;
 use crate::words::is_run;
+use pgq_db::Db;
 use sky_io::{Sink, SinkFault, Source, write_all};
+use sky_loop::{End, run_lines};
 use sky_model::Cause;
+use sky_session::RowDb;
 use std::alloc::{AllocError, Global};
 
 /// The script ended, and all was written.
@@ -70,7 +71,7 @@ pub fn run_main<S: Source, O: Sink, E: Sink>(
     if !known {
         return report_usage(err);
     }
-    match run_lines(alloc, src, out) {
+    match run_lines::<Db<RowDb>, S, O>(alloc, src, out) {
         End::Whole => WHOLE,
         End::Bad(line, cause) => report_bad_line(alloc, line, cause, err),
         End::Read => READ_FAULT,

@@ -1,15 +1,12 @@
 -- Writes that wait, and those that resume.
-use Rattle.std.proofs.Common.{◌≡◌, ℕ, ◌<◌, [], ◌∷◌, ◌++◌, true, Option, Some, None, length, option_map, Err, List, refl, sym, ◌∙◌, ap, subst, append-nil}
+use Rattle.std.proofs.Common.{◌≡◌, ℕ, ◌<◌, [], ◌∷◌, ◌++◌, true, Option, Some, None, length, refl, sym, ◌∙◌, ap, subst, append-nil}
 use Rattle.sky_keys.specs.Waits.{Waiting, is_waiting}
-use Rattle.sky_model.specs.declared.reply.Reply.TheVariants.{Refused, Waits}
-use Rattle.sky_model.specs.declared.reply.Refusal.TheVariants.{Canceled, Deadlock}
+use Rattle.sky_model.specs.declared.reply.Reply.TheVariants.{Refused}
+use Rattle.sky_model.specs.declared.reply.Refusal.TheVariants.{Canceled}
 use Rattle.sky_model.specs.History.{tabled, waits, waited}
 use Rattle.sky_model.specs.Sessions.{Block, outside, inside, failed}
 use Rattle.sky_model.specs.State.{RowPart, after_part, after_part_marks}
-use Rattle.sky_model.specs.Outcome.{◌>>◌, refused_by, does_marks, marks_of, abort}
-use Rattle.sky_model.specs.declared.stmt.Attempt.{Attempt}
-use Rattle.sky_val.specs.declared.val.Val.{Val}
-use Rattle.sky_model.specs.StepLocks.{ring, blocked}
+use Rattle.sky_model.specs.Outcome.{marks_of, abort}
 use Rattle.sky_model.specs.StepSession.{cancel}
 use Rattle.sky_model.specs.Reader.{PartReader, part_by_itself}
 use Rattle.sky_model.specs.Gates.{Gate, passed_all, by_gate}
@@ -19,7 +16,7 @@ use Rattle.sky_row_store.specs.declared.row_step.RowStep.{RowStep}
 use Rattle.sky_model.specs.SessionMarks.{failure}
 use Rattle.sky_row_store.specs.Effects.{with_effects}
 use Rattle.sky_row_store.specs.Gives.{Adds}
-use Rattle.sky_session.specs.Gives.{Does}
+use Rattle.sky_row_statements.specs.Ran.{Does}
 use Rattle.sky_session.proofs.Steps.{place-behind, adds-settled}
 
 -- a canceled statement is refused
@@ -92,14 +89,3 @@ passes-cancel gate d mid g g' who busy left passed =
   where
     same : failure who (mid.session who).txid (mid.session who).block ≡ abort who (d.session who).block (d.session who).txid Canceled
     same = ap (λ (p : RowPart). failure who (p.session who).txid (p.session who).block) left ∙ failure-abort who (d.session who).txid (d.session who).block
-
--- a session waits for the holder of a key
-pub does-wait : (d new : RowPart) (before after : RowStep) (who table : ℕ) (key : List Val) (attempt : Attempt) (holder : ℕ) → ring d who holder ≡ None → after.replies ≡ before.replies ++ (who, Waits holder) ∷ []
-    → after.effects ≡ with_effects before.effects [] → new ≡ after_part d (tabled (waits who table key attempt)) → Does d new before after who (blocked d who table key attempt holder)
-does-wait d new before after who table key attempt holder none replied told changed =
-    subst (λ r. Does d new before after who (refused_by (option_map Deadlock r) >> does_marks (Waits holder) (tabled (waits who table key attempt) ∷ []))) (sym none)
-    (record { accepted = refl; replied = replied; told = told; changed = changed })
-
--- if it would wait for itself it is refused
-pub ring-refused : (d : RowPart) (who table : ℕ) (key : List Val) (attempt : Attempt) (holder : ℕ) (closed : List ℕ) → ring d who holder ≡ Some closed → blocked d who table key attempt holder ≡ Err (Deadlock closed)
-ring-refused d who table key attempt holder closed is = ap (λ r. refused_by (option_map Deadlock r) >> does_marks (Waits holder) (tabled (waits who table key attempt) ∷ [])) is

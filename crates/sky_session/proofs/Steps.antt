@@ -1,22 +1,21 @@
 -- What a step gives, part by part.
-use Rattle.std.proofs.Common.{◌≡◌, ℕ, List, [], ◌∷◌, ◌++◌, Bool, true, false, Option, Some, None, Result, Ok, Err, IfOk, OnOk, refl, sym, ◌∙◌, ap, subst, append_assoc, append-nil, eq-eqb, if◌then◌else◌}
+use Rattle.std.proofs.Common.{◌≡◌, ℕ, List, [], ◌∷◌, ◌++◌, Bool, true, false, Option, Some, None, Result, Ok, Err, IfOk, OnOk, refl, sym, ◌∙◌, ap, subst, append_assoc, append-nil, if◌then◌else◌}
 use Rattle.sky_model.specs.declared.reply.Reply.TheVariants.{Number}
 use Rattle.sky_model.specs.declared.reply.Refusal.{Refusal}
 use Rattle.sky_model.specs.declared.stmt.RowStmt.{RowStmt}
 use Rattle.sky_model.specs.declared.stmt.Where.{Where}
 use Rattle.sky_model.specs.declared.stmt.Where.TheVariants.{WhenReading}
-use Rattle.sky_urlenc.specs.RowEvents.{op_of}
 use Rattle.sky_keys.specs.Waits.{is_waiting}
-use Rattle.sky_model.specs.History.{Mark, ended, sight_taken, tabled, wrote}
-use Rattle.sky_model.specs.State.{RowPart, with_txid, after_part, after_part_marks}
+use Rattle.sky_model.specs.History.{sight_taken}
+use Rattle.sky_model.specs.State.{RowPart, after_part, after_part_marks}
 use Rattle.sky_val.specs.declared.val.Val.{Val}
 use Rattle.sky_val.specs.Schemas.{key_columns}
 use Rattle.sky_model.specs.ShownRows.{RowsShown, rows_by}
 use Rattle.sky_model.specs.StepRows.{table_called, fits, row_or_none, get}
-use Rattle.sky_model.specs.Outcome.{Outcome, Checked, ◌>>=◌, ◌>>◌, does_marks, or_refused}
+use Rattle.sky_model.specs.Outcome.{Outcome, Checked, ◌>>=◌, ◌>>◌, does_marks, or_refused, marks_of}
 use Rattle.sky_model.specs.Allowed.{where_of_row, allowed}
 use Rattle.sky_model.specs.Made.{Making, takes_sight, runs, looking, runs_if}
-use Rattle.sky_model.specs.OwnTransaction.{own_or_next, txid_for, begin_of, commit_of, in_own}
+use Rattle.sky_model.specs.OwnTransaction.{txid_for, begin_of, commit_of, in_own}
 use Rattle.sky_model.specs.StepSession.{txid_current}
 use Rattle.sky_model.specs.Reader.{part_by_itself}
 use Rattle.sky_model.specs.Gates.{Gate, passed_all, gated, by_gate, open_gate}
@@ -24,8 +23,7 @@ use Rattle.sky_model.specs.Calls.{row_form, row_making, row_statement}
 use Rattle.sky_model.specs.Settling.{Turn, turn_of, with_rest, behind_marks, settling, with_settling}
 use Rattle.sky_histories.proofs.GatedLemmas.{gated-behind, passed-append, passed-none, gated-none, PlainOutcome, NoticesNone}
 use Rattle.sky_row_store.specs.declared.row_step.RowStep.{RowStep}
-use Rattle.sky_row_store.specs.declared.effect.Effect.TheVariants.{Wrote, Committed, Aborted}
-use Rattle.sky_row_store.specs.Effects.{EffectsView, effects_by, with_effects}
+use Rattle.sky_row_store.specs.Effects.{with_effects}
 use Rattle.sky_state.specs.Views.{RowStateView}
 use Rattle.sky_state.specs.Seen.{seen}
 use Rattle.sky_model.specs.declared.stop.Stop.{Stop}
@@ -36,62 +34,9 @@ use Rattle.sky_model.specs.RowCalls.{RowCall, row_entered, txid_taken, single_en
 use Rattle.sky_model.specs.RowSteps.{RowSteps}
 use Rattle.sky_histories.proofs.RowCallStanding.{row_enter_from_exact, take_txid_from_exact, end_single_from_exact}
 use Rattle.sky_row_store.specs.Gives.{nothing, Adds, Settles}
-use Rattle.sky_session.specs.Gives.{Gives, Does, Ran, Passes, Runs, Writes}
-use Rattle.sky_model.specs.Outcome.{marks_of}
-
--- the marks of two lists, one after the other
-pub after-append : (d : RowPart) (xs ys : List Mark) → after_part_marks d (xs ++ ys) ≡ after_part_marks (after_part_marks d xs) ys
-after-append d [] ys = refl
-after-append d (x ∷ xs) ys = after-append (after_part d x) xs ys
-
--- the effects of two lists of marks, one after the other
-pub effects-append : (w : Bool) (xs ys : List Mark) → effects_by w (xs ++ ys) ≡ effects_by w xs ++ effects_by w ys
-effects-append w [] ys = refl
-effects-append w (ended who t true ∷ xs) ys = ap (λ es. Committed t ∷ es) (effects-append w xs ys)
-effects-append w (ended who t false ∷ xs) ys = ap (λ es. Aborted t ∷ es) (effects-append w xs ys)
-effects-append true (tabled (wrote who t table key old new) ∷ xs) ys = ap (λ es. Wrote t table (op_of old new) old new ∷ es) (effects-append true xs ys)
-effects-append false (tabled (wrote who t table key old new) ∷ xs) ys = effects-append false xs ys
-effects-append w (mark ∷ xs) ys = effects-append w xs ys
-
-pub with-append : (e : EffectsView) (xs ys : List Mark) → with_effects (with_effects e xs) ys ≡ with_effects e (xs ++ ys)
-with-append e xs ys =
-    ap (λ items. record e { items = items }) (append_assoc e.items (effects_by e.whole xs) (effects_by e.whole ys) ∙ ap (λ es. e.items ++ es) (sym (effects-append e.whole xs ys)))
-
--- the id that was found, or 0
-abbrev found_id : Checked ℕ → ℕ
-found_id (Ok t) = t
-found_id (Err refusal) = 0
-
--- a session has its id as soon as its transaction begins
-pub begun-txid : (d new : RowPart) (who t : ℕ) → txid_for d who ≡ Ok t → new ≡ after_part_marks d (begin_of who t (d.session who).txid) → (new.session who).txid ≡ Some t
-begun-txid d new who t is begun = ap (λ (p : RowPart). (p.session who).txid) begun ∙ by (d.session who).txid refl
-  where
-    by : (o : Option ℕ) → (d.session who).txid ≡ o → ((after_part_marks d (begin_of who t o)).session who).txid ≡ Some t
-    by None e = ap (λ b. (if b then with_txid (Some t) (d.session who) else d.session who).txid) (eq-eqb who who refl)
-    by (Some u) e = e ∙ ap (λ r. Some (found_id r)) (sym (ap (own_or_next d) e) ∙ is)
-
--- and is in its block as before
-pub begun-block : (d : RowPart) (who t : ℕ) (o : Option ℕ) → ((after_part_marks d (begin_of who t o)).session who).block ≡ (d.session who).block
-begun-block d who t None = ap (λ b. (if b then with_txid (Some t) (d.session who) else d.session who).block) (eq-eqb who who refl)
-begun-block d who t (Some own) = refl
-
--- what is done in the transaction, and its end if it is of one statement
-pub part-written : (d one two three : RowPart) (who t : ℕ) (marks : List Mark) → one ≡ after_part_marks d (begin_of who t (d.session who).txid) → two ≡ after_part_marks one marks
-    → (two.session who).block ≡ (d.session who).block → three ≡ after_part_marks two (commit_of who t (two.session who).block) → three ≡ after_part_marks d (in_own who t (d.session who) marks)
-part-written d one two three who t marks first second same third =
-    third ∙ ap (λ block. after_part_marks two (commit_of who t block)) same
-    ∙ ap (λ p. after_part_marks p ends) (second ∙ ap (λ p. after_part_marks p marks) first ∙ sym (after-append d begins marks))
-    ∙ sym (after-append d (begins ++ marks) ends)
-  where
-    begins : List Mark
-    begins = begin_of who t (d.session who).txid
-
-    ends : List Mark
-    ends = commit_of who t (d.session who).block
-
-pub begun-told : (e : EffectsView) (who t : ℕ) (own : Option ℕ) (marks ends : List Mark) → with_effects e (begin_of who t own ++ marks ++ ends) ≡ with_effects e (marks ++ ends)
-begun-told e who t None marks ends = refl
-begun-told e who t (Some own) marks ends = refl
+use Rattle.sky_session.specs.Gives.{Gives}
+use Rattle.sky_row_statements.specs.Ran.{Does, Ran, Passes, Runs, Writes}
+use Rattle.sky_row_statements.proofs.OwnLemmas.{after-append, with-append, begun-txid, begun-block, part-written, begun-told}
 
 -- a transaction gets its id, and commits if it is of one statement
 pub does-take : (d begun new : RowPart) (before after : RowStep) (who t : ℕ) → txid_for d who ≡ Ok t → begun ≡ after_part_marks d (begin_of who t (d.session who).txid)

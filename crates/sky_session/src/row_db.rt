@@ -18,9 +18,9 @@ ghost use Rattle.sky_row_store.specs.Gives.{Settles, nothing};
 ghost use Rattle.sky_session.specs.Gives.{Gives};
 ghost use Rattle.sky_state.specs.Seen.{seen};
 
-use crate::own_transaction::{abort_block, begin_own, commit_alone};
 use crate::settling::settle_behind;
 use sky_model::{OpenGate, RowStmt, WriteGate};
+use sky_row_statements::{abort_block, begin_own, commit_alone};
 use sky_row_store::{RowStep, RowStore};
 use sky_state::RowState;
 use sky_trans::TransFault;

@@ -1,12 +1,12 @@
 //! What the row part does for a database.
 
 use crate::committing::check_commit;
-use crate::own_transaction::{abort_block, admit, next_txid, take_own};
 use crate::row_db::RowDb;
 use crate::settling::settle_behind;
 use crate::statements::{commit_answer, own_answer};
 use sky_fits::Block;
 use sky_model::{Refusal, RowStmt, Where, WriteGate};
+use sky_row_statements::{abort_block, admit, next_txid, take_own};
 use sky_row_store::{Effects, RowStep, RowStore};
 use sky_state::RowState;
 use sky_trans::TransFault;

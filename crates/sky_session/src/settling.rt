@@ -12,10 +12,10 @@ ghost use Rattle.sky_model.specs.Settling.{ready, resumed, settling};
 ghost use Rattle.sky_row_store.specs.Gives.{Adds};
 ghost use Rattle.sky_state.specs.Seen.{seen};
 
-use crate::locking::attempt_key;
 use crate::statements::or_refuse;
 use sky_locks::LockKey;
 use sky_model::WriteGate;
+use sky_row_statements::attempt_key;
 use sky_row_store::RowStep;
 use sky_state::RowState;
 use sky_val::{NoMemory, SessionId};

@@ -19,14 +19,16 @@ ghost use Rattle.sky_row_store.specs.Committing.{commits_of};
 ghost use Rattle.sky_row_store.specs.Effects.{with_effects};
 ghost use Rattle.sky_row_store.specs.Gives.{Adds};
 ghost use Rattle.sky_row_store.specs.declared.row_step.RowStep.{RowStep};
-ghost use Rattle.sky_session.specs.Gives.{Ran, Passes, Runs, Writes};
+ghost use Rattle.sky_row_statements.specs.Ran.{Ran, Passes, Runs, Writes};
 ghost use Rattle.sky_state.specs.Views.{RowStateView};
 ghost use Rattle.sky_state.specs.Seen.{seen};
 
-use crate::own_transaction::{abort_block, admit, begin_own, commit_own, txid_for};
-use crate::row_statements::{create_table, delete, get, insert, scan, update};
 use sky_fits::{Block, where_of};
 use sky_model::{Refusal, Reply, RowStmt, Stop, WriteGate};
+use sky_row_statements::{
+    abort_block, admit, begin_own, commit_own, create_table, delete, get, insert, scan, txid_for,
+    update,
+};
 use sky_row_store::{Effect, Effects, RowStep};
 use sky_state::RowState;
 use sky_txid::{Snapshot, SnapshotFault};

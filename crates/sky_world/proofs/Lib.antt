@@ -1,5 +1,5 @@
 pub mod Worlds
-pub mod HandsAt
+pub mod HandsEmptied
 pub mod Resting
 pub mod Whole
 pub mod Outside
@@ -8,7 +8,6 @@ pub mod Skipping
 pub mod Clocks
 pub mod ServedNodes
 pub mod CallsInTurn
-pub mod TwoPlaces
 pub mod TwoDatabases
 pub mod MoveMoments
 pub mod LeavesLeaf

@@ -12,8 +12,8 @@ use Rattle.sky_model.specs.WorkerMoves.{Move}
 use Rattle.sky_model.specs.World.{World, after_fact, after_facts}
 use Rattle.sky_model.specs.WorkersOfWorld.{calls_facts, move_facts}
 use Rattle.londiste_batches.specs.Moved.{after_calls}
-use Rattle.sky_world.specs.Databases.{with_stores}
-use Rattle.sky_world.specs.Hands.{HandAt, hand_at, batch_at}
+use Rattle.sky_databases.specs.Databases.{with_stores}
+use Rattle.sky_databases.specs.Hands.{HandAt, hand_at, batch_at}
 use Rattle.sky_world.specs.Views.{StateView}
 use Rattle.sky_world.specs.Seen.{seen_state, no_database}
 use Rattle.sky_world.specs.Whole.{AreWhole}

@@ -23,15 +23,15 @@ use Rattle.sky_model.specs.NodesOfWorld.{WorldOutcome}
 use Rattle.londiste_calls.specs.declared.faults.WorkerFault.{WorkerFault}
 use Rattle.londiste_calls.specs.declared.faults.WorkerFault.TheVariants as fault
 use Rattle.londiste_batches.specs.Moved.{after_call, after_calls, MovesAs, MovesBy, MoveRefused}
-use Rattle.sky_world.specs.Databases.{with_stores}
-use Rattle.sky_world.specs.Hands.{HandAt, IsPlaceOf, hand_at, worker_at, with_hand, batch_at}
+use Rattle.sky_databases.specs.Databases.{with_stores}
+use Rattle.sky_databases.specs.Hands.{HandAt, IsPlaceOf, hand_at, worker_at, with_hand, batch_at}
 use Rattle.sky_world.specs.Views.{StateView}
 use Rattle.sky_world.specs.Seen.{seen_state}
 use Rattle.sky_world.specs.Whole.{IsWholeIn, AreWhole, IsWhole}
 use Rattle.sky_world.specs.Nodes.{Happened, DoesAll, Stays, Stopped}
 use Rattle.sky_world.specs.Workers.{leaf_in, stop_of, stopping}
 use Rattle.sky_world.proofs.Whole.{HasWhole, whole-served}
-use Rattle.sky_world.proofs.HandsAt.{put-back, batch-back, hand-there, hand-moved}
+use Rattle.sky_databases.proofs.HandsAt.{put-back, batch-back, hand-there, hand-moved}
 use Rattle.sky_world.proofs.TwoDatabases.{PutInHand, with_both, both-kept-as, is-there, both-kept, moved-there}
 use Rattle.sky_world.proofs.MoveMoments.{moments-moved, moments-replayed}
 

@@ -25,7 +25,7 @@ use Rattle.sky_model.specs.Steps.{Steps, deed_at}
 use Rattle.sky_histories.proofs.Standing.{steps_from_exact}
 use Rattle.sky_histories.proofs.RowStanding.{turn-within, fails-within}
 use Rattle.sky_store.specs.Gives.{Adds}
-use Rattle.sky_world.specs.Hands.{HandAt}
+use Rattle.sky_databases.specs.Hands.{HandAt}
 use Rattle.sky_world.specs.Views.{StateView}
 use Rattle.sky_world.specs.Seen.{seen_state, no_database}
 use Rattle.sky_world.specs.Homes.{HomesWithin, NodesWithin}

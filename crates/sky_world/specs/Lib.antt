@@ -1,5 +1,3 @@
-pub mod Hands
-pub mod Databases
 pub mod Views
 pub mod Seen
 pub mod Homes

@@ -5,7 +5,7 @@ use Rattle.std.specs.BTreeMap.{is_at}
 use Rattle.std.specs.Map.{lookup}
 use Rattle.sky_model.specs.State.{Database, database_of}
 use Rattle.sky_model.specs.World.{World}
-use Rattle.sky_world.specs.Hands.{hand_at, batch_at}
+use Rattle.sky_databases.specs.Hands.{hand_at, batch_at}
 use Rattle.sky_world.specs.Views.{StateView, WorldView}
 
 -- a database that isn't made

@@ -2,7 +2,7 @@
 use Rattle.std.specs.Prelude.{ℕ, ℤ, Bool, List, Option}
 use Rattle.sky_names.specs.Named.{NamedView}
 use Rattle.sky_model.specs.Hands.{BatchHand}
-use Rattle.sky_world.specs.Hands.{HandAt}
+use Rattle.sky_databases.specs.Hands.{HandAt}
 
 -- of a world whose databases are kept as `D`
 pub record StateView (D : Type 0) : Type 0 where

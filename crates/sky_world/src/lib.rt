@@ -8,8 +8,6 @@
 #![tactic(auto)]
 
 mod clock;
-mod databases;
-mod hands;
 mod nodes;
 mod state;
 mod workers;

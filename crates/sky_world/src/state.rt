@@ -15,8 +15,7 @@ ghost use Rattle.sky_world.specs.Nodes.{Stays};
 ghost use Rattle.sky_world.specs.Outside.{Enters};
 ghost use Rattle.sky_world.specs.Whole.{IsWhole};
 
-use crate::databases::Databases;
-use crate::hands::{Batches, Hands};
+use sky_databases::{Batches, Databases, Hands};
 use sky_model::{DbStmt, Limit, Refusal, Replies, Reply, RowStmt, Stmt};
 use sky_names::Named;
 use sky_store::Store;

@@ -16,13 +16,13 @@ ghost use Rattle.sky_world.specs.Nodes.{Happened, Does, Ran, DoesAll, Stopped};
 ghost use Rattle.sky_world.specs.Whole.{IsWhole};
 ghost use Rattle.sky_world.specs.Workers.{AreAlike, copies, replays, leaf_called, leaf_with, leaving, lets_go_with, parts_with, stop_of, stopping};
 
-use crate::databases::two_of;
 use crate::nodes::same_columns;
 use crate::state::State;
 use londiste_calls::WorkerFault;
 use londiste_copy::{CopiedTable, CopyWorker};
 use londiste_replay::ReplayWorker;
 use londiste_state::{Leaf, Node};
+use sky_databases::two_of;
 use sky_model::{Limit, Refusal, Reply, Stop};
 use sky_store::Store;
 use sky_val::{NoMemory, Text};

@@ -4,10 +4,12 @@ use Rattle.std.proofs.lemmas.List.{set-get_or}
 use Rattle.std.proofs.lemmas.Result.{IfOk-from_err}
 use Rattle.sky_urlenc.specs.RowEvents.{Trigger, RowEvent}
 use Rattle.sky_model.specs.Moment.{HasMoment}
-use Rattle.pgq_queues.specs.Views.{QueueView}
-use Rattle.pgq_queues.specs.Seen.{no_queue, Stands}
+use Rattle.pgq_queue.specs.Views.{QueueView}
+use Rattle.pgq_queue.specs.Seen.{no_queue}
+use Rattle.pgq_queues.specs.Seen.{Stands}
 use Rattle.pgq_queues.specs.Traced.{no_trigger}
-use Rattle.pgq_queues.specs.EventRule.{sequences, ids_left, telling, telling_all}
+use Rattle.pgq_queues.specs.EventRule.{sequences, ids_left, telling_all}
+use Rattle.pgq_queue.specs.Changed.{telling}
 use Rattle.pgq_queues.proofs.Marked.{on-err}
 use Rattle.pgq_queues.proofs.TracedLists.{goes-same, goes-then, goes-alike}
 use Rattle.pgq_queues.proofs.Telling.{told-rest, event_at, out_at, from, read-out, read-event, from-told, from-left_out, from-end, room-next, ids-rest, told-there, told-here, told-some, back-there, told-stand}

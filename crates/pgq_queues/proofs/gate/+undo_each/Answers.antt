@@ -1,5 +1,5 @@
 use Rattle.std.proofs.Common.{◌<◌, length, arith, sym, subst, ap}
-use Rattle.pgq_queues.specs.Views.{QueueView}
+use Rattle.pgq_queue.specs.Views.{QueueView}
 use Rattle.pgq_queues.specs.Seen.{Stands}
 use Rattle.pgq_queues.proofs.TracedLists.{stands-set, ticks-kept}
 use Rattle.pgq_queues.proofs.gate.+undo_each.Goals as goal

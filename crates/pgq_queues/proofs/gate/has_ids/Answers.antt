@@ -1,6 +1,6 @@
 use Rattle.std.proofs.Common.{◌≡◌, ◌<◌, true, false, length, get_or, sym, ◌∙◌, ap, arith, option_copied}
 use Rattle.sky_urlenc.specs.RowEvents.{Trigger, leaves_out}
-use Rattle.pgq_queues.specs.Views.{QueueView}
+use Rattle.pgq_queue.specs.Views.{QueueView}
 use Rattle.pgq_queues.specs.Traced.{no_trigger}
 use Rattle.pgq_queues.specs.EventRule.{sequences, count_of}
 use Rattle.pgq_queues.proofs.Telling.{upto, out_at, ids-left_out, ids-told, room-for, found-at}

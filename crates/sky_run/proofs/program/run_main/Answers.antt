@@ -1,5 +1,5 @@
 use Rattle.std.proofs.Common.{sym, ◌∙◌}
-use Rattle.sky_run.proofs.EndLemmas.{Ends-prefix}
+use Rattle.sky_loop.proofs.EndLemmas.{Ends-prefix}
 use Rattle.sky_run.proofs.StatusLemmas.{PrintsWhole-ends, TellsBadLine-ends, complaint-ends, PrintsGiven-ends, due_status-whole, due_status-bad}
 use Rattle.sky_run.proofs.program.run_main.Goals as goal
 

@@ -1,6 +1,6 @@
 use Rattle.std.proofs.Common.{Err, ap, ◌∙◌, subst}
 use Rattle.sky_state.specs.Seen.{seen}
-use Rattle.sky_session.specs.Gives.{Runs}
+use Rattle.sky_row_statements.specs.Ran.{Runs}
 use Rattle.sky_session.proofs.Steps.{adds-refused}
 use Rattle.sky_session.proofs.statements.or_refuse.Goals as goal
 

@@ -4,7 +4,7 @@ use Rattle.sky_model.specs.ShownRows.{rows_by}
 use Rattle.sky_model.specs.StepRows.{get}
 use Rattle.sky_model.specs.Calls.{row_form}
 use Rattle.sky_histories.proofs.GatedLemmas.{plain-get}
-use Rattle.sky_session.specs.Gives.{Writes}
+use Rattle.sky_row_statements.specs.Ran.{Writes}
 use Rattle.sky_state.specs.Seen.{seen}
 use Rattle.sky_model.specs.InForm.{IsRowInForm}
 use Rattle.sky_session.proofs.Steps.{unnoticed-get, writes-plain}

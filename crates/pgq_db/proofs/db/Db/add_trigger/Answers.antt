@@ -5,11 +5,11 @@ use Rattle.sky_model.specs.Outcome.{does_marks}
 use Rattle.sky_model.specs.StepTrigger.{add_trigger}
 use Rattle.sky_model.specs.Stops.{StopsAs}
 use Rattle.sky_state.specs.Seen.{seen}
-use Rattle.pgq_db.specs.Views.{DbView}
-use Rattle.pgq_db.specs.Seen.{seen_database}
-use Rattle.pgq_db.proofs.Databases.{marked-as}
-use Rattle.pgq_db.proofs.Decided.{stops-there, does-mark}
-use Rattle.pgq_db.proofs.Agreeing.{agree-traced}
+use Rattle.pgq_parts.specs.Views.{DbView}
+use Rattle.pgq_parts.specs.Seen.{seen_database}
+use Rattle.pgq_parts.proofs.Databases.{marked-as}
+use Rattle.pgq_parts.proofs.Decided.{stops-there, does-mark}
+use Rattle.pgq_parts.proofs.Agreeing.{agree-traced}
 use Rattle.pgq_db.proofs.db.Db.add_trigger.Goals as goal
 
 pub returns-in_err-trigger : goal.returns-in_err-trigger

@@ -1,13 +1,13 @@
 use Rattle.std.proofs.Common.{◌+◌, ◌-◌, ◌^◌, ◌<◌, ◌≤◌, length, ◌∙◌, ap, subst, sym}
 use Rattle.sky_model.specs.BatchMoves.{events_of_batch}
 use Rattle.sky_state.specs.Seen.{seen}
-use Rattle.pgq_queues.specs.declared.batch.Span.{Span}
+use Rattle.pgq_queue.specs.declared.span.Span.{Span}
 use Rattle.pgq_queues.specs.Seen.{Stands, batch_at, reads_at}
-use Rattle.pgq_db.specs.Looks.{LooksFrom}
-use Rattle.pgq_db.specs.Views.{DbView}
-use Rattle.pgq_db.specs.Seen.{with_node, seen_database}
-use Rattle.pgq_db.proofs.ApplySteps.{batch-recorded, batch-listed, none-recorded}
-use Rattle.pgq_db.proofs.Looking.{looks-for, lists-for, no-other-for, no-other-same}
+use Rattle.pgq_parts.specs.Looks.{LooksFrom}
+use Rattle.pgq_parts.specs.Views.{DbView}
+use Rattle.pgq_parts.specs.Seen.{with_node, seen_database}
+use Rattle.pgq_parts.proofs.ApplySteps.{batch-recorded, batch-listed, none-recorded}
+use Rattle.pgq_parts.proofs.Looking.{looks-for, lists-for, no-other-for, no-other-same}
 use Rattle.pgq_db.proofs.db.Db.apply_batch.Goals as goal
 
 pub recorded-requires-clause-stands : goal.recorded-requires-clause-stands

@@ -3,12 +3,12 @@ use Rattle.sky_model.specs.History.{of_worker, began}
 use Rattle.sky_model.specs.StepNode.{applying}
 use Rattle.sky_state.specs.Seen.{seen}
 use Rattle.londiste_calls.specs.Picks.{pick_of}
-use Rattle.pgq_db.specs.Seen.{seen_database}
-use Rattle.pgq_db.proofs.Agreeing.{agree-then, agree-marked, agree-same}
-use Rattle.pgq_db.proofs.ApplySteps.{begun-all, apply-refused, apply-serves, apply-answers, apply-bad, works-recorded}
-use Rattle.pgq_db.proofs.Databases.{err-and}
+use Rattle.pgq_parts.specs.Seen.{seen_database}
+use Rattle.pgq_parts.proofs.Agreeing.{agree-then, agree-marked, agree-same}
+use Rattle.pgq_parts.proofs.ApplySteps.{begun-all, apply-refused, apply-serves, apply-answers, apply-bad, works-recorded}
+use Rattle.pgq_parts.proofs.Databases.{err-and}
 use Rattle.sky_store.proofs.Serving.{serves-steps}
-use Rattle.pgq_db.proofs.RetrySteps.{works}
+use Rattle.pgq_parts.proofs.RetrySteps.{works}
 use Rattle.pgq_db.proofs.db.Db.apply_recorded.Goals as goal
 
 pub apply_picked-requires-clause-runs : goal.apply_picked-requires-clause-runs

@@ -1,5 +1,5 @@
 use Rattle.std.proofs.Common.{◌≡◌, drop}
-use Rattle.pgq_db.specs.Seen.{seen_database}
+use Rattle.pgq_parts.specs.Seen.{seen_database}
 use Rattle.sky_store.specs.Idle.{all_idle}
 use Rattle.pgq_db.proofs.db.Db.are_idle.Given as goal
 

@@ -3,8 +3,8 @@ use Rattle.std.specs.Global.{Global}
 use Rattle.std.specs.declared.vec.Vec.{Vec}
 use Rattle.sky_histories.proofs.DatabaseStanding.{shows-events}
 use Rattle.sky_val.specs.declared.event.Event.{Event}
-use Rattle.pgq_db.specs.Seen.{seen_database}
-use Rattle.pgq_db.proofs.ProviderSteps.{shows-not}
+use Rattle.pgq_parts.specs.Seen.{seen_database}
+use Rattle.pgq_parts.proofs.ProviderSteps.{shows-not}
 use Rattle.pgq_db.proofs.db.Db.batch_events.Goals as goal
 
 pub returns-clause-histories : goal.returns-clause-histories

@@ -1,5 +1,5 @@
-use Rattle.pgq_db.specs.Seen.{seen_database}
-use Rattle.pgq_db.proofs.Daemons.{IsLeft, steps_end}
+use Rattle.pgq_parts.specs.Seen.{seen_database}
+use Rattle.pgq_parts.proofs.Daemons.{IsLeft, steps_end}
 use Rattle.pgq_db.proofs.db.Db.begin_switches.Given as goal
 
 abbrev pub invariant-loop-place : goal.invariant-loop-place

@@ -5,10 +5,10 @@ use Rattle.sky_model.specs.Outcome.{marks_of}
 use Rattle.sky_model.specs.State.{Database, after_marks}
 use Rattle.sky_state.specs.Seen.{seen}
 use Rattle.pgq_queues.specs.Seen.{seen_with}
-use Rattle.pgq_db.specs.Views.{DbView}
-use Rattle.pgq_db.specs.Seen.{with_node, seen_database}
-use Rattle.pgq_db.proofs.Agreeing.{agree-back}
-use Rattle.pgq_db.proofs.RetrySteps.{brought-back}
+use Rattle.pgq_parts.specs.Views.{DbView}
+use Rattle.pgq_parts.specs.Seen.{with_node, seen_database}
+use Rattle.pgq_parts.proofs.Agreeing.{agree-back}
+use Rattle.pgq_parts.proofs.RetrySteps.{brought-back}
 use Rattle.pgq_db.proofs.db.Db.bring_back.Goals as goal
 
 pub invariant_of-self-in_err-count : goal.invariant_of-self-in_err-count

@@ -2,9 +2,9 @@ use Rattle.std.proofs.Common.{◌≡◌, [], ◌∷◌, true, sym, subst}
 use Rattle.sky_txid.specs.Ids.{contains}
 use Rattle.sky_model.specs.History.{of_worker, ended}
 use Rattle.sky_state.specs.Seen.{seen}
-use Rattle.pgq_db.specs.Views.{DbView}
-use Rattle.pgq_db.proofs.Agreeing.{agree-then}
-use Rattle.pgq_db.proofs.CopySteps.{committed-as}
+use Rattle.pgq_parts.specs.Views.{DbView}
+use Rattle.pgq_parts.proofs.Agreeing.{agree-then}
+use Rattle.pgq_parts.proofs.CopySteps.{committed-as}
 use Rattle.pgq_db.proofs.db.Db.commit_copy.Goals as goal
 
 pub end_worker-requires : goal.end_worker-requires

@@ -3,9 +3,9 @@ use Rattle.sky_txid.specs.Ids.{contains}
 use Rattle.sky_model.specs.History.{of_worker, ended}
 use Rattle.sky_state.specs.Seen.{seen}
 use Rattle.londiste_calls.specs.Picks.{pick_of}
-use Rattle.pgq_db.specs.Views.{DbView}
-use Rattle.pgq_db.proofs.Agreeing.{agree-then}
-use Rattle.pgq_db.proofs.ApplySteps.{committed-work}
+use Rattle.pgq_parts.specs.Views.{DbView}
+use Rattle.pgq_parts.proofs.Agreeing.{agree-then}
+use Rattle.pgq_parts.proofs.ApplySteps.{committed-work}
 use Rattle.pgq_db.proofs.db.Db.commit_work.Goals as goal
 
 pub end_worker-requires : goal.end_worker-requires

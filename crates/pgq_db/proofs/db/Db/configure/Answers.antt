@@ -1,4 +1,4 @@
-use Rattle.pgq_db.proofs.Configuring.{configures-as, refuses-as}
+use Rattle.pgq_parts.proofs.Configuring.{configures-as, refuses-as}
 use Rattle.pgq_db.proofs.db.Db.configure.Goals as goal
 
 pub returns-in-Err-clause-stops : goal.returns-in-Err-clause-stops

@@ -1,7 +1,7 @@
 use Rattle.sky_model.specs.History.{dropped}
 use Rattle.sky_model.specs.declared.reply.Reply.TheVariants.{Number}
-use Rattle.pgq_db.proofs.Databases.{marked-as}
-use Rattle.pgq_db.proofs.Decided.{does-mark}
+use Rattle.pgq_parts.proofs.Databases.{marked-as}
+use Rattle.pgq_parts.proofs.Decided.{does-mark}
 use Rattle.pgq_db.proofs.db.Db.drop_queue.Goals as goal
 
 pub returns : goal.returns

@@ -1,11 +1,11 @@
 use Rattle.std.proofs.Common.{IfOk, subst, ap, if◌then◌else◌}
 use Rattle.sky_model.specs.SessionMarks.{Enters, entry_place}
-use Rattle.pgq_db.specs.Views.{DbView}
+use Rattle.pgq_parts.specs.Views.{DbView}
 use Rattle.sky_model.specs.declared.stmt.Where.TheVariants.{WhenReading, WhenOutside}
 use Rattle.sky_state.specs.Seen.{seen}
-use Rattle.pgq_db.specs.Seen.{seen_database}
-use Rattle.pgq_db.proofs.Agreeing.{agree-entered}
-use Rattle.pgq_db.proofs.Databases.{entered-steps}
+use Rattle.pgq_parts.specs.Seen.{seen_database}
+use Rattle.pgq_parts.proofs.Agreeing.{agree-entered}
+use Rattle.pgq_parts.proofs.Databases.{entered-steps}
 use Rattle.pgq_db.proofs.db.Db.enter.Goals as goal
 
 pub invariant_of-self : goal.invariant_of-self

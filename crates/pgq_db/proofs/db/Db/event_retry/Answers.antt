@@ -10,16 +10,17 @@ use Rattle.sky_model.specs.State.{RowPart, Database}
 use Rattle.sky_model.specs.StepConsumer.{is_nodes_batch}
 use Rattle.sky_model.specs.StepRetry.{event_retry}
 use Rattle.sky_state.specs.Seen.{seen}
-use Rattle.pgq_queues.specs.declared.batch.Span.{Span}
-use Rattle.pgq_queues.specs.Seen.{seen_with, seen_batch, seen_span, batch_at, queue_at, reads_at}
-use Rattle.pgq_db.specs.Views.{DbView}
-use Rattle.pgq_db.specs.Seen.{with_node, seen_database}
-use Rattle.pgq_db.proofs.Databases.{Runs}
-use Rattle.pgq_db.proofs.RetrySteps.{no-event, gives-retry, asked-as}
-use Rattle.pgq_db.proofs.Agreeing.{agree-stay}
-use Rattle.pgq_queues.specs.Looked.{most_in}
-use Rattle.pgq_queues.specs.Views.{QueueView}
-use Rattle.pgq_db.proofs.Looking.{looks-for}
+use Rattle.pgq_queue.specs.declared.span.Span.{Span}
+use Rattle.pgq_queues.specs.Seen.{seen_with, seen_batch, batch_at, queue_at, reads_at}
+use Rattle.pgq_queue.specs.Seen.{seen_span}
+use Rattle.pgq_parts.specs.Views.{DbView}
+use Rattle.pgq_parts.specs.Seen.{with_node, seen_database}
+use Rattle.pgq_parts.proofs.Databases.{Runs}
+use Rattle.pgq_parts.proofs.RetrySteps.{no-event, gives-retry, asked-as}
+use Rattle.pgq_parts.proofs.Agreeing.{agree-stay}
+use Rattle.pgq_queue.specs.Looked.{most_in}
+use Rattle.pgq_queue.specs.Views.{QueueView}
+use Rattle.pgq_parts.proofs.Looking.{looks-for}
 use Rattle.pgq_db.proofs.db.Db.event_retry.Goals as goal
 
 pub returns-in_default-2-clause-ran : goal.returns-in_default-2-clause-ran

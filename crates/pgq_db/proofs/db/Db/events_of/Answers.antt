@@ -2,12 +2,13 @@ use Rattle.std.proofs.Common.{◌∙◌, ap, option_map}
 use Rattle.sky_model.specs.Selection.{selected}
 use Rattle.sky_model.specs.State.{Database}
 use Rattle.sky_state.specs.Seen.{seen}
-use Rattle.pgq_queues.specs.declared.batch.Span.{Span}
-use Rattle.pgq_queues.specs.Seen.{seen_batch, seen_span, seen_with, batch_at}
-use Rattle.pgq_db.specs.Views.{DbView}
-use Rattle.pgq_db.specs.Seen.{with_node, seen_database}
-use Rattle.pgq_db.proofs.ConsumerSteps.{events-as}
-use Rattle.pgq_db.proofs.Looking.{looks-for, lists-for, no-other-for, no-other-same}
+use Rattle.pgq_queue.specs.declared.span.Span.{Span}
+use Rattle.pgq_queues.specs.Seen.{seen_batch, seen_with, batch_at}
+use Rattle.pgq_queue.specs.Seen.{seen_span}
+use Rattle.pgq_parts.specs.Views.{DbView}
+use Rattle.pgq_parts.specs.Seen.{with_node, seen_database}
+use Rattle.pgq_parts.proofs.ConsumerSteps.{events-as}
+use Rattle.pgq_parts.proofs.Looking.{looks-for, lists-for, no-other-for, no-other-same}
 use Rattle.pgq_db.proofs.db.Db.events_of.Goals as goal
 
 pub returns-in_default-clause-events : goal.returns-in_default-clause-events

@@ -3,10 +3,10 @@ use Rattle.std.proofs.lemmas.Int.{to_z-of_z}
 use Rattle.sky_model.specs.SessionMarks.{failing}
 use Rattle.sky_model.specs.Settling.{with_settling}
 use Rattle.sky_model.specs.Reader.{database_by_itself, within_part}
-use Rattle.pgq_db.specs.Seen.{seen_database}
+use Rattle.pgq_parts.specs.Seen.{seen_database}
 use Rattle.sky_store.specs.Waiters.{StaysWithin}
-use Rattle.pgq_db.proofs.Databases.{gives-added}
-use Rattle.pgq_db.proofs.Moments.{same-moments}
+use Rattle.pgq_parts.proofs.Databases.{gives-added}
+use Rattle.pgq_parts.proofs.Moments.{same-moments}
 use Rattle.pgq_db.proofs.db.Db.fail.Goals as goal
 
 pub returns-clause-exact : goal.returns-clause-exact

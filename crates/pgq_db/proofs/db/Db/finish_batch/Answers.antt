@@ -1,9 +1,9 @@
 use Rattle.std.proofs.Common.{◌≡◌, IfSome, sym, ap, subst}
 use Rattle.sky_model.specs.History.{queued, closed}
 use Rattle.sky_model.specs.State.{after_mark}
-use Rattle.pgq_db.specs.Views.{DbView}
-use Rattle.pgq_db.specs.Seen.{seen_database}
-use Rattle.pgq_db.proofs.BatchSteps.{closed-if, Finished, gives-finished}
+use Rattle.pgq_parts.specs.Views.{DbView}
+use Rattle.pgq_parts.specs.Seen.{seen_database}
+use Rattle.pgq_parts.proofs.BatchSteps.{closed-if, Finished, gives-finished}
 use Rattle.pgq_db.proofs.db.Db.finish_batch.Goals as goal
 use Rattle.pgq_db.proofs.db.Db.finish_batch.Goals.{then-is_active, else-is_active}
 

@@ -1,7 +1,7 @@
 use Rattle.sky_model.specs.History.{raised}
 use Rattle.sky_model.specs.declared.reply.Reply.TheVariants.{Number}
-use Rattle.pgq_db.proofs.Databases.{marked-as}
-use Rattle.pgq_db.proofs.Decided.{does-mark}
+use Rattle.pgq_parts.proofs.Databases.{marked-as}
+use Rattle.pgq_parts.proofs.Decided.{does-mark}
 use Rattle.pgq_db.proofs.db.Db.force_tick.Goals as goal
 
 pub returns : goal.returns

@@ -5,10 +5,10 @@ use Rattle.sky_val.specs.declared.event.Event.{Event}
 use Rattle.sky_model.specs.Printed.{EventsHaveMoments}
 use Rattle.sky_model.specs.Reader.{shown_by}
 use Rattle.pgq_queues.specs.Seen.{batch_at}
-use Rattle.pgq_db.specs.Looks.{LooksFrom}
-use Rattle.pgq_db.specs.Seen.{seen_database}
-use Rattle.pgq_db.proofs.ConsumerSteps.{no-events, gives-events}
-use Rattle.pgq_db.proofs.Looking.{lists-reply}
+use Rattle.pgq_parts.specs.Looks.{LooksFrom}
+use Rattle.pgq_parts.specs.Seen.{seen_database}
+use Rattle.pgq_parts.proofs.ConsumerSteps.{no-events, gives-events}
+use Rattle.pgq_parts.proofs.Looking.{lists-reply}
 use Rattle.pgq_db.proofs.db.Db.get_batch_events.Goals as goal
 
 pub returns-in_default-clause-ran : goal.returns-in_default-clause-ran

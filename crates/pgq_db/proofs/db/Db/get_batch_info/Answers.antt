@@ -4,10 +4,10 @@ use Rattle.sky_model.specs.Outcome.{answers}
 use Rattle.sky_model.specs.StepConsumer.{get_batch_info}
 use Rattle.sky_model.specs.Stops.{StopsAs}
 use Rattle.sky_state.specs.Seen.{seen}
-use Rattle.pgq_db.specs.Views.{DbView}
-use Rattle.pgq_db.specs.Seen.{with_node, seen_database}
-use Rattle.pgq_db.proofs.BatchSteps.{gives-shown}
-use Rattle.pgq_db.proofs.Decided.{stops-there}
+use Rattle.pgq_parts.specs.Views.{DbView}
+use Rattle.pgq_parts.specs.Seen.{with_node, seen_database}
+use Rattle.pgq_parts.proofs.BatchSteps.{gives-shown}
+use Rattle.pgq_parts.proofs.Decided.{stops-there}
 use Rattle.pgq_db.proofs.db.Db.get_batch_info.Goals as goal
 
 pub returns-in_err-info : goal.returns-in_err-info

@@ -1,8 +1,8 @@
 use Rattle.std.proofs.Common.{◌∙◌, ap}
 use Rattle.sky_model.specs.Copies.{copy_txid}
-use Rattle.pgq_db.specs.Seen.{seen_database}
-use Rattle.pgq_db.specs.Views.{DbView}
-use Rattle.pgq_db.proofs.CopySteps.{some-runs, gives-up, gives-none}
+use Rattle.pgq_parts.specs.Seen.{seen_database}
+use Rattle.pgq_parts.specs.Views.{DbView}
+use Rattle.pgq_parts.proofs.CopySteps.{some-runs, gives-up, gives-none}
 use Rattle.pgq_db.proofs.db.Db.give_up_copy.Goals as goal
 
 pub roll_back_copy-requires : goal.roll_back_copy-requires

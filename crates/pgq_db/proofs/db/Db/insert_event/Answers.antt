@@ -6,8 +6,8 @@ use Rattle.sky_model.specs.State.{Queue}
 use Rattle.sky_model.specs.StepQueue.{made_event}
 use Rattle.pgq_tables.specs.declared.stored.PlainEvent.{PlainEvent}
 use Rattle.pgq_queues.specs.Seen.{queue_at}
-use Rattle.pgq_db.specs.Views.{DbView}
-use Rattle.pgq_db.proofs.Databases.{gives-event, marked-as}
+use Rattle.pgq_parts.specs.Views.{DbView}
+use Rattle.pgq_parts.proofs.Databases.{gives-event, marked-as}
 use Rattle.pgq_db.proofs.db.Db.insert_event.Goals as goal
 
 pub returns : goal.returns

@@ -1,8 +1,8 @@
 use Rattle.std.proofs.Common.{◌==◌, length, ap, ◌∙◌}
 use Rattle.sky_model.specs.StepRotation.{lack_second_step}
 use Rattle.sky_state.specs.Seen.{seen}
-use Rattle.pgq_db.specs.Views.{DbView}
-use Rattle.pgq_db.specs.Seen.{with_node, seen_database}
+use Rattle.pgq_parts.specs.Views.{DbView}
+use Rattle.pgq_parts.specs.Seen.{with_node, seen_database}
 use Rattle.pgq_db.proofs.db.Db.is_rotated.Goals as goal
 
 pub returns : goal.returns

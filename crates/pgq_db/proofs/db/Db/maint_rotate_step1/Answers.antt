@@ -5,9 +5,9 @@ use Rattle.sky_model.specs.State.{Database, after_marks}
 use Rattle.sky_model.specs.StepRotation.{held_back, switch_of}
 use Rattle.sky_state.specs.Seen.{seen}
 use Rattle.pgq_queues.specs.Seen.{queue_at}
-use Rattle.pgq_db.specs.Views.{DbView}
-use Rattle.pgq_db.specs.Seen.{with_node, seen_database}
-use Rattle.pgq_db.proofs.RotationSteps.{alone-in, gives-switch}
+use Rattle.pgq_parts.specs.Views.{DbView}
+use Rattle.pgq_parts.specs.Seen.{with_node, seen_database}
+use Rattle.pgq_parts.proofs.RotationSteps.{alone-in, gives-switch}
 use Rattle.pgq_db.proofs.db.Db.maint_rotate_step1.Goals as goal
 
 pub returns : goal.returns

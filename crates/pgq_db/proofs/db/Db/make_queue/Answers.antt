@@ -3,9 +3,9 @@ use Rattle.std.proofs.lemmas.Int.{to_z-of_z}
 use Rattle.sky_model.specs.History.{queued, made}
 use Rattle.sky_model.specs.ShownRows.{snapshot_now}
 use Rattle.sky_state.specs.Seen.{seen}
-use Rattle.pgq_db.specs.Views.{DbView}
-use Rattle.pgq_db.proofs.Databases.{ticked-as}
-use Rattle.pgq_db.proofs.Results.{on-ok}
+use Rattle.pgq_parts.specs.Views.{DbView}
+use Rattle.pgq_parts.proofs.Databases.{ticked-as}
+use Rattle.pgq_parts.proofs.Results.{on-ok}
 use Rattle.pgq_db.proofs.db.Db.make_queue.Goals as goal
 
 pub returns : goal.returns

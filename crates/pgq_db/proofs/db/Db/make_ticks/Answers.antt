@@ -1,9 +1,9 @@
 use Rattle.std.proofs.Common.{◌<◌, length, get_or, ◌∙◌, ap, arith, w64, to_z, of_z}
 use Rattle.sky_model.specs.Queues.{NamedQueue}
 use Rattle.pgq_queues.specs.Seen.{unnamed, queues_of}
-use Rattle.pgq_db.specs.Views.{DbView}
-use Rattle.pgq_db.specs.Seen.{seen_database}
-use Rattle.pgq_db.proofs.Daemons.{ticks_end, left-count, ticks-left}
+use Rattle.pgq_parts.specs.Views.{DbView}
+use Rattle.pgq_parts.specs.Seen.{seen_database}
+use Rattle.pgq_parts.proofs.Daemons.{ticks_end, left-count, ticks-left}
 use Rattle.pgq_db.proofs.db.Db.make_ticks.Goals as goal
 
 pub number_at-queue-requires : goal.number_at-queue-requires

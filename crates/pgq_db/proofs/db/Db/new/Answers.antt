@@ -1,5 +1,5 @@
 use Rattle.pgq_queues.specs.Seen.{seen_with}
-use Rattle.pgq_db.specs.Seen.{with_node}
+use Rattle.pgq_parts.specs.Seen.{with_node}
 use Rattle.pgq_db.proofs.db.Db.new.Goals as goal
 
 pub returns : goal.returns

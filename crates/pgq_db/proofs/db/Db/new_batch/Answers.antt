@@ -4,10 +4,10 @@ use Rattle.sky_model.specs.State.{after_mark}
 use Rattle.pgq_sub.specs.Views.{seen_sub}
 use Rattle.pgq_queues.specs.Views.{QueuesView}
 use Rattle.pgq_queues.specs.Seen.{queue_at, seen_with}
-use Rattle.pgq_db.specs.Views.{DbView}
-use Rattle.pgq_db.specs.Seen.{seen_database}
-use Rattle.pgq_db.proofs.Databases.{marked-as}
-use Rattle.pgq_db.proofs.ConsumerSteps.{next-as, gives-batch}
+use Rattle.pgq_parts.specs.Views.{DbView}
+use Rattle.pgq_parts.specs.Seen.{seen_database}
+use Rattle.pgq_parts.proofs.Databases.{marked-as}
+use Rattle.pgq_parts.proofs.ConsumerSteps.{next-as, gives-batch}
 use Rattle.pgq_db.proofs.db.Db.new_batch.Goals as goal
 
 pub returns : goal.returns

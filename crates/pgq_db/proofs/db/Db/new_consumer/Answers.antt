@@ -2,10 +2,10 @@ use Rattle.std.proofs.Common.{◌+◌, ◌<◌, ◌^◌, length, ap, ◌∙◌, 
 use Rattle.sky_model.specs.History.{registered}
 use Rattle.pgq_queues.specs.Views.{QueuesView}
 use Rattle.pgq_queues.specs.Seen.{queue_at}
-use Rattle.pgq_db.specs.Views.{DbView}
-use Rattle.pgq_db.specs.Seen.{seen_database}
-use Rattle.pgq_db.proofs.Databases.{marked-as}
-use Rattle.pgq_db.proofs.ConsumerSteps.{none-if, gives-new}
+use Rattle.pgq_parts.specs.Views.{DbView}
+use Rattle.pgq_parts.specs.Seen.{seen_database}
+use Rattle.pgq_parts.proofs.Databases.{marked-as}
+use Rattle.pgq_parts.proofs.ConsumerSteps.{none-if, gives-new}
 use Rattle.pgq_db.proofs.db.Db.new_consumer.Goals as goal
 
 pub register-requires-clause-new : goal.register-requires-clause-new

@@ -1,8 +1,8 @@
 use Rattle.std.proofs.Common.{to_z, of_z, w64}
 use Rattle.std.proofs.lemmas.Int.{to_z-of_z}
-use Rattle.pgq_db.specs.Seen.{seen_database}
-use Rattle.pgq_db.proofs.Databases.{made-queue}
-use Rattle.pgq_db.proofs.Results.{on-ok}
+use Rattle.pgq_parts.specs.Seen.{seen_database}
+use Rattle.pgq_parts.proofs.Databases.{made-queue}
+use Rattle.pgq_parts.proofs.Results.{on-ok}
 use Rattle.pgq_db.proofs.db.Db.new_queue.Goals as goal
 
 pub returns : goal.returns

@@ -5,8 +5,8 @@ use Rattle.sky_model.specs.History.{queued, put}
 use Rattle.sky_model.specs.State.{after_mark}
 use Rattle.sky_model.specs.StepQueue.{made_event}
 use Rattle.pgq_tables.specs.Tables.{full_event}
-use Rattle.pgq_db.specs.Seen.{seen_database}
-use Rattle.pgq_db.proofs.Databases.{marked-as}
+use Rattle.pgq_parts.specs.Seen.{seen_database}
+use Rattle.pgq_parts.proofs.Databases.{marked-as}
 use Rattle.pgq_db.proofs.db.Db.put.Goals as goal
 
 pub returns-in_ok-put_plain-in-None : goal.returns-in_ok-put_plain-in-None

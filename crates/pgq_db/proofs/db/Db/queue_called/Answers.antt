@@ -3,8 +3,8 @@ use Rattle.std.specs.Result.{IfErr}
 use Rattle.sky_model.specs.StepQueue.{queue_called}
 use Rattle.sky_model.specs.Stops.{StopsAs}
 use Rattle.sky_state.specs.Seen.{seen}
-use Rattle.pgq_db.specs.Views.{DbView}
-use Rattle.pgq_db.specs.Seen.{with_node, seen_database}
+use Rattle.pgq_parts.specs.Views.{DbView}
+use Rattle.pgq_parts.specs.Seen.{with_node, seen_database}
 use Rattle.pgq_db.proofs.db.Db.queue_called.Goals as goal
 
 pub returns-clause-ok : goal.returns-clause-ok

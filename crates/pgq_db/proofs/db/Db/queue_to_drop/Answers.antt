@@ -10,9 +10,9 @@ use Rattle.sky_model.specs.declared.reply.Reply.TheVariants.{Number}
 use Rattle.sky_model.specs.declared.reply.Refusal.TheVariants.{HasConsumers, HasTriggers, QueueBusy, SetQueue}
 use Rattle.sky_histories.proofs.Unneeded.{none-into}
 use Rattle.pgq_queues.specs.Seen.{queue_at}
-use Rattle.pgq_db.specs.Views.{DbView}
-use Rattle.pgq_db.specs.Seen.{seen_database}
-use Rattle.pgq_db.proofs.Databases.{drop-triggers}
+use Rattle.pgq_parts.specs.Views.{DbView}
+use Rattle.pgq_parts.specs.Seen.{seen_database}
+use Rattle.pgq_parts.proofs.Databases.{drop-triggers}
 use Rattle.pgq_db.proofs.db.Db.queue_to_drop.Goals as goal
 
 -- a queue that nobody needs

@@ -1,7 +1,7 @@
 use Rattle.std.proofs.Common.{sym, ◌∙◌, subst}
-use Rattle.pgq_db.specs.Seen.{seen_database}
-use Rattle.pgq_db.specs.Gives.{Ran}
-use Rattle.pgq_db.proofs.ConsumerSteps.{known-as, newest-as, register-new, gives-known}
+use Rattle.pgq_parts.specs.Seen.{seen_database}
+use Rattle.pgq_parts.specs.Gives.{Ran}
+use Rattle.pgq_parts.proofs.ConsumerSteps.{known-as, newest-as, register-new, gives-known}
 use Rattle.pgq_db.proofs.db.Db.register_consumer.Goals as goal
 
 pub returns-then-has_consumer : goal.returns-then-has_consumer

@@ -2,11 +2,11 @@ use Rattle.std.proofs.Common.{refl, sym, ◌∙◌, ap, subst}
 use Rattle.sky_model.specs.History.{moved}
 use Rattle.sky_model.specs.StepConsumer.{floor}
 use Rattle.pgq_queues.specs.Seen.{queue_at}
-use Rattle.pgq_db.specs.Views.{DbView}
-use Rattle.pgq_db.specs.Seen.{seen_database}
-use Rattle.pgq_db.specs.Gives.{Ran}
-use Rattle.pgq_db.proofs.Databases.{marked-as}
-use Rattle.pgq_db.proofs.ConsumerSteps.{known-as, newest-as, tick-within, too-old, register_at-new, gives-moved}
+use Rattle.pgq_parts.specs.Views.{DbView}
+use Rattle.pgq_parts.specs.Seen.{seen_database}
+use Rattle.pgq_parts.specs.Gives.{Ran}
+use Rattle.pgq_parts.proofs.Databases.{marked-as}
+use Rattle.pgq_parts.proofs.ConsumerSteps.{known-as, newest-as, tick-within, too-old, register_at-new, gives-moved}
 use Rattle.pgq_db.proofs.db.Db.register_consumer_at.Goals as goal
 
 pub returns-then-tick-oldest : goal.returns-then-tick-oldest

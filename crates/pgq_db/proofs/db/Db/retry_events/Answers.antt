@@ -1,8 +1,8 @@
 use Rattle.std.proofs.Common.{◌≡◌, ℤ, length, sym, ◌∙◌, subst, w64, to_z, of_z}
 use Rattle.std.proofs.lemmas.Int.{to_z-of_z}
 use Rattle.sky_model.specs.State.{Database}
-use Rattle.pgq_db.specs.Seen.{seen_database}
-use Rattle.pgq_db.proofs.Daemons.{retries_end, retrying-fewer, retrying-more, retrying-done}
+use Rattle.pgq_parts.specs.Seen.{seen_database}
+use Rattle.pgq_parts.proofs.Daemons.{retries_end, retrying-fewer, retrying-more, retrying-done}
 use Rattle.pgq_db.proofs.db.Db.retry_events.Goals as goal
 
 pub loop-smaller : goal.loop-smaller

@@ -1,6 +1,6 @@
 use Rattle.std.proofs.Common.{length}
-use Rattle.pgq_db.specs.Seen.{seen_database}
-use Rattle.pgq_db.proofs.Daemons.{IsRetrying}
+use Rattle.pgq_parts.specs.Seen.{seen_database}
+use Rattle.pgq_parts.proofs.Daemons.{IsRetrying}
 use Rattle.pgq_db.proofs.db.Db.retry_events.Given as goal
 
 -- fewer wait after each call that lets another one follow

@@ -4,13 +4,13 @@ use Rattle.sky_model.specs.SessionMarks.{failure}
 use Rattle.sky_state.specs.Seen.{seen}
 use Rattle.pgq_queues.specs.Seen.{seen_with}
 use Rattle.pgq_queues.specs.Views.{QueuesView}
-use Rattle.pgq_db.specs.Views.{DbView}
-use Rattle.pgq_db.specs.Seen.{with_node, seen_database}
-use Rattle.pgq_db.proofs.EventsAlike.{failure-unwritten}
-use Rattle.pgq_db.proofs.Agreeing.{agree-passed}
-use Rattle.pgq_db.specs.Looks.{ReadsNone}
-use Rattle.pgq_db.proofs.Looking.{reads-passed}
-use Rattle.pgq_db.proofs.Results.{on-same, on-both, if-ok}
+use Rattle.pgq_parts.specs.Views.{DbView}
+use Rattle.pgq_parts.specs.Seen.{with_node, seen_database}
+use Rattle.pgq_parts.proofs.EventsAlike.{failure-unwritten}
+use Rattle.pgq_parts.proofs.Agreeing.{agree-passed}
+use Rattle.pgq_parts.specs.Looks.{ReadsNone}
+use Rattle.pgq_parts.proofs.Looking.{reads-passed}
+use Rattle.pgq_parts.proofs.Results.{on-same, on-both, if-ok}
 use Rattle.pgq_db.proofs.db.Db.roll_back.Goals as goal
 
 pub invariant_of-self : goal.invariant_of-self

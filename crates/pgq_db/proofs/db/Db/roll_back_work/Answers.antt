@@ -1,9 +1,9 @@
 use Rattle.std.proofs.Common.{◌≡◌, true, sym, subst}
 use Rattle.sky_txid.specs.Ids.{contains}
 use Rattle.sky_state.specs.Seen.{seen}
-use Rattle.pgq_db.specs.Views.{DbView}
-use Rattle.pgq_db.proofs.ApplySteps.{aborted-work}
-use Rattle.pgq_db.proofs.CopySteps.{agree-undone}
+use Rattle.pgq_parts.specs.Views.{DbView}
+use Rattle.pgq_parts.proofs.ApplySteps.{aborted-work}
+use Rattle.pgq_parts.proofs.CopySteps.{agree-undone}
 use Rattle.pgq_db.proofs.db.Db.roll_back_work.Goals as goal
 
 pub end_worker-requires : goal.end_worker-requires

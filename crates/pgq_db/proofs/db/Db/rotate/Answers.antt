@@ -4,9 +4,9 @@ use Rattle.sky_model.specs.Daemon.{daemon_does}
 use Rattle.sky_model.specs.Reader.{database_by_itself}
 use Rattle.sky_model.specs.State.{Database, after_marks}
 use Rattle.sky_model.specs.declared.daemon.DaemonPart.TheVariants.{Maintain}
-use Rattle.pgq_db.specs.Seen.{seen_database}
-use Rattle.pgq_db.proofs.Daemons.{rotated-all}
-use Rattle.pgq_db.proofs.Results.{on-ok}
+use Rattle.pgq_parts.specs.Seen.{seen_database}
+use Rattle.pgq_parts.proofs.Daemons.{rotated-all}
+use Rattle.pgq_parts.proofs.Results.{on-ok}
 use Rattle.pgq_db.proofs.db.Db.rotate.Goals as goal
 
 pub returns : goal.returns

@@ -6,10 +6,10 @@ use Rattle.sky_model.specs.State.{RowPart, Database, after_marks}
 use Rattle.sky_model.specs.StepRotation.{held_back, switch_of, rotates_by_itself}
 use Rattle.sky_state.specs.Seen.{seen}
 use Rattle.pgq_queues.specs.Seen.{seen_with, queue_at}
-use Rattle.pgq_db.specs.Views.{DbView}
-use Rattle.pgq_db.specs.Seen.{with_node, seen_database}
-use Rattle.pgq_db.proofs.Agreeing.{agree-worked}
-use Rattle.pgq_db.proofs.RotationSteps.{absent, switched-alone}
+use Rattle.pgq_parts.specs.Views.{DbView}
+use Rattle.pgq_parts.specs.Seen.{with_node, seen_database}
+use Rattle.pgq_parts.proofs.Agreeing.{agree-worked}
+use Rattle.pgq_parts.proofs.RotationSteps.{absent, switched-alone}
 use Rattle.pgq_db.proofs.db.Db.rotate_alone.Goals as goal
 
 pub invariant_of-self-2 : goal.invariant_of-self-2

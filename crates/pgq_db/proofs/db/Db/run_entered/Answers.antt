@@ -5,10 +5,10 @@ use Rattle.sky_model.specs.Reader.{shown_by}
 use Rattle.sky_model.specs.Outcome.{reply_of, or_refused}
 use Rattle.sky_model.specs.Calls.{form}
 use Rattle.sky_model.specs.Stops.{Stops, Keeps}
-use Rattle.pgq_db.specs.Seen.{seen_database}
-use Rattle.pgq_db.proofs.Databases.{Runs, answers-done, answers-refused}
-use Rattle.pgq_db.specs.Looks.{RanWithin, ListsLooked}
-use Rattle.pgq_db.proofs.Looking.{looks-done, looks-refused, lists-done, lists-refused}
+use Rattle.pgq_parts.specs.Seen.{seen_database}
+use Rattle.pgq_parts.proofs.Databases.{Runs, answers-done, answers-refused}
+use Rattle.pgq_parts.specs.Looks.{RanWithin, ListsLooked}
+use Rattle.pgq_parts.proofs.Looking.{looks-done, looks-refused, lists-done, lists-refused}
 use Rattle.pgq_db.proofs.db.Db.run_entered.Goals as goal
 
 pub returns-in_ok-refuse-in-Err-Refused-clause-answers : goal.returns-in_ok-refuse-in-Err-Refused-clause-answers

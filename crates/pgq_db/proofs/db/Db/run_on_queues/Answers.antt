@@ -5,11 +5,11 @@ use Rattle.sky_model.specs.Printed.{HaveMoments}
 use Rattle.sky_model.specs.Reader.{database_by_itself}
 use Rattle.sky_model.specs.Settling.{turn_of}
 use Rattle.sky_model.specs.Calls.{statement, database_turn}
-use Rattle.pgq_db.specs.Seen.{seen_database}
-use Rattle.pgq_db.specs.Looks.{ListsLooked}
-use Rattle.pgq_db.proofs.Databases.{adds-then}
-use Rattle.pgq_db.proofs.Moments.{one-moments, then-moments}
-use Rattle.pgq_db.proofs.Looking.{looks-then, lists-then}
+use Rattle.pgq_parts.specs.Seen.{seen_database}
+use Rattle.pgq_parts.specs.Looks.{ListsLooked}
+use Rattle.pgq_parts.proofs.Databases.{adds-then}
+use Rattle.pgq_parts.proofs.Moments.{one-moments, then-moments}
+use Rattle.pgq_parts.proofs.Looking.{looks-then, lists-then}
 use Rattle.pgq_db.proofs.db.Db.run_on_queues.Goals as goal
 
 pub returns-clause-adds : goal.returns-clause-adds

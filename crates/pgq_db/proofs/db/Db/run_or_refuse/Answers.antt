@@ -7,12 +7,12 @@ use Rattle.sky_model.specs.Outcome.{or_refused}
 use Rattle.sky_model.specs.Reader.{database_by_itself, shown_by}
 use Rattle.sky_model.specs.Calls.{form, statement}
 use Rattle.sky_model.specs.SessionMarks.{Enters}
-use Rattle.pgq_db.specs.Seen.{seen_database}
-use Rattle.pgq_db.proofs.Databases.{answers-entered, answers-turned_away, reply-entered, reply-turned_away}
+use Rattle.pgq_parts.specs.Seen.{seen_database}
+use Rattle.pgq_parts.proofs.Databases.{answers-entered, answers-turned_away, reply-entered, reply-turned_away}
 use Rattle.pgq_queues.specs.Seen.{reads_at}
 use Rattle.pgq_queues.specs.Views.{QueuesView}
-use Rattle.pgq_db.specs.Looks.{LooksWithin, ListsLooked}
-use Rattle.pgq_db.proofs.Looking.{looks-none, lists-refused}
+use Rattle.pgq_parts.specs.Looks.{LooksWithin, ListsLooked}
+use Rattle.pgq_parts.proofs.Looking.{looks-none, lists-refused}
 use Rattle.pgq_db.proofs.db.Db.run_or_refuse.Goals as goal
 
 pub returns-in_ok-run_entered-in-None-clause-answers : goal.returns-in_ok-run_entered-in-None-clause-answers

@@ -9,16 +9,16 @@ use Rattle.sky_state.specs.Seen.{seen}
 use Rattle.pgq_queues.specs.Views.{QueuesView}
 use Rattle.pgq_queues.specs.Seen.{seen_with}
 use Rattle.pgq_queues.specs.EventRule.{event_rule}
-use Rattle.pgq_db.specs.Views.{DbView}
-use Rattle.pgq_db.specs.Seen.{with_node, seen_database}
-use Rattle.pgq_db.specs.Gives.{Adds}
-use Rattle.pgq_db.specs.Looks.{ReadsNone}
-use Rattle.pgq_db.specs.RowRuns.{run_turn}
-use Rattle.pgq_db.proofs.EventsAlike.{Alike, alike-at, run-told, run-rows, told-changed}
-use Rattle.pgq_db.proofs.Moments.{same-moments}
-use Rattle.pgq_db.proofs.Agreeing.{agree-behind_turn}
-use Rattle.pgq_db.proofs.Looking.{reads-passed}
-use Rattle.pgq_db.proofs.Results.{on-same, if-ok}
+use Rattle.pgq_parts.specs.Views.{DbView}
+use Rattle.pgq_parts.specs.Seen.{with_node, seen_database}
+use Rattle.pgq_parts.specs.Gives.{Adds}
+use Rattle.pgq_parts.specs.Looks.{ReadsNone}
+use Rattle.pgq_parts.specs.RowRuns.{run_turn}
+use Rattle.pgq_parts.proofs.EventsAlike.{Alike, alike-at, run-told, run-rows, told-changed}
+use Rattle.pgq_parts.proofs.Moments.{same-moments}
+use Rattle.pgq_parts.proofs.Agreeing.{agree-behind_turn}
+use Rattle.pgq_parts.proofs.Looking.{reads-passed}
+use Rattle.pgq_parts.proofs.Results.{on-same, if-ok}
 use Rattle.pgq_db.proofs.db.Db.run_rows.Goals as goal
 
 pub invariant_of-self : goal.invariant_of-self

@@ -1,4 +1,4 @@
-use Rattle.pgq_db.proofs.Configuring.{gives-config}
+use Rattle.pgq_parts.proofs.Configuring.{gives-config}
 use Rattle.pgq_db.proofs.db.Db.set_queue_config.Goals as goal
 
 pub returns : goal.returns

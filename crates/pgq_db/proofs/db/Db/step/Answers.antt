@@ -1,9 +1,9 @@
 use Rattle.std.proofs.Common.{sym, subst, w64}
 use Rattle.std.proofs.lemmas.Int.{to_z-of_z}
-use Rattle.pgq_db.specs.Seen.{seen_database}
+use Rattle.pgq_parts.specs.Seen.{seen_database}
 use Rattle.sky_store.specs.Waiters.{StaysWithin}
-use Rattle.pgq_db.proofs.Databases.{gives-added}
-use Rattle.pgq_db.proofs.Moments.{same-moments}
+use Rattle.pgq_parts.proofs.Databases.{gives-added}
+use Rattle.pgq_parts.proofs.Moments.{same-moments}
 use Rattle.pgq_db.proofs.db.Db.step.Goals as goal
 
 pub returns-clause-exact : goal.returns-clause-exact

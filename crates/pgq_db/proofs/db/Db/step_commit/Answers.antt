@@ -7,13 +7,13 @@ use Rattle.sky_model.specs.Reader.{database_by_itself, within_part}
 use Rattle.sky_model.specs.State.{Database, after_marks}
 use Rattle.sky_state.specs.Seen.{seen}
 use Rattle.pgq_queues.specs.Seen.{seen_with}
-use Rattle.pgq_db.specs.Views.{DbView}
-use Rattle.pgq_db.specs.Seen.{with_node, seen_database}
-use Rattle.pgq_db.specs.Switches.{switches_before_commit}
-use Rattle.pgq_db.proofs.Agreeing.{agree-stay}
-use Rattle.pgq_db.proofs.Moments.{same-moments}
-use Rattle.pgq_db.proofs.Results.{on-ok}
-use Rattle.pgq_db.proofs.Switched.{answers-first, adds-first}
+use Rattle.pgq_parts.specs.Views.{DbView}
+use Rattle.pgq_parts.specs.Seen.{with_node, seen_database}
+use Rattle.pgq_parts.specs.Switches.{switches_before_commit}
+use Rattle.pgq_parts.proofs.Agreeing.{agree-stay}
+use Rattle.pgq_parts.proofs.Moments.{same-moments}
+use Rattle.pgq_parts.proofs.Results.{on-ok}
+use Rattle.pgq_parts.proofs.Switched.{answers-first, adds-first}
 use Rattle.pgq_db.proofs.db.Db.step_commit.Goals as goal
 
 pub invariant_of-self : goal.invariant_of-self

@@ -2,8 +2,8 @@ use Rattle.std.proofs.Common.{w64}
 use Rattle.std.proofs.lemmas.Int.{to_z-of_z}
 use Rattle.sky_model.specs.DatabaseCalls.{stepped}
 use Rattle.sky_histories.proofs.DatabaseStanding.{database_steps_from_exact}
-use Rattle.pgq_db.specs.Seen.{seen_database}
-use Rattle.pgq_db.proofs.Waiters.{statement-within}
+use Rattle.pgq_parts.specs.Seen.{seen_database}
+use Rattle.pgq_parts.proofs.Waiters.{statement-within}
 use Rattle.pgq_db.proofs.db.Db.step_into.Goals as goal
 
 pub returns-clause-within : goal.returns-clause-within

@@ -8,10 +8,10 @@ use Rattle.sky_model.specs.Printed.{HaveMoments}
 use Rattle.sky_model.specs.Reader.{database_by_itself, within_part}
 use Rattle.sky_model.specs.Settling.{Turn}
 use Rattle.sky_model.specs.State.{Database}
-use Rattle.pgq_db.specs.Seen.{seen_database}
-use Rattle.pgq_db.specs.Gives.{Adds}
-use Rattle.pgq_db.proofs.Results.{on-ok}
-use Rattle.pgq_db.proofs.Switched.{turn-other}
+use Rattle.pgq_parts.specs.Seen.{seen_database}
+use Rattle.pgq_parts.specs.Gives.{Adds}
+use Rattle.pgq_parts.proofs.Results.{on-ok}
+use Rattle.pgq_parts.proofs.Switched.{turn-other}
 use Rattle.pgq_db.proofs.db.Db.step_rows.Goals as goal
 
 pub returns-in-Commit-clause-adds : goal.returns-in-Commit-clause-adds

@@ -1,7 +1,7 @@
 use Rattle.std.proofs.Common.{◌≡◌, ap, ◌∙◌, subst, IfSome}
 use Rattle.pgq_queues.specs.Seen.{queue_at, batch_of}
-use Rattle.pgq_db.specs.Views.{DbView}
-use Rattle.pgq_db.specs.Seen.{seen_database}
+use Rattle.pgq_parts.specs.Views.{DbView}
+use Rattle.pgq_parts.specs.Seen.{seen_database}
 use Rattle.pgq_db.proofs.db.Db.subscription.Goals as goal
 
 pub returns-clause-sub : goal.returns-clause-sub

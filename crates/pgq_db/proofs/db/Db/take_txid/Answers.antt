@@ -2,10 +2,10 @@ use Rattle.std.proofs.Common.{◌≡◌, ◌++◌, [], subst}
 use Rattle.sky_model.specs.State.{after_marks}
 use Rattle.sky_model.specs.OwnTransaction.{begin_of, commit_of, in_own}
 use Rattle.sky_state.specs.Seen.{seen}
-use Rattle.pgq_db.specs.Views.{DbView}
-use Rattle.pgq_db.specs.Seen.{seen_database}
-use Rattle.pgq_db.proofs.Databases.{took}
-use Rattle.pgq_db.proofs.Agreeing.{agree-then, agree-same}
+use Rattle.pgq_parts.specs.Views.{DbView}
+use Rattle.pgq_parts.specs.Seen.{seen_database}
+use Rattle.pgq_parts.proofs.Databases.{took}
+use Rattle.pgq_parts.proofs.Agreeing.{agree-then, agree-same}
 use Rattle.pgq_db.proofs.db.Db.take_txid.Goals as goal
 
 pub returns-clause-marks : goal.returns-clause-marks

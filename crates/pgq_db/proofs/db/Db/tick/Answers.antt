@@ -7,8 +7,8 @@ use Rattle.sky_model.specs.State.{after_mark}
 use Rattle.sky_state.specs.Seen.{seen}
 use Rattle.pgq_queues.specs.Views.{QueuesView}
 use Rattle.pgq_queues.specs.Seen.{queue_at, seen_with}
-use Rattle.pgq_db.specs.Views.{DbView}
-use Rattle.pgq_db.proofs.Databases.{ticked-as, tick-stops, unmarked-as, err-and}
+use Rattle.pgq_parts.specs.Views.{DbView}
+use Rattle.pgq_parts.proofs.Databases.{ticked-as, tick-stops, unmarked-as, err-and}
 use Rattle.pgq_db.proofs.db.Db.tick.Goals as goal
 
 pub returns-in_err-id-clause-err : goal.returns-in_err-id-clause-err

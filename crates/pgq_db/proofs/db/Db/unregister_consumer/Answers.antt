@@ -2,9 +2,9 @@ use Rattle.std.proofs.Common.{option_map, sym, ap, ◌∙◌}
 use Rattle.sky_model.specs.Consumers.{Subscription}
 use Rattle.sky_model.specs.History.{unregistered}
 use Rattle.pgq_queues.specs.Seen.{queue_at}
-use Rattle.pgq_db.specs.Views.{DbView}
-use Rattle.pgq_db.specs.Seen.{seen_database}
-use Rattle.pgq_db.proofs.ConsumerSteps.{counted, gives-leave, marked-if, unmarked-if}
+use Rattle.pgq_parts.specs.Views.{DbView}
+use Rattle.pgq_parts.specs.Seen.{seen_database}
+use Rattle.pgq_parts.proofs.ConsumerSteps.{counted, gives-leave, marked-if, unmarked-if}
 use Rattle.pgq_db.proofs.db.Db.unregister_consumer.Goals as goal
 
 pub returns : goal.returns

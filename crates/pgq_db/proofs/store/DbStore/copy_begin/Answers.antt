@@ -3,10 +3,10 @@ use Rattle.sky_model.specs.History.{of_worker, began}
 use Rattle.sky_model.specs.ShownRows.{snapshot_now}
 use Rattle.sky_model.specs.StepNode.{beginning_copy}
 use Rattle.sky_state.specs.Seen.{seen}
-use Rattle.pgq_db.specs.Seen.{seen_database}
-use Rattle.pgq_db.proofs.Agreeing.{agree-then, agree-same}
-use Rattle.pgq_db.proofs.CopySteps.{may-named, begun-may, begin-does, begin-refused}
-use Rattle.pgq_db.proofs.Databases.{table-low, err-and}
+use Rattle.pgq_parts.specs.Seen.{seen_database}
+use Rattle.pgq_parts.proofs.Agreeing.{agree-then, agree-same}
+use Rattle.pgq_parts.proofs.CopySteps.{may-named, begun-may, begin-does, begin-refused}
+use Rattle.pgq_parts.proofs.Databases.{table-low, err-and}
 use Rattle.sky_store.proofs.Serving.{serves-steps}
 use Rattle.pgq_db.proofs.store.DbStore.copy_begin.Goals as goal
 

@@ -1,6 +1,6 @@
 use Rattle.sky_model.specs.StepNode.{giving_up_copy}
-use Rattle.pgq_db.specs.Seen.{seen_database}
-use Rattle.pgq_db.proofs.CopySteps.{may-named, drop-does, runs-now}
+use Rattle.pgq_parts.specs.Seen.{seen_database}
+use Rattle.pgq_parts.proofs.CopySteps.{may-named, drop-does, runs-now}
 use Rattle.sky_store.proofs.Serving.{serves-steps}
 use Rattle.pgq_db.proofs.store.DbStore.copy_drop.Goals as goal
 

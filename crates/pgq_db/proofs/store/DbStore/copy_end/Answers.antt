@@ -5,9 +5,9 @@ use Rattle.sky_model.specs.State.{after_mark}
 use Rattle.sky_model.specs.StepNode.{ending_copy}
 use Rattle.sky_state.specs.Seen.{seen}
 use Rattle.sky_histories.proofs.MadeCopies.{copy-goes-on}
-use Rattle.pgq_db.specs.Views.{DbView}
-use Rattle.pgq_db.specs.Seen.{seen_database}
-use Rattle.pgq_db.proofs.CopySteps.{end-nothing, end-does, copied-as}
+use Rattle.pgq_parts.specs.Views.{DbView}
+use Rattle.pgq_parts.specs.Seen.{seen_database}
+use Rattle.pgq_parts.proofs.CopySteps.{end-nothing, end-does, copied-as}
 use Rattle.sky_store.proofs.Serving.{serves-steps}
 use Rattle.pgq_db.proofs.store.DbStore.copy_end.Goals as goal
 

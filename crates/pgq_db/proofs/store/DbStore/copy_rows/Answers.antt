@@ -1,9 +1,9 @@
 use Rattle.std.proofs.Common.{sym}
 use Rattle.sky_model.specs.StepNode.{copying_rows}
-use Rattle.pgq_db.specs.Seen.{seen_database}
-use Rattle.pgq_db.proofs.CopySteps.{may-named, rows-may, rows-none, rows-serve}
-use Rattle.pgq_db.proofs.Databases.{table-low}
-use Rattle.pgq_db.proofs.NodeSteps.{steps-if}
+use Rattle.pgq_parts.specs.Seen.{seen_database}
+use Rattle.pgq_parts.proofs.CopySteps.{may-named, rows-may, rows-none, rows-serve}
+use Rattle.pgq_parts.proofs.Databases.{table-low}
+use Rattle.pgq_parts.proofs.NodeSteps.{steps-if}
 use Rattle.sky_store.proofs.Serving.{serves-steps}
 use Rattle.pgq_db.proofs.store.DbStore.copy_rows.Goals as goal
 

@@ -6,9 +6,9 @@ use Rattle.sky_model.specs.Reader.{database_by_itself}
 use Rattle.sky_model.specs.Daemon.{daemon_does}
 use Rattle.sky_model.specs.DatabaseCalls.{worked}
 use Rattle.sky_histories.proofs.DatabaseStanding.{database_steps_from_exact}
-use Rattle.pgq_db.specs.Seen.{seen_database}
-use Rattle.pgq_db.proofs.Results.{on-ok}
-use Rattle.pgq_db.proofs.Daemons.{ticks_end, retries_end, daemon-waits}
+use Rattle.pgq_parts.specs.Seen.{seen_database}
+use Rattle.pgq_parts.proofs.Results.{on-ok}
+use Rattle.pgq_parts.proofs.Daemons.{ticks_end, retries_end, daemon-waits}
 use Rattle.pgq_db.proofs.store.DbStore.daemon.Goals as goal
 
 pub returns-in-Tick-clause-exact : goal.returns-in-Tick-clause-exact

@@ -3,11 +3,11 @@ use Rattle.std.proofs.lemmas.Int.{to_z-of_z}
 use Rattle.sky_model.specs.SessionMarks.{failing}
 use Rattle.sky_model.specs.DatabaseCalls.{failed}
 use Rattle.sky_histories.proofs.DatabaseStanding.{database_steps_from_exact}
-use Rattle.pgq_db.specs.Seen.{seen_database}
-use Rattle.pgq_db.proofs.Databases.{adds-then}
-use Rattle.pgq_db.proofs.Moments.{then-moments}
-use Rattle.pgq_db.proofs.Results.{on-ok}
-use Rattle.pgq_db.proofs.Waiters.{failure-within}
+use Rattle.pgq_parts.specs.Seen.{seen_database}
+use Rattle.pgq_parts.proofs.Databases.{adds-then}
+use Rattle.pgq_parts.proofs.Moments.{then-moments}
+use Rattle.pgq_parts.proofs.Results.{on-ok}
+use Rattle.pgq_parts.proofs.Waiters.{failure-within}
 use Rattle.pgq_db.proofs.store.DbStore.fail_into.Goals as goal
 
 pub returns-clause-exact : goal.returns-clause-exact

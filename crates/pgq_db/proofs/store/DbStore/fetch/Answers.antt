@@ -5,14 +5,14 @@ use Rattle.sky_model.specs.StepNode.{fetching}
 use Rattle.pgq_sub.specs.declared.sub.OpenBatch.{OpenBatch}
 use Rattle.pgq_sub.specs.Views.{seen_sub}
 use Rattle.pgq_queues.specs.Seen.{queue_at}
-use Rattle.pgq_db.specs.Views.{DbView}
-use Rattle.pgq_db.specs.Seen.{seen_database}
+use Rattle.pgq_parts.specs.Views.{DbView}
+use Rattle.pgq_parts.specs.Seen.{seen_database}
 use Rattle.sky_store.specs.Served.{FetchRefused}
-use Rattle.pgq_db.proofs.Databases.{err-and, unmarked-as}
-use Rattle.pgq_db.proofs.ConsumerSteps.{next-as}
-use Rattle.pgq_db.proofs.NodeSteps.{serves-by}
+use Rattle.pgq_parts.proofs.Databases.{err-and, unmarked-as}
+use Rattle.pgq_parts.proofs.ConsumerSteps.{next-as}
+use Rattle.pgq_parts.proofs.NodeSteps.{serves-by}
 use Rattle.sky_store.proofs.Serving.{serves-steps}
-use Rattle.pgq_db.proofs.ProviderSteps.{joined-not, fetch-active, fetch-waits, fetch-spent, fetch-opens, opens-as, takes-active, takes-opened}
+use Rattle.pgq_parts.proofs.ProviderSteps.{joined-not, fetch-active, fetch-waits, fetch-spent, fetch-opens, opens-as, takes-active, takes-opened}
 use Rattle.pgq_db.proofs.store.DbStore.fetch.Goals as goal
 
 pub unreachable-requires : goal.unreachable-requires

@@ -1,7 +1,7 @@
 use Rattle.sky_model.specs.StepNode.{finishing}
-use Rattle.pgq_db.specs.Seen.{seen_database}
+use Rattle.pgq_parts.specs.Seen.{seen_database}
 use Rattle.sky_store.proofs.Serving.{serves-steps}
-use Rattle.pgq_db.proofs.ProviderSteps.{finished-as}
+use Rattle.pgq_parts.proofs.ProviderSteps.{finished-as}
 use Rattle.pgq_db.proofs.store.DbStore.finish.Goals as goal
 
 pub returns-clause-serves : goal.returns-clause-serves

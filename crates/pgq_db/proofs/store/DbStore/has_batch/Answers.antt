@@ -1,7 +1,7 @@
 use Rattle.std.proofs.Common.{◌∙◌, ap, is_some}
 use Rattle.pgq_queues.specs.Seen.{seen_batch, batch_at}
-use Rattle.pgq_db.specs.Views.{DbView}
-use Rattle.pgq_db.proofs.ProviderSteps.{is_some-seen}
+use Rattle.pgq_parts.specs.Views.{DbView}
+use Rattle.pgq_parts.proofs.ProviderSteps.{is_some-seen}
 use Rattle.pgq_db.proofs.store.DbStore.has_batch.Goals as goal
 
 pub returns : goal.returns

@@ -1,4 +1,4 @@
-use Rattle.pgq_db.proofs.ProviderSteps.{has-joined}
+use Rattle.pgq_parts.proofs.ProviderSteps.{has-joined}
 use Rattle.pgq_db.proofs.store.DbStore.has_joined.Goals as goal
 
 pub returns : goal.returns

@@ -1,7 +1,7 @@
 use Rattle.std.proofs.Common.{◌<◌, length, sym, subst}
 use Rattle.sky_state.specs.Seen.{seen}
-use Rattle.pgq_db.specs.Views.{DbView}
-use Rattle.pgq_db.proofs.CopySteps.{held-rows-if}
+use Rattle.pgq_parts.specs.Views.{DbView}
+use Rattle.pgq_parts.proofs.CopySteps.{held-rows-if}
 use Rattle.pgq_db.proofs.store.DbStore.held_rows.Goals as goal
 
 pub rows_under-requires : goal.rows_under-requires

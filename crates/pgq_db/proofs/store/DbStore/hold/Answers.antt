@@ -1,7 +1,7 @@
 use Rattle.sky_model.specs.StepNode.{holding}
-use Rattle.pgq_db.specs.Seen.{seen_database}
-use Rattle.pgq_db.proofs.CopySteps.{hold-serves, hold-number, hold-fails}
-use Rattle.pgq_db.proofs.NodeSteps.{steps-if}
+use Rattle.pgq_parts.specs.Seen.{seen_database}
+use Rattle.pgq_parts.proofs.CopySteps.{hold-serves, hold-number, hold-fails}
+use Rattle.pgq_parts.proofs.NodeSteps.{steps-if}
 use Rattle.pgq_db.proofs.store.DbStore.hold.Goals as goal
 
 pub returns-clause-number : goal.returns-clause-number

@@ -1,5 +1,5 @@
 use Rattle.std.proofs.Common.{◌≤◌, arith}
-use Rattle.pgq_db.proofs.ProviderSteps.{full-if}
+use Rattle.pgq_parts.proofs.ProviderSteps.{full-if}
 use Rattle.pgq_db.proofs.store.DbStore.is_full.Goals as goal
 
 pub returns-then-consumer_count-most : goal.returns-then-consumer_count-most

@@ -5,11 +5,11 @@ use Rattle.sky_model.specs.Nodes.{after_node}
 use Rattle.sky_model.specs.State.{Queue}
 use Rattle.sky_model.specs.StepNode.{joining}
 use Rattle.pgq_queues.specs.Seen.{queue_at}
-use Rattle.pgq_db.specs.Views.{DbView}
-use Rattle.pgq_db.specs.Seen.{seen_database}
+use Rattle.pgq_parts.specs.Views.{DbView}
+use Rattle.pgq_parts.specs.Seen.{seen_database}
 use Rattle.sky_store.specs.Served.{set_consumers, JoinRefused}
-use Rattle.pgq_db.proofs.ConsumerSteps.{known-as, newest-as, none-if}
-use Rattle.pgq_db.proofs.NodeSteps.{joined-back, back-as, serves-by, join-exists, join-full, join-spent, join-does, joined-as}
+use Rattle.pgq_parts.proofs.ConsumerSteps.{known-as, newest-as, none-if}
+use Rattle.pgq_parts.proofs.NodeSteps.{joined-back, back-as, serves-by, join-exists, join-full, join-spent, join-does, joined-as}
 use Rattle.sky_store.proofs.Serving.{serves-steps}
 use Rattle.pgq_db.proofs.store.DbStore.join.Goals as goal
 

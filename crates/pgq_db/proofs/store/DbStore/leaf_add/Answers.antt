@@ -3,10 +3,10 @@ use Rattle.sky_model.specs.History.{tabled, read_only, leaf_added}
 use Rattle.sky_model.specs.Nodes.{after_node}
 use Rattle.sky_model.specs.StepNode.{adding}
 use Rattle.sky_state.specs.Seen.{seen}
-use Rattle.pgq_db.specs.Seen.{seen_database}
-use Rattle.pgq_db.proofs.Agreeing.{agree-then}
-use Rattle.pgq_db.proofs.Databases.{table-low}
-use Rattle.pgq_db.proofs.NodeSteps.{steps-unless, adding-busy, adding-does}
+use Rattle.pgq_parts.specs.Seen.{seen_database}
+use Rattle.pgq_parts.proofs.Agreeing.{agree-then}
+use Rattle.pgq_parts.proofs.Databases.{table-low}
+use Rattle.pgq_parts.proofs.NodeSteps.{steps-unless, adding-busy, adding-does}
 use Rattle.sky_store.proofs.Serving.{serves-steps}
 use Rattle.pgq_db.proofs.store.DbStore.leaf_add.Goals as goal
 

@@ -2,10 +2,10 @@ use Rattle.std.proofs.Common.{[], ◌∷◌, false}
 use Rattle.sky_model.specs.History.{tabled, read_only}
 use Rattle.sky_model.specs.StepNode.{removing}
 use Rattle.sky_state.specs.Seen.{seen}
-use Rattle.pgq_db.specs.Seen.{seen_database}
-use Rattle.pgq_db.proofs.Agreeing.{agree-then}
-use Rattle.pgq_db.proofs.CopySteps.{low-still, runs-now}
-use Rattle.pgq_db.proofs.NodeSteps.{removing-does}
+use Rattle.pgq_parts.specs.Seen.{seen_database}
+use Rattle.pgq_parts.proofs.Agreeing.{agree-then}
+use Rattle.pgq_parts.proofs.CopySteps.{low-still, runs-now}
+use Rattle.pgq_parts.proofs.NodeSteps.{removing-does}
 use Rattle.sky_store.proofs.Serving.{serves-steps}
 use Rattle.pgq_db.proofs.store.DbStore.leaf_drop.Goals as goal
 

@@ -1,5 +1,5 @@
-use Rattle.pgq_db.specs.Seen.{seen_database}
-use Rattle.pgq_db.proofs.NodeSteps.{table-not, leaf-there}
+use Rattle.pgq_parts.specs.Seen.{seen_database}
+use Rattle.pgq_parts.proofs.NodeSteps.{table-not, leaf-there}
 use Rattle.pgq_db.proofs.store.DbStore.leaf_table.Goals as goal
 
 pub unreachable-requires : goal.unreachable-requires

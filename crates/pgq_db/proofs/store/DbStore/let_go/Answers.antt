@@ -1,6 +1,6 @@
 use Rattle.sky_model.specs.StepNode.{letting_go}
-use Rattle.pgq_db.specs.Seen.{seen_database}
-use Rattle.pgq_db.proofs.CopySteps.{lets-go}
+use Rattle.pgq_parts.specs.Seen.{seen_database}
+use Rattle.pgq_parts.proofs.CopySteps.{lets-go}
 use Rattle.sky_store.proofs.Serving.{serves-steps}
 use Rattle.pgq_db.proofs.store.DbStore.let_go.Goals as goal
 

@@ -1,6 +1,6 @@
-use Rattle.pgq_db.specs.Seen.{seen_database}
+use Rattle.pgq_parts.specs.Seen.{seen_database}
 use Rattle.sky_model.specs.StepNode.{making_leaf}
-use Rattle.pgq_db.proofs.NodeSteps.{leaf-if, steps-if}
+use Rattle.pgq_parts.proofs.NodeSteps.{leaf-if, steps-if}
 use Rattle.pgq_db.proofs.store.DbStore.make_leaf.Goals as goal
 
 pub returns-clause-serves : goal.returns-clause-serves

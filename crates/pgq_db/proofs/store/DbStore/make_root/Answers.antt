@@ -4,11 +4,11 @@ use Rattle.sky_model.specs.History.{of_worker, began, ended}
 use Rattle.sky_model.specs.State.{RowPart, after_part}
 use Rattle.sky_model.specs.StepNode.{making_root}
 use Rattle.sky_state.specs.Seen.{seen}
-use Rattle.pgq_db.specs.Seen.{seen_database}
-use Rattle.pgq_db.proofs.Agreeing.{agree-then}
+use Rattle.pgq_parts.specs.Seen.{seen_database}
+use Rattle.pgq_parts.proofs.Agreeing.{agree-then}
 use Rattle.sky_store.proofs.Serving.{serves-steps}
-use Rattle.pgq_db.proofs.RetrySteps.{works}
-use Rattle.pgq_db.proofs.RootSteps.{root-serves}
+use Rattle.pgq_parts.proofs.RetrySteps.{works}
+use Rattle.pgq_parts.proofs.RootSteps.{root-serves}
 use Rattle.pgq_db.proofs.store.DbStore.make_root.Goals as goal
 
 pub end_worker-requires : goal.end_worker-requires

@@ -1,7 +1,7 @@
 use Rattle.sky_model.specs.StepNode.{parting}
-use Rattle.pgq_db.specs.Seen.{seen_database}
+use Rattle.pgq_parts.specs.Seen.{seen_database}
 use Rattle.sky_store.proofs.Serving.{serves-steps}
-use Rattle.pgq_db.proofs.ProviderSteps.{stays-as, parted-as}
+use Rattle.pgq_parts.proofs.ProviderSteps.{stays-as, parted-as}
 use Rattle.pgq_db.proofs.store.DbStore.part.Goals as goal
 
 pub returns-then-is_none-clause-serves : goal.returns-then-is_none-clause-serves

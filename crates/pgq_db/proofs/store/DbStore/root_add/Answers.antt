@@ -7,13 +7,13 @@ use Rattle.sky_model.specs.StepNode.{listing, may_serve}
 use Rattle.sky_model.specs.Triggers.{TableTrigger, triggers_of}
 use Rattle.sky_state.specs.Seen.{seen}
 use Rattle.pgq_queues.specs.Seen.{seen_with}
-use Rattle.pgq_db.specs.Views.{DbView}
-use Rattle.pgq_db.specs.Seen.{seen_database}
+use Rattle.pgq_parts.specs.Views.{DbView}
+use Rattle.pgq_parts.specs.Seen.{seen_database}
 use Rattle.sky_store.specs.Served.{RootRefused}
-use Rattle.pgq_db.proofs.Databases.{table-there, table-low}
-use Rattle.pgq_db.proofs.Tables.{is-table}
-use Rattle.pgq_db.proofs.Agreeing.{agree-traced}
-use Rattle.pgq_db.proofs.NodeSteps.{set_added-back, back-as, serves-by, steps-unless, listing-nowhere, list-full, list-busy, list-does, set_added-as}
+use Rattle.pgq_parts.proofs.Databases.{table-there, table-low}
+use Rattle.pgq_parts.proofs.Tables.{is-table}
+use Rattle.pgq_parts.proofs.Agreeing.{agree-traced}
+use Rattle.pgq_parts.proofs.NodeSteps.{set_added-back, back-as, serves-by, steps-unless, listing-nowhere, list-full, list-busy, list-does, set_added-as}
 use Rattle.sky_store.proofs.Serving.{serves-steps}
 use Rattle.pgq_db.proofs.store.DbStore.root_add.Goals as goal
 

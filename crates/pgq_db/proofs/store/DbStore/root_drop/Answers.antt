@@ -1,8 +1,8 @@
 use Rattle.sky_model.specs.StepNode.{unlisting}
 use Rattle.sky_state.specs.Seen.{seen}
-use Rattle.pgq_db.specs.Seen.{seen_database}
-use Rattle.pgq_db.proofs.Agreeing.{agree-traced}
-use Rattle.pgq_db.proofs.NodeSteps.{serves-by, unlisting-there, set_removed-as}
+use Rattle.pgq_parts.specs.Seen.{seen_database}
+use Rattle.pgq_parts.proofs.Agreeing.{agree-traced}
+use Rattle.pgq_parts.proofs.NodeSteps.{serves-by, unlisting-there, set_removed-as}
 use Rattle.sky_store.proofs.Serving.{serves-steps}
 use Rattle.pgq_db.proofs.store.DbStore.root_drop.Goals as goal
 

@@ -1,6 +1,6 @@
 use Rattle.std.proofs.Common.{◌<◌, length, sym, ◌∙◌, ap, subst}
 use Rattle.sky_state.specs.Seen.{seen}
-use Rattle.pgq_db.specs.Views.{DbView}
+use Rattle.pgq_parts.specs.Views.{DbView}
 use Rattle.pgq_db.proofs.store.DbStore.schema.Goals as goal
 
 pub schema-requires : goal.schema-requires

@@ -1,7 +1,7 @@
 use Rattle.sky_model.specs.StepNode.{moving}
-use Rattle.pgq_db.specs.Seen.{seen_database}
-use Rattle.pgq_db.proofs.CopySteps.{runs-now}
-use Rattle.pgq_db.proofs.NodeSteps.{moving-does}
+use Rattle.pgq_parts.specs.Seen.{seen_database}
+use Rattle.pgq_parts.proofs.CopySteps.{runs-now}
+use Rattle.pgq_parts.proofs.NodeSteps.{moving-does}
 use Rattle.sky_store.proofs.Serving.{serves-steps}
 use Rattle.pgq_db.proofs.store.DbStore.set_state.Goals as goal
 

@@ -7,7 +7,7 @@ use Rattle.sky_model.specs.Printed.{HaveMoments}
 use Rattle.sky_model.specs.Reader.{database_by_itself}
 use Rattle.sky_store.specs.Gives.{Adds}
 use Rattle.sky_store.specs.Waiters.{StaysWithin}
-use Rattle.pgq_db.specs.Seen.{seen_database}
+use Rattle.pgq_parts.specs.Seen.{seen_database}
 use Rattle.pgq_db.proofs.store.DbStore.step_into.Goals as goal
 
 pub returns-clause-exact : goal.returns-clause-exact

@@ -1,6 +1,6 @@
 use Rattle.std.proofs.Common.{Some, option_map, ap, ◌∙◌}
 use Rattle.sky_model.specs.Queues.{Tick}
-use Rattle.pgq_db.proofs.ProviderSteps.{snapshot-as}
+use Rattle.pgq_parts.proofs.ProviderSteps.{snapshot-as}
 use Rattle.pgq_db.proofs.store.DbStore.tick_snapshot.Goals as goal
 
 pub returns : goal.returns

@@ -3,8 +3,10 @@ use Rattle.std.specs.List.{All}
 use Rattle.sky_model.specs.Retries.{brought_by}
 use Rattle.pgq_retry.specs.declared.retry.Retry.{Retry}
 use Rattle.pgq_retry.specs.Retries.{by_due}
-use Rattle.pgq_queues.specs.Views.{QueueView, QueuesView}
-use Rattle.pgq_queues.specs.Retried.{RetriedAtMost, IsWaiting}
+use Rattle.pgq_queue.specs.Views.{QueueView}
+use Rattle.pgq_queues.specs.Views.{QueuesView}
+use Rattle.pgq_queue.specs.Stored.{RetriedAtMost}
+use Rattle.pgq_queues.specs.Retried.{IsWaiting}
 use Rattle.pgq_queues.proofs.TracedLists.{stays-alike, stand-set, within-still}
 use Rattle.pgq_queues.proofs.Waiting.{same-events, one-event, retried-stays}
 use Rattle.pgq_queues.proofs.BroughtBack.{first-is, all-left, within-left, bring-marks}

@@ -1,8 +1,8 @@
 use Rattle.std.proofs.Common.{◌≡◌, IfOk, length, refl, subst}
 use Rattle.sky_model.specs.State.{Queue}
 use Rattle.sky_model.specs.Selection.{selected_in}
-use Rattle.pgq_queues.specs.Seen.{seen_span}
-use Rattle.pgq_queues.specs.Looked.{most_in}
+use Rattle.pgq_queue.specs.Seen.{seen_span}
+use Rattle.pgq_queue.specs.Looked.{most_in}
 use Rattle.pgq_queues.proofs.Marked.{queue-at}
 use Rattle.pgq_queues.proofs.Waiting.{looked-within}
 use Rattle.pgq_queues.proofs.Unchanged.{rest-kept, looked-same, looked-still, reads-others, reads-least, reads-most}

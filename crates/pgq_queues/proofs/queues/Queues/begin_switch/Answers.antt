@@ -1,10 +1,9 @@
 use Rattle.std.proofs.Common.{slice_set, ◌∙◌, ap, refl, sym, subst}
 use Rattle.pgq_tables.specs.Tables.{with_pending}
 use Rattle.sky_model.specs.State.{Queue, with_tables}
-use Rattle.pgq_queues.specs.Views.{QueueView}
-use Rattle.pgq_queues.specs.Seen.{seen_queue}
-use Rattle.pgq_queues.specs.Stored.{AllStored}
-use Rattle.pgq_queues.specs.Retried.{RetriedAtMost}
+use Rattle.pgq_queue.specs.Views.{QueueView}
+use Rattle.pgq_queue.specs.Seen.{seen_queue}
+use Rattle.pgq_queue.specs.Stored.{AllStored, RetriedAtMost}
 use Rattle.pgq_queues.proofs.Marked.{queues-set, queue-at}
 use Rattle.pgq_queues.proofs.TracedLists.{stays-alike, stand-set, within-still, stands-kept}
 use Rattle.pgq_queues.proofs.Waiting.{retried-stays}

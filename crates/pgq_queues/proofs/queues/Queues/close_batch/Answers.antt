@@ -1,7 +1,7 @@
 use Rattle.std.proofs.Common.{None, Some, option_map, is_some, sym, ◌∙◌, ap, refl}
 use Rattle.pgq_sub.specs.Views.{finished}
 use Rattle.sky_names.specs.Named.{value_of}
-use Rattle.pgq_queues.specs.Views.{QueueView}
+use Rattle.pgq_queue.specs.Views.{QueueView}
 use Rattle.pgq_queues.specs.Batches.{open_id}
 use Rattle.pgq_queues.proofs.Marked.{kept-updated}
 use Rattle.pgq_queues.proofs.Indexed.{finished-none}

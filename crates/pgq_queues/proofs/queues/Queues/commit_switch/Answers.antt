@@ -1,9 +1,9 @@
 use Rattle.std.proofs.Common.{ℤ, slice_set, ◌∙◌, ap, w64}
 use Rattle.std.proofs.lemmas.Int.{to_z-of_z}
 use Rattle.sky_model.specs.State.{after_switch}
-use Rattle.pgq_queues.specs.Views.{QueueView}
-use Rattle.pgq_queues.specs.Seen.{seen_queue}
-use Rattle.pgq_queues.specs.Rotated.{switched_in}
+use Rattle.pgq_queue.specs.Views.{QueueView}
+use Rattle.pgq_queue.specs.Seen.{seen_queue}
+use Rattle.pgq_queue.specs.Changed.{switched_in}
 use Rattle.pgq_queues.proofs.Marked.{queues-set}
 use Rattle.pgq_queues.proofs.TracedLists.{stays-switched, stand-set, stand-shown, within-still, stands-kept}
 use Rattle.pgq_queues.proofs.Waiting.{switch-events, retried-stays}

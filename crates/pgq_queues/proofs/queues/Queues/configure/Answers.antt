@@ -1,7 +1,7 @@
 use Rattle.std.proofs.Common.{ap, ◌≡◌, refl, subst, Err}
 use Rattle.sky_model.specs.Config.{param_of}
 use Rattle.pgq_tick.specs.Config.{set_to}
-use Rattle.pgq_queues.specs.Views.{QueueView}
+use Rattle.pgq_queue.specs.Views.{QueueView}
 use Rattle.pgq_queues.proofs.Waiting.{alike-within}
 use Rattle.pgq_queues.proofs.Marked.{queue-kept, on-err-then, configured-as, queue-at}
 use Rattle.std.specs.Prelude.{IfErr}

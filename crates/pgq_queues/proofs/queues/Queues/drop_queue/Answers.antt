@@ -2,7 +2,8 @@ use Rattle.std.proofs.Common.{◌≡◌, [], false, ◌==◌, get_or, ◌∙◌,
 use Rattle.std.specs.List.{All}
 use Rattle.sky_model.specs.Triggers.{TableTrigger}
 use Rattle.pgq_queues.specs.Views.{QueuesView}
-use Rattle.pgq_queues.specs.Seen.{no_queue, seen_queue, queue_at}
+use Rattle.pgq_queue.specs.Seen.{no_queue, seen_queue}
+use Rattle.pgq_queues.specs.Seen.{queue_at}
 use Rattle.pgq_queues.proofs.Marked.{dropped-as}
 use Rattle.pgq_queues.proofs.NumberedQueues.{number-none, number-there, stands-there}
 use Rattle.pgq_queues.proofs.TracedLists.{there, within-dropped}

@@ -3,9 +3,9 @@ use Rattle.std.specs.Prelude.{IfSome, find}
 use Rattle.sky_model.specs.State.{Queue}
 use Rattle.sky_model.specs.Selection.{selected_in}
 use Rattle.pgq_queues.specs.Views.{QueuesView}
-use Rattle.pgq_queues.specs.Seen.{seen_span}
-use Rattle.pgq_queues.specs.Looked.{most_in}
-use Rattle.pgq_queues.specs.Retried.{RetriedAtMost}
+use Rattle.pgq_queue.specs.Seen.{seen_span}
+use Rattle.pgq_queue.specs.Looked.{most_in}
+use Rattle.pgq_queue.specs.Stored.{RetriedAtMost}
 use Rattle.pgq_queues.proofs.Marked.{queue-at}
 use Rattle.pgq_queues.proofs.Waiting.{looked-within, stored-here}
 use Rattle.pgq_queues.proofs.Unchanged.{rest-kept, looked-same, looked-still, reads-others, reads-most}

@@ -1,8 +1,8 @@
 use Rattle.std.proofs.Common.{IfOk, length, refl, subst}
 use Rattle.sky_model.specs.State.{Queue}
 use Rattle.sky_model.specs.Selection.{selected_in}
-use Rattle.pgq_queues.specs.Seen.{seen_span}
-use Rattle.pgq_queues.specs.Looked.{most_in, AreLookedAtIn}
+use Rattle.pgq_queue.specs.Seen.{seen_span}
+use Rattle.pgq_queue.specs.Looked.{most_in, AreLookedAtIn}
 use Rattle.pgq_queues.proofs.Waiting.{looked-within}
 use Rattle.pgq_queues.proofs.Unchanged.{rest-kept, looked-same, looked-still, shown-there, reads-others, reads-least, reads-most}
 use Rattle.pgq_queues.proofs.TracedLists.{stands-kept}

@@ -2,9 +2,9 @@ use Rattle.std.proofs.Common.{◌≡◌, ℕ, ℤ, w64, arith, ap, sym, subst, r
 use Rattle.std.proofs.lemmas.Int.{to_z-of_z}
 use Rattle.sky_names.specs.Named.{NamedView}
 use Rattle.pgq_queues.specs.Numbers.{AreNumbers}
-use Rattle.pgq_queues.specs.Retried.{RetriedAtMost}
-use Rattle.pgq_queues.specs.Made.{new_queue}
-use Rattle.pgq_queues.proofs.AllStored.{stored-new}
+use Rattle.pgq_queue.specs.Stored.{RetriedAtMost}
+use Rattle.pgq_queue.specs.Made.{new_queue}
+use Rattle.pgq_queue.proofs.AllStored.{stored-new}
 use Rattle.pgq_queues.proofs.Marked.{made-as, on-err}
 use Rattle.pgq_queues.proofs.NumberedQueues.{number-new, length-shown}
 use Rattle.pgq_queues.proofs.TracedLists.{goes-same, within-still, within-made}

@@ -2,7 +2,7 @@ use Rattle.std.proofs.Common.{option_map, ap, refl}
 use Rattle.sky_names.specs.Named.{value_of}
 use Rattle.pgq_sub.specs.declared.sub.OpenBatch.{OpenBatch}
 use Rattle.pgq_sub.specs.Views.{at_tick}
-use Rattle.pgq_queues.specs.Views.{QueueView}
+use Rattle.pgq_queue.specs.Views.{QueueView}
 use Rattle.pgq_queues.proofs.TracedLists.{stands-kept}
 use Rattle.pgq_queues.proofs.Consumed.{becomes, tick-none, within-less, moved-as}
 use Rattle.pgq_queues.proofs.Waiting.{tick-keeps, retried-becomes}

@@ -3,8 +3,8 @@ use Rattle.pgq_queues.proofs.Waiting.{put-still, put-within}
 use Rattle.pgq_queues.proofs.Marked.{queue-kept, on-err, queues-set}
 use Rattle.pgq_tables.specs.Tables.{with_stored}
 use Rattle.sky_model.specs.State.{with_tables}
-use Rattle.pgq_queues.specs.Views.{QueueView}
-use Rattle.pgq_queues.specs.Seen.{seen_queue}
+use Rattle.pgq_queue.specs.Views.{QueueView}
+use Rattle.pgq_queue.specs.Seen.{seen_queue}
 use Rattle.pgq_queues.proofs.TracedLists.{stands-kept}
 use Rattle.pgq_queues.proofs.Unchanged.{rest-kept}
 use Rattle.pgq_queues.proofs.queues.Queues.put.Goals as goal

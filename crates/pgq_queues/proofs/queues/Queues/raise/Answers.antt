@@ -1,9 +1,9 @@
 use Rattle.std.proofs.Common.{ap, refl}
-use Rattle.pgq_queues.specs.Views.{QueueView}
+use Rattle.pgq_queue.specs.Views.{QueueView}
 use Rattle.pgq_queues.proofs.TracedLists.{stays-alike, stand-set, stand-shown, stands-kept}
 use Rattle.pgq_queues.proofs.Waiting.{alike-within}
 use Rattle.sky_model.specs.State.{Queue}
-use Rattle.pgq_queues.specs.Seen.{seen_queue}
+use Rattle.pgq_queue.specs.Seen.{seen_queue}
 use Rattle.pgq_queues.proofs.Marked.{queues-set}
 use Rattle.pgq_queues.proofs.Unchanged.{rest-kept}
 use Rattle.pgq_queues.proofs.queues.Queues.raise.Goals as goal

@@ -2,8 +2,8 @@ use Rattle.std.proofs.Common.{◌≡◌, IfOk, subst, sym, map}
 use Rattle.pgq_tables.specs.Tables.{recorded_part}
 use Rattle.sky_model.specs.State.{Queue}
 use Rattle.sky_model.specs.Selection.{selected_in}
-use Rattle.pgq_queues.specs.Seen.{seen_span}
-use Rattle.pgq_queues.specs.Looked.{AreLookedAtIn}
+use Rattle.pgq_queue.specs.Seen.{seen_span}
+use Rattle.pgq_queue.specs.Looked.{AreLookedAtIn}
 use Rattle.pgq_queues.proofs.queues.Queues.recorded.Goals as goal
 
 pub queue-requires : goal.queue-requires

@@ -1,6 +1,7 @@
 use Rattle.std.proofs.Common.{◌+◌, Some, None, ap, length, refl, ◌∙◌, ◌<◌, subst, sym}
 use Rattle.pgq_sub.specs.Views.{SubView}
-use Rattle.pgq_queues.specs.Views.{QueuesView, QueueView}
+use Rattle.pgq_queues.specs.Views.{QueuesView}
+use Rattle.pgq_queue.specs.Views.{QueueView}
 use Rattle.pgq_queues.proofs.TracedLists.{stands-kept}
 use Rattle.pgq_queues.proofs.Consumed.{becomes, not-kept, within-come, registered-as}
 use Rattle.pgq_queues.proofs.Waiting.{retried-come, alike-within}

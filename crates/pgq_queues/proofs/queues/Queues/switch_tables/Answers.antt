@@ -1,6 +1,7 @@
 use Rattle.std.proofs.Common.{ℤ, ◌∙◌, ap, w64}
 use Rattle.std.proofs.lemmas.Int.{to_z-of_z}
-use Rattle.pgq_queues.specs.Rotated.{settled_in, each_changed}
+use Rattle.pgq_queue.specs.Changed.{settled_in}
+use Rattle.pgq_queues.specs.Rotated.{each_changed}
 use Rattle.pgq_queues.proofs.TracedLists.{within-still}
 use Rattle.pgq_queues.proofs.RotatedQueues.{settled-retried, settled-as}
 use Rattle.pgq_queues.proofs.queues.Queues.switch_tables.Goals as goal

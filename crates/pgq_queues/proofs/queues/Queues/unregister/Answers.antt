@@ -1,7 +1,7 @@
 use Rattle.std.proofs.Common.{None, Some, sym, option_map, ◌∙◌, ap, refl}
 use Rattle.pgq_sub.specs.declared.sub.OpenBatch.{OpenBatch}
 use Rattle.pgq_sub.specs.Views.{SubView}
-use Rattle.pgq_queues.specs.Views.{QueueView}
+use Rattle.pgq_queue.specs.Views.{QueueView}
 use Rattle.pgq_queues.specs.Batches.{open_id}
 use Rattle.pgq_queues.proofs.Marked.{queue-kept}
 use Rattle.pgq_queues.proofs.TracedLists.{stands-kept}

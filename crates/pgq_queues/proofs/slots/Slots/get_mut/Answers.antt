@@ -1,5 +1,5 @@
 use Rattle.std.proofs.Common.{◌≡◌, ◌<◌, refl, get_or, slice_set, length, sym, ◌∙◌, ap, subst}
-use Rattle.pgq_queues.specs.Seen.{no_queue}
+use Rattle.pgq_queue.specs.Seen.{no_queue}
 use Rattle.pgq_queues.proofs.TracedLists.{there}
 use Rattle.pgq_queues.proofs.Slotted.{map-set, map-at, is-there, changed-there}
 use Rattle.pgq_queues.proofs.slots.Slots.get_mut.Goals as goal

@@ -2,8 +2,8 @@ use Rattle.std.proofs.Common.{◌++◌, ◌∷◌, [], ℤ, map, slice_index_or,
 use Rattle.std.proofs.lemmas.Int.{to_z-of_z}
 use Rattle.std.proofs.lemmas.Result.{IfOk-from_err}
 use Rattle.sky_model.specs.Moment.{IsTime}
-use Rattle.pgq_queues.specs.Seen.{no_queue}
-use Rattle.pgq_queues.specs.Made.{new_queue}
+use Rattle.pgq_queue.specs.Seen.{no_queue}
+use Rattle.pgq_queue.specs.Made.{new_queue}
 use Rattle.pgq_queues.proofs.Marked.{on-err}
 use Rattle.pgq_queues.proofs.Slotted.{slot-more}
 use Rattle.pgq_queues.proofs.slots.Slots.make.Goals as goal

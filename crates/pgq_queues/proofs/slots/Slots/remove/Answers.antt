@@ -1,5 +1,5 @@
 use Rattle.std.proofs.Common.{get_or, slice_set, ◌∙◌}
-use Rattle.pgq_queues.specs.Seen.{no_queue}
+use Rattle.pgq_queue.specs.Seen.{no_queue}
 use Rattle.pgq_queues.proofs.Slotted.{map-set}
 use Rattle.pgq_queues.proofs.slots.Slots.remove.Goals as goal
 

@@ -1,4 +1,4 @@
-use Rattle.sky_world.proofs.HandsAt.{batch-emptied}
+use Rattle.sky_world.proofs.HandsEmptied.{batch-emptied}
 use Rattle.sky_world.proofs.state.State.empty_batch.Goals as goal
 
 pub returns : goal.returns

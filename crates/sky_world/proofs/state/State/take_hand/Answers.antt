@@ -1,4 +1,4 @@
-use Rattle.sky_world.proofs.HandsAt.{emptied-there}
+use Rattle.sky_world.proofs.HandsEmptied.{emptied-there}
 use Rattle.sky_world.proofs.state.State.take_hand.Goals as goal
 
 pub returns-in_err-hand-clause-happened : goal.returns-in_err-hand-clause-happened

@@ -1,0 +1,2 @@
+pub mod AllStored
+pub mod HeldBack

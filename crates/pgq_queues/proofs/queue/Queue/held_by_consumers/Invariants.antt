@@ -1,9 +1,0 @@
-use Rattle.std.proofs.Common.{◌≡◌, drop}
-use Rattle.sky_model.specs.StepRotation.{held_by_consumers}
-use Rattle.pgq_queues.specs.Seen.{seen_queue}
-use Rattle.pgq_queues.proofs.queue.Queue.held_by_consumers.Given as goal
-
--- the first consumers hold nothing back
-abbrev pub invariant-loop-place : goal.invariant-loop-place
-invariant-loop-place l =
-    held_by_consumers l.txid (seen_queue l.self) (drop l.place (seen_queue l.self).members) ≡ held_by_consumers l.txid (seen_queue l.self) (seen_queue l.self).members

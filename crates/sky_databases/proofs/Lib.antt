@@ -1,0 +1,2 @@
+pub mod HandsAt
+pub mod TwoPlaces

@@ -1,0 +1,4 @@
+pub mod OwnLemmas
+pub mod WaitLemmas
+pub mod WrittenLemmas
+pub mod FreeLemmas
