@@ -35,9 +35,13 @@ impl Scans {
     fn write(&mut self, alloc: Global, words: &str) -> anyhow::Result<String> {
         let (txid, statement) = first_number(words)?;
         let line = line(alloc, statement)?;
+        self.make(alloc, u64::from(txid), row_statement(&line)?)
+    }
+
+    fn make(&mut self, alloc: Global, txid: u64, stmt: &RowStmt) -> anyhow::Result<String> {
         let table = self.table.as_mut().context("no table")?;
-        let (key, row) = change(alloc, table.schema(), row_statement(&line)?)?;
-        table.write(u64::from(txid), key, row)?;
+        let (key, row) = change(alloc, table.schema(), stmt)?;
+        table.write(txid, key, row)?;
         ok(alloc)
     }
 
@@ -52,10 +56,19 @@ impl Scans {
         } else {
             Some(u64::from(txid))
         };
+        self.rows(alloc, own, key_got(row_statement(&line)?), most as usize)
+    }
+
+    fn rows(
+        &self,
+        alloc: Global,
+        own: Option<u64>,
+        after: Option<&Key>,
+        most: usize,
+    ) -> anyhow::Result<String> {
         let snapshot = Snapshot::parse(alloc, b"4:5:4")?;
         let table = self.table.as_ref().context("no table")?;
-        let after = key_got(row_statement(&line)?);
-        shown(alloc, table.scan_from(after, &snapshot, own, most as usize))
+        shown(alloc, table.scan_from(after, &snapshot, own, most))
     }
 }
 

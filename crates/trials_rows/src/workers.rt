@@ -42,11 +42,21 @@ impl Workers {
         let (snapshot, statement) = first_word(words);
         let snapshot = Snapshot::parse(alloc, snapshot.as_bytes())?;
         let line = line(alloc, statement)?;
-        let (name, after) = place(row_statement(&line)?)?;
+        self.rows_in(alloc, &snapshot, row_statement(&line)?, most as usize)
+    }
+
+    fn rows_in(
+        &self,
+        alloc: Global,
+        snapshot: &Snapshot,
+        stmt: &RowStmt,
+        most: usize,
+    ) -> anyhow::Result<String> {
+        let (name, after) = place(stmt)?;
         let Some((table, _)) = self.db.table(name) else {
             return Err(no_command());
         };
-        let rows = self.db.rows_under(&snapshot, table, after, most as usize);
+        let rows = self.db.rows_under(snapshot, table, after, most);
         shown(alloc, rows)
     }
 
@@ -56,13 +66,23 @@ impl Workers {
         let (snapshot, statement) = first_word(words);
         let snapshot = Snapshot::parse(alloc, snapshot.as_bytes())?;
         let line = line(alloc, statement)?;
-        let (name, Some(key)) = place(row_statement(&line)?)? else {
+        self.row_in(alloc, u64::from(txid), &snapshot, row_statement(&line)?)
+    }
+
+    fn row_in(
+        &self,
+        alloc: Global,
+        txid: u64,
+        snapshot: &Snapshot,
+        stmt: &RowStmt,
+    ) -> anyhow::Result<String> {
+        let (name, Some(key)) = place(stmt)? else {
             return Err(no_command());
         };
         let Some((table, _)) = self.db.table(name) else {
             return Err(no_command());
         };
-        let row = self.db.worker_row(u64::from(txid), &snapshot, table, key);
+        let row = self.db.worker_row(txid, snapshot, table, key);
         shown(alloc, Ok(row))
     }
 }
