@@ -1,16 +1,3 @@
-pub mod Orders
-pub mod Basics
-pub mod SessionVectors
-pub mod HolderLemmas
-pub mod PlaceLemmas
-pub mod EntryLemmas
-pub mod SlotLemmas
-pub mod QueueLemmas
-pub mod FirstLemmas
-pub mod IndexLemmas
-pub mod PackLemmas
 pub mod ListedLemmas
-pub mod HeldLemmas
-pub mod TableLemmas
 pub mod LockLemmas
 pub mod RingLemmas

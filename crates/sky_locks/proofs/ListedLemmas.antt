@@ -1,21 +1,22 @@
 -- The list of freed keys, as keys are taken and given back, and as sessions come to wait and leave.
 use Rattle.std.proofs.Common.{◌≡◌, ◌≢◌, ℕ, ◌<◌, ◌≤◌, ◌+◌, Bool, true, false, cond, not, List, [], ◌∷◌, ◌++◌, map, length, Option, Some, None, is_some, refl, sym, subst, ◌∙◌, ap, arith}
-use Rattle.std.specs.Prelude.{◌==◌, ◌||◌, find, filter, option_map}
+use Rattle.std.specs.Prelude.{◌==◌, ◌||◌, find, filter}
 use Rattle.std.specs.List.{All, AllByRecursion, IsDistinct}
 use Rattle.std.specs.Cmp.{eq_by_cmp_equiv}
 use Rattle.std.specs.Ordering.{eq_by_cmp}
 use Rattle.std.proofs.lemmas.List.Elements.{recursion_from_All}
-use Rattle.std.proofs.lemmas.List.Folds.{list_any-append}
 use Rattle.std.proofs.lemmas.List.{length-append, length-map}
 use Rattle.std.proofs.lemmas.Map.Keys.{IsDistinct-push}
 use Rattle.std.proofs.lemmas.Map.Made.{length-le_from_is_member}
 use Rattle.sky_keys.specs.Waits.{Waiting, entry_of, without, other_than}
-use Rattle.sky_locks.specs.declared.lock_key.LockKey.{LockKey}
-use Rattle.sky_locks.specs.Order.{lock_cmp}
-use Rattle.sky_locks.specs.Holders.{Held, holder_of, Frees}
-use Rattle.sky_locks.specs.Waiters.{entry, key_of, is_among}
-use Rattle.sky_locks.specs.Freed.{is_waited, noted, IsListed}
-use Rattle.sky_locks.proofs.Orders.{lock_cmp-IsTotalOrder, lock_ties-is, lock_ties-symm}
+use Rattle.sky_lock_table.specs.declared.lock_key.LockKey.{LockKey}
+use Rattle.sky_lock_table.specs.Order.{lock_cmp}
+use Rattle.sky_lock_table.specs.Holders.{Held, holder_of, Frees}
+use Rattle.sky_lock_table.specs.Waiters.{entry, key_of, is_among, is_waited}
+use Rattle.sky_lock_table.proofs.Orders.{lock_cmp-IsTotalOrder, lock_ties-is, lock_ties-symm}
+use Rattle.sky_lock_table.proofs.Basics.{or_no, or_yes}
+use Rattle.sky_lock_table.proofs.HeldLemmas.{among-push}
+use Rattle.sky_locks.specs.Freed.{noted, IsListed}
 
 -- ---- lists
 
@@ -113,18 +114,6 @@ without-nobody (w ∷ waiting) who none = elim (w.who == who) as (λ b. cond b (
 ] none
 
 -- ---- which keys are listed
-
-pub or_no : (b : Bool) → (b || false) ≡ b
-or_no true = refl
-or_no false = refl
-
-pub or_yes : (b : Bool) → (b || true) ≡ true
-or_yes true = refl
-or_yes false = refl
-
--- one more is listed
-pub among-push : (freed : List LockKey) (key q : LockKey) → is_among (freed ++ key ∷ []) q ≡ (is_among freed q || eq_by_cmp lock_cmp key q)
-among-push freed key q = list_any-append (λ k. eq_by_cmp lock_cmp q k) freed (key ∷ []) ∙ ap (λ b. is_among freed q || b) (or_no (eq_by_cmp lock_cmp q key) ∙ lock_ties-symm q key)
 
 -- one is listed no more
 pub among-without : (freed : List LockKey) (key q : LockKey) → is_among (filter (λ f. not (eq_by_cmp lock_cmp f key)) freed) q ≡ cond (eq_by_cmp lock_cmp key q) false (is_among freed q)
@@ -322,10 +311,6 @@ pub ready_is : (held : Held) (waiting : List Waiting) (freed : List LockKey) (ca
 ready_is held waiting freed capacity listed =
     find-same (λ w. is_among freed (key_of w)) (λ w. not (is_some (holder_of held (key_of w)))) waiting
     (all_more (λ w waited. listed_is_free (holder_of held (key_of w)) (is_among freed (key_of w)) (listed.free (key_of w)) waited) waiting listed.complete)
-
-pub is_some-mapped : {A B : Type 0} (f : A → B) (o : Option A) → is_some (option_map f o) ≡ is_some o
-is_some-mapped f None = refl
-is_some-mapped f (Some a) = refl
 
 -- ---- what is seen otherwise
 

@@ -4,10 +4,10 @@ use Rattle.std.specs.Prelude.{◌==◌}
 use Rattle.std.specs.Ordering.{eq_by_cmp}
 use Rattle.std.proofs.lemmas.Bool.{eqb-true, eq-eqb}
 use Rattle.sky_keys.specs.Waits.{Holders, other_than, taken, given_back, released}
-use Rattle.sky_locks.specs.declared.lock_key.LockKey.{LockKey}
-use Rattle.sky_locks.specs.Order.{lock_cmp}
-use Rattle.sky_locks.specs.Holders.{Held, holder_of, Frees}
-use Rattle.sky_locks.proofs.Orders.{is_same_key-ties, lock_ties-is}
+use Rattle.sky_lock_table.specs.declared.lock_key.LockKey.{LockKey}
+use Rattle.sky_lock_table.specs.Order.{lock_cmp}
+use Rattle.sky_lock_table.specs.Holders.{Held, holder_of, Frees}
+use Rattle.sky_lock_table.proofs.Orders.{is_same_key-ties, lock_ties-is}
 
 -- the holders by a list of held keys
 abbrev pub holders : Held → Holders

@@ -3,7 +3,7 @@ use Rattle.std.proofs.Common.{◌≡◌, ℕ, zero, suc, Bool, true, false, cond
 use Rattle.std.specs.Prelude.{◌==◌, option_map}
 use Rattle.sky_keys.specs.Waits.{along, way_back, LeadsBack}
 use Rattle.sky_keys.proofs.WaitLemmas.{leads_back}
-use Rattle.sky_locks.proofs.ListedLemmas.{is_some-mapped}
+use Rattle.sky_lock_table.proofs.Basics.{is_some-mapped}
 
 -- what was passed, and the path that is left
 abbrev pub with_rest : (ℕ → Option ℕ) → ℕ → List ℕ → ℕ → ℕ → Option (List ℕ)

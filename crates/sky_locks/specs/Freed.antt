@@ -1,16 +1,12 @@
 -- The keys that were given back and are waited for, as the code lists them.
-use Rattle.std.specs.Prelude.{◌≡◌, ℕ, ◌≤◌, Bool, true, is_some, if◌then◌else◌, List, [], ◌∷◌, ◌++◌, length, None, find}
+use Rattle.std.specs.Prelude.{◌≡◌, ℕ, ◌≤◌, true, if◌then◌else◌, List, [], ◌∷◌, ◌++◌, length, None}
 use Rattle.std.specs.List.{AllByRecursion, IsDistinct}
 use Rattle.std.specs.Ordering.{eq_by_cmp}
 use Rattle.sky_keys.specs.Waits.{Waiting}
-use Rattle.sky_locks.specs.declared.lock_key.LockKey.{LockKey}
-use Rattle.sky_locks.specs.Order.{lock_cmp}
-use Rattle.sky_locks.specs.Holders.{Held, holder_of}
-use Rattle.sky_locks.specs.Waiters.{key_of, is_among}
-
--- whether anyone waits for a key
-abbrev pub is_waited : List Waiting → LockKey → Bool
-is_waited waiting key = is_some (find (λ w. eq_by_cmp lock_cmp (key_of w) key) waiting)
+use Rattle.sky_lock_table.specs.declared.lock_key.LockKey.{LockKey}
+use Rattle.sky_lock_table.specs.Order.{lock_cmp}
+use Rattle.sky_lock_table.specs.Holders.{Held, holder_of}
+use Rattle.sky_lock_table.specs.Waiters.{key_of, is_among, is_waited}
 
 -- the list once a key was given back
 abbrev pub noted : List Waiting → LockKey → List LockKey → List LockKey

@@ -1,9 +1,2 @@
-pub mod Order
-pub mod OrderLaws
-pub mod Sessions
-pub mod Holders
-pub mod Slots
-pub mod Waiters
-pub mod Table
 pub mod Freed
 pub mod Locks

@@ -4,11 +4,11 @@ use Rattle.std.specs.Map.{lookup}
 use Rattle.std.specs.BTreeMap.{is_at}
 use Rattle.sky_val.specs.declared.val.Val.{Val}
 use Rattle.sky_keys.specs.Waits.{Waiting, other_holder, taken, waits_for, LeadsBack}
-use Rattle.sky_locks.specs.declared.lock_key.LockKey.{LockKey}
+pub use Rattle.sky_lock_table.specs.declared.lock_key.LockKey.{LockKey}
+use Rattle.sky_lock_table.specs.Order.{lock_cmp}
+use Rattle.sky_lock_table.specs.Slots.{Places, place_at}
 use Rattle.sky_locks.specs.declared.taken.Taken.{Taken}
 use Rattle.sky_locks.specs.declared.taken.Taken.TheVariants.{Got, Waits, Cycle}
-use Rattle.sky_locks.specs.Order.{lock_cmp}
-use Rattle.sky_locks.specs.Slots.{Places, place_at}
 
 -- the keys that are held, in order, each with its holder, the wait queue in order of arrival, and the place of each key's slot
 pub record LocksView : Type 0 where

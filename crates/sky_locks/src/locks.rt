@@ -1,12 +1,11 @@
 ghost use Rattle.std.specs.Prelude.{◌≡◌, ◌↔◌, ◌<◌, [], ◌∷◌, ◌++◌, if◌then◌else◌, true, false, None, Some, length, is_some, option_map, vec_len, vec_capacity, IsTrue, IfNone, IfOk, IfSome, OnOk, OnErr};
 ghost use Rattle.sky_keys.specs.Waits.{is_waiting, entry_of, without, first_waiter, ready, other_holder, taken, given_back, released, way_back};
-ghost use Rattle.sky_locks.specs.Waiters.{entry};
+ghost use Rattle.sky_lock_table.specs.Waiters.{entry};
 ghost use Rattle.sky_locks.specs.Locks.{LocksView, Takes, TakesKey, WaitsForKey, ClosesRing, holder, slot_place, waits_for_in};
 
-use crate::lock_key::LockKey;
 use crate::ring::Ring;
-use crate::table::Table;
 use crate::taken::Taken;
+use sky_lock_table::{LockKey, LockTable};
 use sky_val::{NoMemory, SessionId};
 use std::alloc::Global;
 use std::marker::Model;
@@ -15,7 +14,7 @@ use std::marker::Model;
 #[derive(Debug, Drop)]
 pub struct Locks {
     alloc: Global,
-    table: Table,
+    table: LockTable,
 
     // The keys that were given back and are waited for. There is room for the key of each that waits,
     // so that giving it back takes no memory.
@@ -41,7 +40,7 @@ impl Locks {
     {
         Locks {
             alloc,
-            table: Table::new(alloc),
+            table: LockTable::new(alloc),
             freed: Vec::new(alloc),
         }
     }

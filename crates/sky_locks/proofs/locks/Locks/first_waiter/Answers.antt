@@ -1,9 +1,9 @@
 use Rattle.std.proofs.Common.{◌∙◌, ap, sym}
 use Rattle.std.specs.Prelude.{find, option_map}
 use Rattle.sky_keys.specs.Waits.{first_waiter}
-use Rattle.sky_locks.specs.Waiters.{key_of}
+use Rattle.sky_lock_table.specs.Waiters.{key_of}
+use Rattle.sky_lock_table.proofs.Orders.{lock_ties-symm, is_same_key-ties}
 use Rattle.sky_locks.specs.Locks.{LocksView}
-use Rattle.sky_locks.proofs.Orders.{lock_ties-symm, is_same_key-ties}
 use Rattle.sky_locks.proofs.locks.Locks.first_waiter.Goals as goal
 
 pub returns : goal.returns

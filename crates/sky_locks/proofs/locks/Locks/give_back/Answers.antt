@@ -1,7 +1,7 @@
 use Rattle.std.proofs.Common.{◌<◌, ◌∙◌, ◌++◌, ◌∷◌, [], ap, sym, subst, cond, length, arith, vec_capacity}
 use Rattle.sky_keys.specs.Waits.{given_back}
-use Rattle.sky_locks.specs.declared.lock_key.LockKey.{LockKey}
-use Rattle.sky_locks.specs.Holders.{Frees}
+use Rattle.sky_lock_table.specs.declared.lock_key.LockKey.{LockKey}
+use Rattle.sky_lock_table.specs.Holders.{Frees}
 use Rattle.sky_locks.specs.Locks.{LocksView, holder}
 use Rattle.sky_locks.proofs.ListedLemmas.{room_for, listed_noted, listed_waiting}
 use Rattle.sky_locks.proofs.LockLemmas.{given_back_is, not_held_is}

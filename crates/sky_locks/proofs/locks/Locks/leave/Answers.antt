@@ -1,9 +1,9 @@
 use Rattle.std.proofs.Common.{◌∙◌, ap, sym, not, rules, vec_capacity}
 use Rattle.std.specs.Prelude.{filter, option_map}
 use Rattle.std.proofs.lemmas.Fn.{filter_same}
-use Rattle.sky_locks.specs.contracts.lock_key.LockKeyPartialEq.TheImpl as equality
-use Rattle.sky_locks.specs.Waiters.{entry}
-use Rattle.sky_locks.proofs.Orders.{lock_eq-ties}
+use Rattle.sky_lock_table.specs.Waiters.{entry}
+use Rattle.sky_lock_table.proofs.Orders.{lock_eq-ties}
+use Rattle.sky_lock_table.specs.contracts.lock_key.LockKeyPartialEq.TheImpl as equality
 use Rattle.sky_locks.proofs.ListedLemmas.{listed_unchanged, listed_left, listed_dropped, listed_held}
 use Rattle.sky_locks.proofs.locks.Locks.leave.Goals as goal
 

@@ -1,7 +1,7 @@
 use Rattle.std.proofs.Common.{◌∙◌, ap, vec_capacity}
 use Rattle.std.specs.Prelude.{find}
 use Rattle.sky_keys.specs.Waits.{ready}
-use Rattle.sky_locks.specs.Waiters.{key_of, is_among}
+use Rattle.sky_lock_table.specs.Waiters.{key_of, is_among}
 use Rattle.sky_locks.specs.Locks.{LocksView, holder}
 use Rattle.sky_locks.proofs.ListedLemmas.{ready_is}
 use Rattle.sky_locks.proofs.locks.Locks.ready.Goals as goal

@@ -1,6 +1,6 @@
 use Rattle.std.proofs.Common.{◌≡◌, length, vec_capacity}
 use Rattle.sky_keys.specs.Waits.{released}
-use Rattle.sky_locks.specs.Sessions.{keys_of}
+use Rattle.sky_lock_table.specs.Sessions.{keys_of}
 use Rattle.sky_locks.specs.Freed.{IsListed}
 use Rattle.sky_locks.proofs.LockLemmas.{holders}
 use Rattle.sky_locks.proofs.locks.Locks.release.Given as goal

@@ -2,12 +2,12 @@ use Rattle.std.proofs.Common.{◌≡◌, ◌∙◌, ap, sym, subst, refl, not, r
 use Rattle.std.specs.Prelude.{filter, IfNone, OnSome}
 use Rattle.std.specs.Ordering.{eq_by_cmp}
 use Rattle.std.proofs.lemmas.Fn.{filter_same}
-use Rattle.sky_locks.specs.contracts.lock_key.LockKeyPartialEq.TheImpl as equality
-use Rattle.sky_locks.specs.declared.lock_key.LockKey.{LockKey}
-use Rattle.sky_locks.specs.Order.{lock_cmp}
-use Rattle.sky_locks.specs.Holders.{holder_of}
+use Rattle.sky_lock_table.specs.declared.lock_key.LockKey.{LockKey}
+use Rattle.sky_lock_table.specs.Order.{lock_cmp}
+use Rattle.sky_lock_table.specs.Holders.{holder_of}
+use Rattle.sky_lock_table.proofs.Orders.{lock_eq-ties}
+use Rattle.sky_lock_table.specs.contracts.lock_key.LockKeyPartialEq.TheImpl as equality
 use Rattle.sky_locks.specs.Locks.{LocksView}
-use Rattle.sky_locks.proofs.Orders.{lock_eq-ties}
 use Rattle.sky_locks.proofs.ListedLemmas.{listed_taken, listed_waiting}
 use Rattle.sky_locks.proofs.LockLemmas.{holders, taken_again, held_itself}
 use Rattle.sky_locks.proofs.locks.Locks.take_at.Goals as goal

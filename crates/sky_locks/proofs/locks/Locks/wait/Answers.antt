@@ -1,8 +1,8 @@
 use Rattle.std.proofs.Common.{◌≤◌, ◌+◌, ◌∙◌, ◌∷◌, ◌++◌, [], ap, sym, refl, length, arith, vec_capacity}
 use Rattle.sky_keys.specs.Waits.{other_than}
 use Rattle.sky_keys.proofs.WaitLemmas.{no_way}
-use Rattle.sky_locks.specs.Holders.{holder_of}
-use Rattle.sky_locks.specs.Waiters.{entry}
+use Rattle.sky_lock_table.specs.Holders.{holder_of}
+use Rattle.sky_lock_table.specs.Waiters.{entry}
 use Rattle.sky_locks.specs.Locks.{LocksView, holder, waits_for_in}
 use Rattle.sky_locks.proofs.ListedLemmas.{other_holds, listed_arrived, listed_held}
 use Rattle.sky_locks.proofs.RingLemmas.{ring_way, no_ring}

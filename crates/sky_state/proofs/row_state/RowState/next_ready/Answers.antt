@@ -1,8 +1,7 @@
 -- A session that is ready waits for a key of a table that exists.
 use Rattle.std.proofs.Common.{◌≡◌, ◌<◌, length, Some, option_map, ap, sym, ◌∙◌, subst}
 use Rattle.sky_keys.specs.Waits.{ready}
-use Rattle.sky_locks.specs.declared.lock_key.LockKey.{LockKey}
-use Rattle.sky_locks.specs.Locks.{holder, entry}
+use Rattle.sky_locks.specs.Locks.{LockKey, holder, entry}
 use Rattle.sky_state.specs.Views.{RowStateView}
 use Rattle.sky_state.proofs.Owning.{within-ready}
 use Rattle.sky_state.proofs.row_state.RowState.next_ready.Goals as goal

@@ -1,6 +1,0 @@
-use Rattle.std.proofs.Common.{◌≡◌, false, take}
-use Rattle.sky_locks.specs.Waiters.{is_among}
-use Rattle.sky_locks.proofs.held_keys.place_of.Given as goal
-
-abbrev pub invariant-loop-place : goal.invariant-loop-place
-invariant-loop-place l = is_among (take l.place l.keys) l.fn.key ≡ false

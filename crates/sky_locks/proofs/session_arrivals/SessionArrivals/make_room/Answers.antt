@@ -1,7 +1,0 @@
-use Rattle.std.proofs.Common.{◌∙◌, ap, refl, ℕ, Option, None, List}
-use Rattle.sky_locks.specs.Sessions.{arrival_of}
-use Rattle.sky_locks.proofs.SessionVectors.{at-padded}
-use Rattle.sky_locks.proofs.session_arrivals.SessionArrivals.make_room.Goals as goal
-
-pub loop-self-preserved : goal.loop-self-preserved
-loop-self-preserved c = λ s. ap (λ (xs : List (Option ℕ)). arrival_of xs s) c.in_ok-push.ensures.items ∙ at-padded (λ (a : Option ℕ). a) None _ None s refl ∙ c.loop-self.invariant s

@@ -1,6 +1,0 @@
-use Rattle.std.proofs.Common.{◌≡◌, take}
-use Rattle.sky_locks.proofs.FirstLemmas.{first_among}
-use Rattle.sky_locks.proofs.table.Table.first_of.Given as goal
-
-abbrev pub invariant-loop-key : goal.invariant-loop-key
-invariant-loop-key l = l.first ≡ first_among (take l.key-index l.keys) l.self-inside.entries
