@@ -6,7 +6,10 @@
 
 mod post;
 
+use pgq_db::Db;
 use post::Post;
+use sky_session::RowDb;
+use sky_store::Store;
 use std::mem;
 
 /// What is done before the worker begins.
@@ -27,7 +30,7 @@ const LINES: [&str; 10] = [
 const TURNS: u32 = 12;
 
 fn main(rt: HostRuntime) -> anyhow::Result<()> {
-    let mut post = Post::new(rt.alloc());
+    let mut post = Post::<Db<RowDb>>::new(rt.alloc());
     let delivered = deliver(&rt, &mut post);
     // The program ends after this, and then all memory is freed at once.
     mem::forget(post);
@@ -35,7 +38,7 @@ fn main(rt: HostRuntime) -> anyhow::Result<()> {
 }
 
 // Puts the letters into the queue, and sends those of each batch.
-fn deliver(rt: &(impl Print + AllocGlobal), post: &mut Post) -> anyhow::Result<()> {
+fn deliver<D: Store>(rt: &(impl Print + AllocGlobal), post: &mut Post<D>) -> anyhow::Result<()> {
     for line in LINES {
         post.run(line)?;
     }

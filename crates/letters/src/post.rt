@@ -1,21 +1,20 @@
 use anyhow::bail;
-use pgq_db::Db;
 use sky_model::{Line, Replies, Reply};
 use sky_script::parse_line;
-use sky_session::RowDb;
+use sky_store::Store;
 use sky_val::{Event, Text};
 use sky_world::World;
 use std::alloc::Global;
 
-/// A world with a queue of letters.
+/// A world with a queue of letters, over databases of any type.
 #[derive(Drop)]
-pub struct Post {
+pub struct Post<D: Store> {
     alloc: Global,
-    world: World<Db<RowDb>>,
+    world: World<D>,
 }
 
-impl Post {
-    pub fn new(alloc: Global) -> Post {
+impl<D: Store> Post<D> {
+    pub fn new(alloc: Global) -> Post<D> {
         Post {
             alloc,
             world: World::new(alloc),

@@ -1,7 +1,6 @@
 //! What the daemon of a database does, part by part. It answers nothing, and what would be refused isn't done.
 
-ghost use Rattle.std.specs.Prelude.{◌≡◌, true, nat_le, ◌==◌, length, IfOk, OnOk};
-ghost use Rattle.pgq_retry.specs.Retries.{due_now};
+ghost use Rattle.std.specs.Prelude.{◌≡◌, true, nat_le, length, IfOk, OnOk};
 ghost use Rattle.sky_model.specs.Moment.{IsTime};
 ghost use Rattle.sky_model.specs.State.{after_marks};
 ghost use Rattle.sky_model.specs.Reader.{database_by_itself};
@@ -9,11 +8,10 @@ ghost use Rattle.sky_model.specs.StepQueue.{is_due, next_tick};
 ghost use Rattle.sky_model.specs.Outcome.{reply_of};
 ghost use Rattle.sky_model.specs.StepRetry.{most_back, maint_retry_events};
 ghost use Rattle.sky_model.specs.Daemon.{quietly, ticks_of, moved_by, retries_of, first_steps_of, daemon_does};
-ghost use Rattle.sky_model.specs.StepRotation.{rotates_by_itself, lack_second_step, maint_rotate_step2};
+ghost use Rattle.sky_model.specs.StepRotation.{rotates_by_itself, maint_rotate_step2};
 ghost use Rattle.sky_model.specs.declared.daemon.DaemonPart.TheVariants.{Maintain};
 ghost use Rattle.pgq_queues.specs.Seen.{Stands};
 ghost use Rattle.pgq_parts.specs.Seen.{seen_database};
-ghost use Rattle.sky_store.specs.Idle.{all_idle, idles_at};
 
 use crate::db::Db;
 use pgq_queues::MOST_BACK;
@@ -23,42 +21,6 @@ use sky_val::NoMemory;
 use std::alloc::AllocError;
 
 impl<R: RowStore> Db<R> {
-    /// Whether nothing is to be done at a moment.
-    pub(crate) fn idles_at(&self, moment: i64) -> bool
-        requires { IsTime moment }
-        ensures { result ≡ idles_at moment (seen_database self.now) }
-    {
-        self.are_idle(moment) && self.is_rotated() && self.is_none_due(moment)
-    }
-
-    /// Whether no queue lacks the second step of its last switch.
-    fn is_rotated(&self) -> bool
-        ensures { result ≡ (length (lack_second_step (seen_database self.now)) == 0) }
-    {
-        self.queues.unfinished() == 0
-    }
-
-    /// Whether no retry is due at a moment.
-    fn is_none_due(&self, moment: i64) -> bool
-        ensures { result ≡ (length (due_now moment most_back (seen_database self.now).retries) == 0) }
-    {
-        self.queues.due_count(moment) == 0
-    }
-
-    /// Whether no tick of a queue is due at a moment, and something holds the switch of each back.
-    fn are_idle(&self, moment: i64) -> bool
-        requires { IsTime moment }
-        ensures { result ≡ all_idle moment (seen_database self.now) (seen_database self.now).queues }
-    {
-        for place in 0..self.queues.count() {
-            let queue = self.queues.queue(self.queues.number_at(place));
-            if queue.is_due(moment) || !queue.is_held_back(moment) {
-                return false;
-            }
-        }
-        true
-    }
-
     /// Makes the ticks that are due.
     pub(crate) fn make_ticks(&mut self, now: i64) -> Result<(), NoMemory>
         requires { IsTime now }

@@ -1,5 +1,5 @@
-ghost use Rattle.std.specs.Prelude.{◌≡◌, ◌↔◌, ◌≢◌, ◌+◌, ◌^◌, [], ◌++◌, None, Some, Ok, Err, IfOk, IfErr, IfSome, OnOk, OnErr, IsTrue, option_map, nat_le, true, false, is_ok};
-ghost use Rattle.sky_model.specs.InForm.{IsRowInForm};
+ghost use Rattle.std.specs.Prelude.{◌≡◌, ◌↔◌, ◌≢◌, ◌+◌, ◌^◌, [], ◌++◌, None, Some, Ok, Err, IfOk, IfErr, IfSome, OnOk, OnErr, IsTrue, option_map, nat_le, false};
+ghost use Rattle.sky_model.specs.InForm.{IsDbInForm};
 ghost use Rattle.sky_model.specs.History.{queued, ticked};
 ghost use Rattle.sky_model.specs.Moment.{IsTime};
 ghost use Rattle.sky_model.specs.ShownRows.{snapshot_now};
@@ -11,35 +11,29 @@ ghost use Rattle.sky_model.specs.State.{database_of, after_mark, after_marks};
 ghost use Rattle.sky_model.specs.Printed.{HaveMoments};
 ghost use Rattle.sky_model.specs.OwnTransaction.{txid_for, begin_of, commit_of};
 ghost use Rattle.sky_model.specs.Reader.{database_by_itself, within_part};
-ghost use Rattle.sky_model.specs.declared.stmt.DbStmt.TheVariants.{Row};
-ghost use Rattle.sky_model.specs.declared.stmt.RowStmt.TheVariants.{Commit};
 ghost use Rattle.sky_model.specs.Sessions.{outside};
-ghost use Rattle.sky_model.specs.Settling.{ready, settling, with_settling};
-ghost use Rattle.sky_model.specs.Calls.{database_turn};
+ghost use Rattle.sky_model.specs.Settling.{ready, with_settling};
+ghost use Rattle.sky_model.specs.Calls.{statement, database_turn};
 ghost use Rattle.sky_model.specs.SessionMarks.{Enters, entry, entry_place, failing};
-ghost use Rattle.sky_model.specs.DatabaseCalls.{entered, failed};
+ghost use Rattle.sky_model.specs.DatabaseCalls.{entered, failed, stepped};
 ghost use Rattle.sky_model.specs.DatabaseSteps.{DatabaseSteps};
 ghost use Rattle.pgq_sub.specs.Views.{seen_sub};
 ghost use Rattle.pgq_queues.specs.Seen.{Stands, batch_of};
 ghost use Rattle.pgq_parts.specs.Seen.{seen_database};
 ghost use Rattle.sky_store.specs.Waiters.{StaysWithin};
-ghost use Rattle.pgq_parts.specs.RowRuns.{MayRun, run_turn};
 ghost use Rattle.pgq_parts.specs.Gives.{Gives, Adds};
-ghost use Rattle.pgq_parts.specs.Looks.{ReadsNone};
+ghost use Rattle.pgq_parts.specs.Looks.{LooksWithin, ListsLooked};
 ghost use Rattle.pgq_parts.specs.Configured.{refusal_for, configured_as, Configures};
 
-use pgq_parts::{
-    CheckedCommit, NodePart, Ready, RunsRows, Statement, refusal_for, switch_before_commit,
-};
+use pgq_parts::{NodePart, refusal_for};
 use pgq_queues::Queues;
 use pgq_sub::Sub;
-use sky_model::{Refusal, Replies, RowStmt, Stop};
+use sky_model::{DbStmt, Refusal, Replies, Stop};
 use sky_row_store::{RowStep, RowStore};
 use sky_store::Store;
 use sky_val::{NoMemory, SessionId, Text};
-use std::alloc::{AllocError, Global};
+use std::alloc::Global;
 use std::marker::Model;
-use std::mem;
 
 /// One database: its transactions, sessions, tables and rows, in any `RowStore`; its queues; and its node, if it has
 /// one, with the copies that run here and the snapshots that are held. Once memory has run out in `step`, `fail`,
@@ -51,7 +45,7 @@ pub struct Db<R: RowStore> {
     pub(crate) queues: Queues,
     pub(crate) node: NodePart,
     // What the row part does in one call.
-    step: RowStep,
+    pub(crate) step: RowStep,
     // Whether memory ran out while a statement on rows ran, one of them resumed, or a block was rolled back. What the
     // tables are, and how often events were retried, isn't known then: from then on no statement on rows is run, none
     // resumes, and no event is retried or comes back.
@@ -84,6 +78,48 @@ impl<R: RowStore> Db<R> {
             step: RowStep::ends(alloc),
             is_cut: false,
         }
+    }
+
+    /// Runs a statement of a session, and those that it unblocks. For `get_batch_events` and `event_retry` no more stored
+    /// events are looked at than the batch's ticks allow, and for `get_batch_events` no fewer than are listed. Once memory
+    /// has run out nothing is said of the database.
+    pub fn step(&mut self, who: SessionId, stmt: &DbStmt, now: i64) -> Result<Replies, NoMemory>
+        requires time { IsTime now }
+        requires form { IsDbInForm stmt.now }
+        ensures exact { IfOk result (λ replies. Gives (seen_database self.old) (seen_database self.new) replies
+            (database_turn database_by_itself (seen_database self.old) now who stmt.now)) }
+        ensures rests { OnOk result (ready (seen_database self.new).part ≡ None) }
+        ensures moments { IfOk result HaveMoments }
+        ensures within { IfOk result (λ replies. StaysWithin (seen_database self.old) (seen_database self.new) who replies) }
+        ensures looks { OnOk result (LooksWithin self.old.queues self.new.queues stmt.now) }
+        ensures lists { OnOk result (ListsLooked self.old.queues self.new.queues stmt.now (statement database_by_itself (seen_database self.old) now who stmt.now).reply) }
+        ensures steps { OnOk result (DatabaseSteps (seen_database self.old) (seen_database self.new) (stepped who stmt.now now)
+            (database_turn database_by_itself (seen_database self.old) now who stmt.now)) }
+    {
+        let mut replies = Replies::new(self.alloc);
+        self.step_into(who, stmt, now, &mut replies)?;
+        Ok(replies)
+    }
+
+    /// The same; the answers are added to those that were given before.
+    pub fn step_into(
+        &mut self,
+        who: SessionId,
+        stmt: &DbStmt,
+        now: i64,
+        replies: &mut Replies,
+    ) -> Result<(), NoMemory>
+        requires time { IsTime now }
+        requires form { IsDbInForm stmt.now }
+        ensures exact { OnOk result (Adds (seen_database self.old) (seen_database self.new) replies.old replies.new (database_turn database_by_itself (seen_database self.old) now who stmt.now)) }
+        ensures rests { OnOk result (ready (seen_database self.new).part ≡ None) }
+        ensures moments { OnOk result (HaveMoments (database_turn database_by_itself (seen_database self.old) now who stmt.now).answers) }
+        ensures looks { OnOk result (LooksWithin self.old.queues self.new.queues stmt.now) }
+        ensures lists { OnOk result (ListsLooked self.old.queues self.new.queues stmt.now (statement database_by_itself (seen_database self.old) now who stmt.now).reply) }
+        ensures within { OnOk result (StaysWithin (seen_database self.old) (seen_database self.new) who (database_turn database_by_itself (seen_database self.old) now who stmt.now).answers) }
+        ensures steps { OnOk result (DatabaseSteps (seen_database self.old) (seen_database self.new) (stepped who stmt.now now) (database_turn database_by_itself (seen_database self.old) now who stmt.now)) }
+    {
+        pgq_turn::step_into(self, who, stmt, now, replies)
     }
 
     /// The subscription of a queue's consumer, if it is registered. Its contract is about the
@@ -157,104 +193,6 @@ impl<R: RowStore> Db<R> {
         Ok(replies)
     }
 
-    /// Runs a statement on rows, and those that it unblocks. Events record their writes.
-    pub(crate) fn step_rows(
-        &mut self,
-        now: i64,
-        who: SessionId,
-        stmt: &RowStmt,
-        replies: &mut Replies,
-    ) -> Result<(), NoMemory>
-        requires time { IsTime now }
-        requires form { IsRowInForm stmt.now }
-        ensures adds { OnOk result (Adds (seen_database self.old) (seen_database self.new) replies.old replies.new
-            (database_turn database_by_itself (seen_database self.old) now who (Row stmt.now))) }
-        ensures rests { OnOk result (ready (seen_database self.new).part ≡ None) }
-        ensures moments { OnOk result (HaveMoments (database_turn database_by_itself (seen_database self.old) now who (Row stmt.now)).answers) }
-    {
-        match stmt {
-            RowStmt::Commit => self.step_commit(now, who, replies),
-            _ => self.run_rows(now, Statement { who, stmt }, replies),
-        }
-    }
-
-    /// Makes a session's `commit`, after the switches of event tables that its transaction has pending, and runs the
-    /// statements that it unblocks.
-    // Never inlined, so that no other statement has room for a refusal, which is large.
-    #[inline(never)]
-    fn step_commit(
-        &mut self,
-        now: i64,
-        who: SessionId,
-        replies: &mut Replies,
-    ) -> Result<(), NoMemory>
-        requires { IsTime now }
-        ensures adds { OnOk result (Adds (seen_database self.old) (seen_database self.new) replies.old replies.new
-            (database_turn database_by_itself (seen_database self.old) now who (Row Commit))) }
-        ensures rests { OnOk result (ready (seen_database self.new).part ≡ None) }
-        ensures moments { OnOk result (HaveMoments (database_turn database_by_itself (seen_database self.old) now who (Row Commit)).answers) }
-    {
-        // One that can't run makes no switches.
-        if self.is_cut {
-            return Err(AllocError);
-        }
-        let checked = switch_before_commit(&mut self.queues, &self.rows, now, who);
-        self.run_rows(now, CheckedCommit { who, checked }, replies)
-    }
-
-    /// Runs the statements that may resume. Events record their writes.
-    pub(crate) fn settle(&mut self, now: i64, replies: &mut Replies) -> Result<(), NoMemory>
-        requires { IsTime now }
-        ensures adds { OnOk result (Adds (seen_database self.old) (seen_database self.new) replies.old replies.new (settling (within_part database_by_itself now) (seen_database self.old))) }
-        ensures rests { OnOk result (ready (seen_database self.new).part ≡ None) }
-        ensures moments { OnOk result (HaveMoments (settling (within_part database_by_itself now) (seen_database self.old)).answers) }
-        ensures reads { OnOk result (ReadsNone self.old.queues self.new.queues) }
-    {
-        if self.rows.is_at_rest() {
-            return Ok(());
-        }
-        self.run_rows(now, Ready, replies)
-    }
-
-    /// Runs in the row part what is to be run there. Events record the writes.
-    #[inline(always)]
-    fn run_rows<W: RunsRows>(
-        &mut self,
-        now: i64,
-        run: W,
-        replies: &mut Replies,
-    ) -> Result<(), NoMemory>
-        requires time { IsTime now }
-        requires may { MayRun (W.what run) (seen_database self.old).part }
-        ensures adds { OnOk result (Adds (seen_database self.old) (seen_database self.new) replies.old replies.new (run_turn (within_part database_by_itself now) (seen_database self.old) (W.what run))) }
-        ensures rests { OnOk result (ready (seen_database self.new).part ≡ None) }
-        ensures moments { OnOk result (HaveMoments (run_turn (within_part database_by_itself now) (seen_database self.old) (W.what run)).answers) }
-        ensures reads { OnOk result (ReadsNone self.old.queues self.new.queues) }
-    {
-        if self.is_cut {
-            return Err(AllocError);
-        }
-        self.queues.set_time(now);
-        self.step.effects.clear();
-        // The list of answers is in the step while that runs.
-        mem::swap(&mut self.step.replies, replies);
-        let ran = run.run(&mut self.rows, &mut self.queues, &mut self.step);
-        mem::swap(&mut self.step.replies, replies);
-        noted(&mut self.is_cut, ran)
-    }
-
-    /// Rolls back the block that the session is in, which stays aborted. What this unblocks isn't run yet.
-    pub(crate) fn roll_back(&mut self, who: SessionId) -> Result<(), NoMemory>
-        ensures marks { OnOk result (seen_database self.new ≡ after_marks (seen_database self.old) (failing (seen_database self.old).part who).marks) }
-        ensures reads { OnOk result (ReadsNone self.old.queues self.new.queues) }
-    {
-        self.step.effects.clear();
-        let ended = self
-            .rows
-            .roll_back(who, &mut self.queues, &mut self.step.effects);
-        noted(&mut self.is_cut, ended)
-    }
-
     /// A parameter of a queue gets the value that a text writes, or the answer says why not.
     pub(crate) fn configure(&mut self, queue: usize, param: &Text, value: &Text) -> Result<(), Stop>
         requires { Stands self.old.queues.queues queue }
@@ -289,20 +227,5 @@ impl<R: RowStore> Db<R> {
     {
         let snapshot = self.rows.snapshot_now()?;
         Ok(self.queues.queue(queue).first_producer(snapshot.xip()))
-    }
-}
-
-/// Notes it if memory ran out.
-fn noted(is_cut: &mut bool, ran: Result<(), NoMemory>) -> Result<(), NoMemory>
-    ensures same { result ≡ ran }
-    ensures sound { is_cut.new ≡ false → is_cut.old ≡ false }
-    ensures ok { is_cut.new ≡ false → is_ok ran ≡ true }
-{
-    match ran {
-        Ok(()) => Ok(()),
-        Err(no_memory) => {
-            *is_cut = true;
-            Err(no_memory)
-        }
     }
 }

@@ -25,6 +25,7 @@ mod rotation;
 mod statements;
 mod store;
 mod triggers;
+mod turn;
 
 pub use db::Db;
 pub use sky_store::{NodeBatch, Store};

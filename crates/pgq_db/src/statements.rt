@@ -1,32 +1,20 @@
 //! The statements, each in the database that its session has open. A refusal changes nothing there but
 //! that it may abort the session's block.
 
-ghost use Rattle.std.specs.Prelude.{◌≡◌, ◌&&◌, ◌+◌, ◌<◌, ◌==◌, ℤ, [], ◌∷◌, ◌++◌, true, false, if◌then◌else◌, None, Some, Ok, Err, IfOk, IfErr, IfSome, IfNone, OnOk, is_some, length};
+ghost use Rattle.std.specs.Prelude.{◌≡◌, ◌&&◌, ◌+◌, ◌<◌, ◌==◌, ℤ, [], ◌∷◌, ◌++◌, true, false, None, Some, Ok, Err, IfOk, IfErr, IfSome, IfNone, OnOk, is_some, length};
 ghost use Rattle.std.specs.List.{All};
-ghost use Rattle.sky_model.specs.declared.stmt.DbStmt.TheVariants.{Queue};
-ghost use Rattle.sky_model.specs.declared.stmt.Where.TheVariants.{WhenReading, WhenOutside};
 ghost use Rattle.sky_model.specs.Nodes.{is_set_queue};
 ghost use Rattle.sky_model.specs.Queues.{queue_number};
 ghost use Rattle.sky_model.specs.History.{queued, made, raised, put, dropped};
 ghost use Rattle.sky_model.specs.declared.reply.Reply.TheVariants.{Number};
 ghost use Rattle.sky_model.specs.State.{after_mark, after_marks};
-ghost use Rattle.sky_model.specs.Outcome.{reply_of, or_refused, does_marks};
-ghost use Rattle.sky_model.specs.Printed.{HaveMoments};
+ghost use Rattle.sky_model.specs.Outcome.{does_marks};
 ghost use Rattle.sky_model.specs.OwnTransaction.{txid_for, in_own};
 ghost use Rattle.sky_model.specs.StepQueue.{queue_called, create_queue, drop_queue, shown_name, set_queue_config, queue_info, insert_event, ticker, force_tick, tells_of_rows, made_event};
-ghost use Rattle.sky_model.specs.InForm.{IsDbInForm, IsQueueInForm};
-ghost use Rattle.sky_model.specs.Allowed.{where_of};
-ghost use Rattle.sky_model.specs.Reader.{shown_by, database_by_itself};
-ghost use Rattle.sky_model.specs.Settling.{ready};
-ghost use Rattle.sky_model.specs.Calls.{form, statement, database_turn};
-ghost use Rattle.sky_model.specs.DatabaseCalls.{stepped};
-ghost use Rattle.sky_model.specs.DatabaseSteps.{DatabaseSteps};
 ghost use Rattle.sky_model.specs.Moment.{HasMoment, IsTime};
 ghost use Rattle.pgq_queues.specs.Seen.{Stands};
 ghost use Rattle.pgq_parts.specs.Seen.{seen_database};
-ghost use Rattle.sky_store.specs.Waiters.{StaysWithin};
-ghost use Rattle.pgq_parts.specs.Looks.{LooksWithin, RanWithin, ListsLooked, ReadsNone};
-ghost use Rattle.pgq_parts.specs.Gives.{Gives, Adds, Answers, Ran};
+ghost use Rattle.pgq_parts.specs.Gives.{Ran};
 ghost use Rattle.sky_model.specs.Stops.{StopsAs};
 
 use crate::db::Db;
@@ -34,220 +22,11 @@ use londiste_calls::tells_of_rows;
 use pgq_parts::{plain_event, put_with_extra, queue_called, shown_name};
 use pgq_queues::EVENT_ID_END;
 use pgq_tables::PlainEvent;
-use sky_model::{
-    BoxedExtra, DbStmt, InsertedEvent, Limit, QueueSetting, QueueStmt, Refusal, Replies, Reply,
-    Stop,
-};
+use sky_model::{BoxedExtra, InsertedEvent, Limit, QueueSetting, Refusal, Replies, Reply, Stop};
 use sky_row_store::RowStore;
 use sky_val::{NoMemory, SessionId, Text};
-use std::alloc::AllocError;
 
 impl<R: RowStore> Db<R> {
-    /// Runs a statement of a session, and those that it unblocks. For `get_batch_events` and `event_retry` no more stored
-    /// events are looked at than the batch's ticks allow, and for `get_batch_events` no fewer than are listed. Once memory
-    /// has run out nothing is said of the database.
-    pub fn step(&mut self, who: SessionId, stmt: &DbStmt, now: i64) -> Result<Replies, NoMemory>
-        requires time { IsTime now }
-        requires form { IsDbInForm stmt.now }
-        ensures exact { IfOk result (λ replies. Gives (seen_database self.old) (seen_database self.new) replies
-            (database_turn database_by_itself (seen_database self.old) now who stmt.now)) }
-        ensures rests { OnOk result (ready (seen_database self.new).part ≡ None) }
-        ensures moments { IfOk result HaveMoments }
-        ensures within { IfOk result (λ replies. StaysWithin (seen_database self.old) (seen_database self.new) who replies) }
-        ensures looks { OnOk result (LooksWithin self.old.queues self.new.queues stmt.now) }
-        ensures lists { OnOk result (ListsLooked self.old.queues self.new.queues stmt.now (statement database_by_itself (seen_database self.old) now who stmt.now).reply) }
-        ensures steps { OnOk result (DatabaseSteps (seen_database self.old) (seen_database self.new) (stepped who stmt.now now)
-            (database_turn database_by_itself (seen_database self.old) now who stmt.now)) }
-    {
-        let mut replies = Replies::new(self.alloc);
-        self.step_into(who, stmt, now, &mut replies)?;
-        Ok(replies)
-    }
-
-    /// The same; the answers are added to those that were given before.
-    pub fn step_into(
-        &mut self,
-        who: SessionId,
-        stmt: &DbStmt,
-        now: i64,
-        replies: &mut Replies,
-    ) -> Result<(), NoMemory>
-        requires time { IsTime now }
-        requires form { IsDbInForm stmt.now }
-        ensures exact { OnOk result (Adds (seen_database self.old) (seen_database self.new) replies.old replies.new (database_turn database_by_itself (seen_database self.old) now who stmt.now)) }
-        ensures rests { OnOk result (ready (seen_database self.new).part ≡ None) }
-        ensures moments { OnOk result (HaveMoments (database_turn database_by_itself (seen_database self.old) now who stmt.now).answers) }
-        ensures looks { OnOk result (LooksWithin self.old.queues self.new.queues stmt.now) }
-        ensures lists { OnOk result (ListsLooked self.old.queues self.new.queues stmt.now (statement database_by_itself (seen_database self.old) now who stmt.now).reply) }
-        ensures within { OnOk result (StaysWithin (seen_database self.old) (seen_database self.new) who (database_turn database_by_itself (seen_database self.old) now who stmt.now).answers) }
-        ensures steps { OnOk result (DatabaseSteps (seen_database self.old) (seen_database self.new) (stepped who stmt.now now) (database_turn database_by_itself (seen_database self.old) now who stmt.now)) }
-    {
-        self.run(now, who, stmt, replies)?;
-        Ok(())
-    }
-
-    /// Runs a statement, on rows or on queues, and those that it unblocks.
-    fn run(
-        &mut self,
-        now: i64,
-        who: SessionId,
-        stmt: &DbStmt,
-        replies: &mut Replies,
-    ) -> Result<(), NoMemory>
-        requires time { IsTime now }
-        requires form { IsDbInForm stmt.now }
-        ensures adds { OnOk result (Adds (seen_database self.old) (seen_database self.new) replies.old replies.new (database_turn database_by_itself (seen_database self.old) now who stmt.now)) }
-        ensures rests { OnOk result (ready (seen_database self.new).part ≡ None) }
-        ensures moments { OnOk result (HaveMoments (database_turn database_by_itself (seen_database self.old) now who stmt.now).answers) }
-        ensures looks { OnOk result (LooksWithin self.old.queues self.new.queues stmt.now) }
-        ensures lists { OnOk result (ListsLooked self.old.queues self.new.queues stmt.now (statement database_by_itself (seen_database self.old) now who stmt.now).reply) }
-    {
-        match stmt {
-            DbStmt::Row(stmt) => self.step_rows(now, who, stmt, replies),
-            DbStmt::Queue(stmt) => self.run_on_queues(now, who, stmt, replies),
-        }
-    }
-
-    /// Runs a statement on queues, which answers once, and those that it unblocks.
-    fn run_on_queues(
-        &mut self,
-        now: i64,
-        who: SessionId,
-        stmt: &QueueStmt,
-        replies: &mut Replies,
-    ) -> Result<(), NoMemory>
-        requires time { IsTime now }
-        requires form { IsQueueInForm stmt.now }
-        ensures adds { OnOk result (Adds (seen_database self.old) (seen_database self.new) replies.old replies.new (database_turn database_by_itself (seen_database self.old) now who (Queue stmt.now))) }
-        ensures rests { OnOk result (ready (seen_database self.new).part ≡ None) }
-        ensures moments { OnOk result (HaveMoments (database_turn database_by_itself (seen_database self.old) now who (Queue stmt.now)).answers) }
-        ensures looks { OnOk result (LooksWithin self.old.queues self.new.queues (Queue stmt.now)) }
-        ensures lists { OnOk result (ListsLooked self.old.queues self.new.queues (Queue stmt.now) (statement database_by_itself (seen_database self.old) now who (Queue stmt.now)).reply) }
-    {
-        self.run_or_refuse(now, who, stmt, replies)?;
-        self.settle(now, replies)?;
-        Ok(())
-    }
-
-    /// Runs a statement on queues, if its session may make it there.
-    fn run_or_refuse(
-        &mut self,
-        now: i64,
-        who: SessionId,
-        stmt: &QueueStmt,
-        replies: &mut Replies,
-    ) -> Result<(), NoMemory>
-        requires time { IsTime now }
-        requires form { IsQueueInForm stmt.now }
-        ensures answers { OnOk result (Answers (seen_database self.old) (seen_database self.new) replies.old replies.new who (statement database_by_itself (seen_database self.old) now who (Queue stmt.now))) }
-        ensures looks { OnOk result (LooksWithin self.old.queues self.new.queues (Queue stmt.now)) }
-        ensures lists { OnOk result (ListsLooked self.old.queues self.new.queues (Queue stmt.now) (statement database_by_itself (seen_database self.old) now who (Queue stmt.now)).reply) }
-    {
-        match self.enter(who, is_outside(stmt))? {
-            None => {
-                self.run_entered(now, who, stmt, replies)?;
-                Ok(())
-            }
-            Some(refusal) => {
-                self.refuse(who, refusal, replies)?;
-                Ok(())
-            }
-        }
-    }
-
-    /// Runs a statement that its session may make.
-    fn run_entered(
-        &mut self,
-        now: i64,
-        who: SessionId,
-        stmt: &QueueStmt,
-        replies: &mut Replies,
-    ) -> Result<(), NoMemory>
-        requires time { IsTime now }
-        requires form { IsQueueInForm stmt.now }
-        ensures answers { OnOk result (Answers (seen_database self.old) (seen_database self.new) replies.old replies.new who
-            (or_refused who ((seen_database self.old).part.session who) (form (seen_database self.old) (shown_by (seen_database self.old)) now who (Queue stmt.now)))) }
-        ensures looks { OnOk result (LooksWithin self.old.queues self.new.queues (Queue stmt.now)) }
-        ensures lists { OnOk result (ListsLooked self.old.queues self.new.queues (Queue stmt.now)
-            (or_refused who ((seen_database self.old).part.session who) (form (seen_database self.old) (shown_by (seen_database self.old)) now who (Queue stmt.now))).reply) }
-    {
-        match self.run_form(now, who, stmt, replies) {
-            Ok(()) => Ok(()),
-            Err(Stop::Refused(refusal)) => {
-                self.refuse(who, refusal, replies)?;
-                Ok(())
-            }
-            Err(Stop::NoMemory) => Err(AllocError),
-        }
-    }
-
-    /// Answers with a refusal, which may abort the session's block.
-    fn refuse(
-        &mut self,
-        who: SessionId,
-        refusal: Refusal,
-        replies: &mut Replies,
-    ) -> Result<(), NoMemory>
-        ensures answers { OnOk result (Answers (seen_database self.old) (seen_database self.new) replies.old replies.new who (or_refused who ((seen_database self.old).part.session who) (Err refusal))) }
-        ensures reads { OnOk result (ReadsNone self.old.queues self.new.queues) }
-    {
-        if refusal.aborts() {
-            self.roll_back(who)?;
-        }
-        replies.push(who, Reply::Refused(refusal))
-    }
-
-    // Always inlined, so that a statement that isn't refused hands on no room for a refusal, which is large.
-    #[inline(always)]
-    fn run_form(
-        &mut self,
-        now: i64,
-        who: SessionId,
-        stmt: &QueueStmt,
-        replies: &mut Replies,
-    ) -> Result<(), Stop>
-        requires time { IsTime now }
-        requires form { IsQueueInForm stmt.now }
-        ensures ran { Ran self.old self.new replies.old replies.new who result (form (seen_database self.old) (shown_by (seen_database self.old)) now who (Queue stmt.now)) }
-        ensures looks { RanWithin self.old.queues self.new.queues (Queue stmt.now) result }
-        ensures lists { OnOk result (ListsLooked self.old.queues self.new.queues (Queue stmt.now) (reply_of (form (seen_database self.old) (shown_by (seen_database self.old)) now who (Queue stmt.now)))) }
-    {
-        match stmt {
-            QueueStmt::CreateQueue { queue } => self.create_queue(now, who, queue, replies),
-            QueueStmt::DropQueue { queue } => self.drop_queue(who, queue, replies),
-            QueueStmt::SetQueueConfig(setting) => self.set_queue_config(who, setting, replies),
-            QueueStmt::QueueInfo { queue } => self.queue_info(who, queue, replies),
-            QueueStmt::InsertEvent(event) => self.insert_event(now, who, event, replies),
-            QueueStmt::AddTrigger(trigger) => self.add_trigger(who, trigger, replies),
-            QueueStmt::Ticker { queue } => self.ticker(now, who, queue, replies),
-            QueueStmt::ForceTick { queue } => self.force_tick(who, queue, replies),
-            QueueStmt::RegisterConsumer { queue, consumer } => {
-                self.register_consumer(who, queue, consumer, replies)
-            }
-            QueueStmt::RegisterConsumerAt(position) => {
-                self.register_consumer_at(who, position, replies)
-            }
-            QueueStmt::UnregisterConsumer { queue, consumer } => {
-                self.unregister_consumer(who, queue, consumer, replies)
-            }
-            QueueStmt::NextBatch { queue, consumer } => {
-                self.next_batch(who, queue, consumer, replies)
-            }
-            QueueStmt::GetBatchEvents { batch } => self.get_batch_events(who, *batch, replies),
-            QueueStmt::GetBatchInfo { batch } => self.get_batch_info(who, *batch, replies),
-            QueueStmt::EventRetry(again) => self.event_retry(now, who, again, replies),
-            QueueStmt::FinishBatch { batch } => self.finish_batch(who, *batch, replies),
-            QueueStmt::MaintRetryEvents => self.maint_retry_events(now, who, replies),
-            QueueStmt::MaintRotateStep1 { queue } => {
-                self.maint_rotate_step1(now, who, queue, replies)
-            }
-            QueueStmt::MaintRotateStep2 => self.maint_rotate_step2(who, replies),
-            QueueStmt::ConsumerInfo { queue, consumer } => {
-                self.consumer_info(who, queue, consumer, replies)
-            }
-        }
-    }
-
     /// The number of the queue of this name.
     pub(crate) fn queue_called(&self, queue: &Text) -> Result<usize, Stop>
         ensures ok { IfOk result (λ number. queue_called queue.now (seen_database self.now) ≡ Ok number) }
@@ -258,7 +37,7 @@ impl<R: RowStore> Db<R> {
     }
 
     /// `create_queue NAME`: the queue and its first tick are made when the transaction has ended.
-    fn create_queue(
+    pub(crate) fn create_queue(
         &mut self,
         now: i64,
         who: SessionId,
@@ -328,7 +107,12 @@ impl<R: RowStore> Db<R> {
 
     /// `drop_queue NAME`: a queue without consumers, which no trigger writes into, and in which no running transaction
     /// has an event or a switch that is pending.
-    fn drop_queue(&mut self, who: SessionId, name: &Text, replies: &mut Replies) -> Result<(), Stop>
+    pub(crate) fn drop_queue(
+        &mut self,
+        who: SessionId,
+        name: &Text,
+        replies: &mut Replies,
+    ) -> Result<(), Stop>
         ensures { Ran self.old self.new replies.old replies.new who result (drop_queue (seen_database self.old) name.now) }
     {
         let queue = self.queue_to_drop(name)?;
@@ -364,7 +148,7 @@ impl<R: RowStore> Db<R> {
     }
 
     /// `set_queue_config NAME RAW RAW`
-    fn set_queue_config(
+    pub(crate) fn set_queue_config(
         &mut self,
         who: SessionId,
         setting: &QueueSetting,
@@ -379,7 +163,12 @@ impl<R: RowStore> Db<R> {
     }
 
     /// `queue_info NAME`
-    fn queue_info(&self, who: SessionId, name: &Text, replies: &mut Replies) -> Result<(), Stop>
+    pub(crate) fn queue_info(
+        &self,
+        who: SessionId,
+        name: &Text,
+        replies: &mut Replies,
+    ) -> Result<(), Stop>
         ensures ran { Ran self.now self.now replies.old replies.new who result (queue_info (seen_database self.now) name.now) }
     {
         let queue = self.queue_called(name)?;
@@ -389,7 +178,7 @@ impl<R: RowStore> Db<R> {
     }
 
     /// `insert_event NAME TVAL TVAL`: an event with the next id of the queue's sequence.
-    fn insert_event(
+    pub(crate) fn insert_event(
         &mut self,
         now: i64,
         who: SessionId,
@@ -451,7 +240,7 @@ impl<R: RowStore> Db<R> {
     }
 
     /// `ticker NAME`: a tick, if one is due.
-    fn ticker(
+    pub(crate) fn ticker(
         &mut self,
         now: i64,
         who: SessionId,
@@ -472,7 +261,12 @@ impl<R: RowStore> Db<R> {
     }
 
     /// `force_tick NAME`: the sequence rises so far that a tick is due.
-    fn force_tick(&mut self, who: SessionId, name: &Text, replies: &mut Replies) -> Result<(), Stop>
+    pub(crate) fn force_tick(
+        &mut self,
+        who: SessionId,
+        name: &Text,
+        replies: &mut Replies,
+    ) -> Result<(), Stop>
         ensures { Ran self.old self.new replies.old replies.new who result (force_tick (seen_database self.old) name.now) }
     {
         let Forced { queue, seq, newest } = self.forced(name)?;
@@ -511,14 +305,4 @@ struct Forced {
     seq: u64,
     /// The id of the newest tick.
     newest: u64,
-}
-
-/// Whether a statement on queues may be made only outside blocks.
-fn is_outside(stmt: &QueueStmt) -> bool
-    ensures { (if result then WhenOutside else WhenReading) ≡ where_of (Queue stmt.now) }
-{
-    !matches!(
-        stmt,
-        QueueStmt::InsertEvent(_) | QueueStmt::MaintRotateStep1 { .. }
-    )
 }

@@ -7,7 +7,7 @@ use londiste_calls::{
 };
 use londiste_state::{Node, TableState};
 use pgq_parts::{
-    add_consumer, add_leaf_table, add_root_table, check_set_queue, delete_all, end_leaf_copy,
+    add_consumer, add_leaf_table, add_root_table, check_set_queue, delete_all, end_leaf_copy, idles_at,
     keys_now, make_leaf, make_root, remove_consumer, remove_leaf_table, remove_root_table,
     set_leaf_state, set_trigger, under_keys, write_all,
 };
@@ -47,8 +47,7 @@ impl<R: RowStore> Store for Db<R> {
         now: i64,
         replies: &mut Replies,
     ) -> Result<(), NoMemory> {
-        self.roll_back(who)?;
-        self.settle(now, replies)
+        pgq_turn::fail_into(self, who, now, replies)
     }
 
     fn waits(&self, who: SessionId) -> bool {
@@ -64,7 +63,7 @@ impl<R: RowStore> Store for Db<R> {
     }
 
     fn is_idle_until(&self, moment: i64) -> bool {
-        self.idles_at(moment)
+        idles_at(&self.queues, moment)
     }
 
     fn node(&self) -> Option<&Node> {

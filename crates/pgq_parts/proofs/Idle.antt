@@ -1,7 +1,8 @@
 -- Where nothing is to be done at a moment, the daemon does nothing at it, nor before it.
-use Rattle.std.proofs.Common.{◌≡◌, ℕ, zero, suc, ℤ, pos, ◌-ℤ◌, ◌*ℤ◌, ◌≤ℤ◌, ◌-◌, int_lt, nat_le, nat_lt, Bool, true, false, not, ◌&&◌, ◌||◌, ◌==◌, is_some, List, [], ◌∷◌, ◌++◌, length, take, filter, Option, Some, None, option_map, refl, ◌∙◌, ap, arith, if◌then◌else◌}
+use Rattle.std.proofs.Common.{◌≡◌, ℕ, zero, suc, ℤ, pos, ◌-ℤ◌, ◌*ℤ◌, ◌≤ℤ◌, ◌-◌, ◌<◌, int_lt, nat_le, nat_lt, Bool, true, false, not, ◌&&◌, ◌||◌, ◌==◌, is_some, List, [], ◌∷◌, ◌++◌, length, take, drop, filter, slice_index_or, Option, Some, None, option_map, refl, ◌∙◌, ap, arith, if◌then◌else◌}
 use Rattle.std.specs.Option.{option_or}
 use Rattle.std.specs.Prelude.{int_le}
+use Rattle.std.specs.List.{list_all}
 use Rattle.std.proofs.lemmas.Int.{ints}
 use Rattle.std.proofs.lemmas.Bool.{eqb-true}
 use Rattle.pgq_retry.specs.declared.retry.Retry as retry
@@ -23,6 +24,8 @@ use Rattle.sky_model.specs.StepRotation.{period_ends, held_by_second_step, held_
 use Rattle.sky_model.specs.Reader.{PartReader, database_by_itself, within_part}
 use Rattle.sky_model.specs.Settling.{Turn, behind_marks, and_then}
 use Rattle.sky_model.specs.Daemon.{quietly, ticks_of, moved_by, again_if, retries_of, first_steps_of, second_step_of_all}
+use Rattle.pgq_queues.specs.Views.{QueuesView}
+use Rattle.pgq_queues.specs.Seen.{Beside, seen_with, queue_at, unnamed}
 use Rattle.sky_store.specs.Idle.{queue_idles, all_idle, idles_at, IsIdleUntil}
 
 -- ---- tests
@@ -189,3 +192,15 @@ idle-until d moment idle Retry earlier le = retries-none d earlier (length d.ret
 idle-until d moment idle Maintain earlier le =
     and-none (within_part database_by_itself earlier) d (first_steps_of database_by_itself earlier d.queues d) (second_step_of_all database_by_itself)
     (steps-none d earlier moment d.queues le (left-and _ _ idle)) (ends-none d (lack_second_step d) (left-and _ _ (right-and (all_idle moment d d.queues) _ idle)))
+
+-- ---- over the queues alone
+
+pub idle-all : (beside : Beside) (q : QueuesView) (moment : ℤ) (queues : List NamedQueue) → list_all (λ (n : NamedQueue). queue_idles moment (queue_at q n.number)) queues ≡ all_idle moment (seen_with beside q) queues
+idle-all beside q moment [] = refl
+idle-all beside q moment (n ∷ queues) = ap (λ rest. queue_idles moment (queue_at q n.number) && rest) (idle-all beside q moment queues)
+
+-- a queue that isn't idle, at a place
+pub not-idle-at : (f : NamedQueue → Bool) (queues : List NamedQueue) (place : ℕ) → place < length queues → f (slice_index_or queues place unnamed) ≡ false → list_all f (drop place queues) ≡ false
+not-idle-at f [] place lt isnt = absurd (omega (arith, lt))
+not-idle-at f (q ∷ queues) zero lt isnt = ap (λ b. b && list_all f queues) isnt
+not-idle-at f (q ∷ queues) (suc n) lt isnt = not-idle-at f queues n (omega (arith, lt)) isnt

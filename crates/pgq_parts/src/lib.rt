@@ -2,8 +2,9 @@
 //!
 //! `NodePart` is what it keeps for sets of replicated tables. Each function is over the parts that it needs, so that its
 //! proof carries no whole database: the changes of a node, the writes of a copy, the trigger, the event and the switch of
-//! a statement, and what is run in the row part in one call (`RunsRows`). The definitions by which contracts see a
-//! database are here too, `seen_database` the first, and the lemmas on its steps. Nothing here has a whole
+//! a statement, whether a daemon has nothing to do, and what is run in the row part in one call (`RunsRows`). The
+//! definitions by which contracts see a database are here too, `seen_database` the first, and the lemmas on its steps.
+//! Once memory has run out, nothing is said of what a call leaves, unless its contract says so. Nothing here has a whole
 //! database, or runs a statement on queues.
 #![tactic(auto)]
 
@@ -12,6 +13,7 @@ mod events;
 mod node;
 mod node_part;
 mod queues;
+mod resting;
 mod retries;
 mod rotation;
 mod row_run;
@@ -26,6 +28,7 @@ pub use node::{
 };
 pub use node_part::NodePart;
 pub use queues::{batch_info, queue_called, refusal_for, shown_name};
+pub use resting::idles_at;
 pub use retries::{retried, work_alone};
 pub use rotation::{switch, switch_before_commit};
 pub use row_run::{CheckedCommit, Ready, RunsRows, Statement};

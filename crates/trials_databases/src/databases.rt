@@ -1,19 +1,18 @@
+use crate::event_store::EventStore;
 use crate::statements::statement;
-use pgq_db::{Db, Store};
-use sky_session::RowDb;
 use sky_val::SessionId;
 use std::alloc::Global;
 use trials::{first_number, line, no_command, shown};
 
 /// A database, whose clock is at its start.
 #[derive(Drop)]
-pub struct Database {
-    db: Db<RowDb>,
+pub struct Database<D: EventStore> {
+    db: D,
 }
 
-impl Database {
-    pub fn new(alloc: Global) -> Database {
-        Database { db: Db::new(alloc) }
+impl<D: EventStore> Database<D> {
+    pub fn new(alloc: Global) -> Database<D> {
+        Database { db: D::new(alloc) }
     }
 
     pub fn answer(&mut self, alloc: Global, command: &str, words: &str) -> anyhow::Result<String> {

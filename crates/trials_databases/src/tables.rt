@@ -1,24 +1,23 @@
 use crate::applies;
 use crate::databases::Database;
+use crate::event_store::EventStore;
 use crate::nodes::Nodes;
 use crate::replica::Replica;
 use anyhow::bail;
-use pgq_db::Db;
-use sky_session::RowDb;
 use std::alloc::Global;
 use trials::{Tables, first_word};
 
 /// The state of each table.
 #[derive(Drop)]
-pub struct DatabaseTables {
-    database: Database,
-    nodes: Nodes<Db<RowDb>>,
+pub struct DatabaseTables<D: EventStore> {
+    database: Database<D>,
+    nodes: Nodes<D>,
     // Of the table `applies.txt`.
-    replica: Replica<Db<RowDb>>,
+    replica: Replica<D>,
 }
 
-impl DatabaseTables {
-    pub fn new(alloc: Global) -> DatabaseTables {
+impl<D: EventStore> DatabaseTables<D> {
+    pub fn new(alloc: Global) -> DatabaseTables<D> {
         DatabaseTables {
             database: Database::new(alloc),
             nodes: Nodes::new(alloc),
@@ -27,7 +26,7 @@ impl DatabaseTables {
     }
 }
 
-impl Tables for DatabaseTables {
+impl<D: EventStore> Tables for DatabaseTables<D> {
     fn answer(&mut self, alloc: Global, table: &str, row: &str) -> anyhow::Result<String> {
         let (command, rest) = first_word(row);
         match table {

@@ -1,33 +1,37 @@
-use Rattle.std.proofs.Common.{sym, w64, to_z, of_z, append-nil, arith}
+use Rattle.std.proofs.Common.{ℕ, ℤ, OnOk, subst, w64}
 use Rattle.std.proofs.lemmas.Int.{to_z-of_z}
-use Rattle.sky_model.specs.SessionMarks.{failing}
 use Rattle.sky_model.specs.DatabaseCalls.{failed}
-use Rattle.sky_histories.proofs.DatabaseStanding.{database_steps_from_exact}
+use Rattle.sky_model.specs.DatabaseSteps.{DatabaseSteps}
+use Rattle.sky_model.specs.Printed.{HaveMoments}
+use Rattle.sky_model.specs.Reader.{database_by_itself, within_part}
+use Rattle.sky_model.specs.SessionMarks.{failing}
+use Rattle.sky_model.specs.Settling.{Turn, with_settling}
+use Rattle.sky_model.specs.State.{Database}
+use Rattle.sky_store.specs.Gives.{Adds}
+use Rattle.sky_store.specs.Waiters.{StaysWithin}
 use Rattle.pgq_parts.specs.Seen.{seen_database}
-use Rattle.pgq_parts.proofs.Databases.{adds-then}
-use Rattle.pgq_parts.proofs.Moments.{then-moments}
-use Rattle.pgq_parts.proofs.Results.{on-ok}
-use Rattle.pgq_parts.proofs.Waiters.{failure-within}
 use Rattle.pgq_db.proofs.store.DbStore.fail_into.Goals as goal
+
+-- the turn of a failure at a moment
+failure_at : Database → ℕ → ℤ → Turn
+failure_at d who now = with_settling (within_part database_by_itself now) d (failing d.part who)
 
 pub returns-clause-exact : goal.returns-clause-exact
 returns-clause-exact g c =
     let d = seen_database c.args.self.now in
-    on-ok c.settle.result c.settle.ensures.adds (λ settled.
-    let adds = adds-then (to_z w64 (of_z w64 c.args.now)) d (seen_database c.roll_back.new.self) _ (failing d.part c.args.who) c.args.replies.now c.args.replies.now _
-    (record { replied = sym (append-nil c.args.replies.now); changed = c.in_ok-roll_back.ensures.marks }) settled in
-    rw (to_z-of_z w64 c.args.now c.ranges.now) at adds)
+    subst (λ (now : ℤ). OnOk c.fail_into.result (Adds d (seen_database c.fail_into.new.db) c.args.replies.now c.fail_into.new.replies (failure_at d c.args.who now))) (to_z-of_z w64 c.args.now c.ranges.now) c.fail_into.ensures.exact
 
 pub returns-clause-moments : goal.returns-clause-moments
 returns-clause-moments g c =
     let d = seen_database c.args.self.now in
-    on-ok c.settle.result c.settle.ensures.moments (λ settled.
-    let have = then-moments (to_z w64 (of_z w64 c.args.now)) d _ (failing d.part c.args.who) (λ k a at. absurd (omega arith)) c.in_ok-roll_back.ensures.marks settled in
-    rw (to_z-of_z w64 c.args.now c.ranges.now) at have)
+    subst (λ (now : ℤ). OnOk c.fail_into.result (HaveMoments (failure_at d c.args.who now).answers)) (to_z-of_z w64 c.args.now c.ranges.now) c.fail_into.ensures.moments
 
 pub returns-clause-within : goal.returns-clause-within
-returns-clause-within g c = on-ok c.settle.result (returns-clause-exact g c) (λ adds. failure-within c.args.now (seen_database c.args.self.now) _ c.args.who adds.changed)
+returns-clause-within g c =
+    let d = seen_database c.args.self.now in
+    subst (λ (now : ℤ). OnOk c.fail_into.result (StaysWithin d (seen_database c.fail_into.new.db) c.args.who (failure_at d c.args.who now).answers)) (to_z-of_z w64 c.args.now c.ranges.now) c.fail_into.ensures.within
 
 pub returns-clause-steps : goal.returns-clause-steps
 returns-clause-steps g c =
-    on-ok c.settle.result (returns-clause-exact g c) (λ adds. database_steps_from_exact (seen_database c.args.self.now) (seen_database c.settle.new.self) (failed c.args.who c.args.now) adds.changed)
+    let d = seen_database c.args.self.now in
+    subst (λ (now : ℤ). OnOk c.fail_into.result (DatabaseSteps d (seen_database c.fail_into.new.db) (failed c.args.who now) (failure_at d c.args.who now))) (to_z-of_z w64 c.args.now c.ranges.now) c.fail_into.ensures.steps
