@@ -2,7 +2,7 @@
 use Rattle.std.specs.Prelude.{◌≡◌, ℕ, List, [], ◌++◌, Some, None, true}
 use Rattle.sky_model.specs.declared.line.Cause.{Cause}
 use Rattle.sky_model.specs.Transcript.{transcript, bad_line, bad_text}
-use Rattle.sky_run.specs.Statuses.{KnownIfRelied, complaint}
+use Rattle.sky_program.specs.Statuses.{KnownIfRelied, complaint}
 
 -- this much of the text was printed, and `rest` is missing
 pub record IsBeginning (printed text : List ℕ) : Type 0 where

@@ -2,7 +2,7 @@ use Rattle.std.proofs.Common.{◌≡◌, true, ℕ, List, [], ◌∷◌, ◌++�
 use Rattle.std.specs.Prelude.{Some}
 use Rattle.sky_io.specs.Appends.{AppendsPrefix}
 use Rattle.sky_model.specs.Transcript.{transcript, bad_text, is_run}
-use Rattle.sky_run.specs.Statuses.{texts, complaint}
+use Rattle.sky_program.specs.Statuses.{texts, complaint}
 use Rattle.transcripts.specs.Shown.{IsBeginning}
 use Rattle.transcripts.proofs.ran.run_script.Goals as goal
 

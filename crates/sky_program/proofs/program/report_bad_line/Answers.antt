@@ -1,7 +1,7 @@
 use Rattle.std.proofs.Common.{subst, ◌∙◌}
 use Rattle.std.specs.Io.KnownBytes.{Appends}
 use Rattle.sky_io.specs.Appends.{AppendsPrefix}
-use Rattle.sky_run.proofs.program.report_bad_line.Goals as goal
+use Rattle.sky_program.proofs.program.report_bad_line.Goals as goal
 
 pub returns-in-Ok-write_all-clause-told : goal.returns-in-Ok-write_all-clause-told
 returns-in-Ok-write_all-clause-told g c = λ _.

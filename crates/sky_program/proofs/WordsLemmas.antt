@@ -12,8 +12,8 @@ use Rattle.clap.specs.declared.parser.matches.Found.{Found}
 use Rattle.clap.proofs.OnLiterals.{clap_on_literals}
 use Rattle.clap.proofs.WalkLemmas.{first_value-rows, list_any-map, raw_values-rows}
 use Rattle.sky_model.specs.Transcript.{is_run}
-use Rattle.sky_run.specs.Statuses.{texts}
-use Rattle.sky_run.specs.Words.{app, begins_with_dash, is_refused, mode_in, says_run, values_in}
+use Rattle.sky_program.specs.Statuses.{texts}
+use Rattle.sky_program.specs.Words.{app, begins_with_dash, is_refused, mode_in, says_run, values_in}
 
 pub app_is_simple : is_simple app ≡ true
 app_is_simple = refl

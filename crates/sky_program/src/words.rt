@@ -2,8 +2,8 @@ ghost use Rattle.std.specs.Prelude.{◌≡◌, true, IfErr, IfOk, string_bytes};
 ghost use Rattle.std.specs.List.{list_any};
 ghost use Rattle.clap.specs.Words.{HasMatchesOf, app_of, found_of, kind_of, rows_of, takes};
 ghost use Rattle.sky_model.specs.Transcript.{is_run};
-ghost use Rattle.sky_run.specs.Statuses.{texts};
-ghost use Rattle.sky_run.specs.Words.{app, begins_with_dash, is_refused, mode_in, says_run, values_in};
+ghost use Rattle.sky_program.specs.Statuses.{texts};
+ghost use Rattle.sky_program.specs.Words.{app, begins_with_dash, is_refused, mode_in, says_run, values_in};
 
 use clap::error::ErrorKind;
 use clap::{Arg, ArgAction, ArgMatches, Command, Error};

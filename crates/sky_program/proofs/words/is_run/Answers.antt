@@ -1,9 +1,9 @@
 use Rattle.std.proofs.Common.{ap, ◌∙◌, sym, true≢false}
 use Rattle.sky_model.specs.Transcript.{is_run}
-use Rattle.sky_run.specs.Statuses.{texts}
-use Rattle.sky_run.specs.Words.{mode_in, says_run, values_in}
-use Rattle.sky_run.proofs.WordsLemmas.{app_is_simple, not_run, refused_texts, says_run_texts}
-use Rattle.sky_run.proofs.words.is_run.Goals as goal
+use Rattle.sky_program.specs.Statuses.{texts}
+use Rattle.sky_program.specs.Words.{mode_in, says_run, values_in}
+use Rattle.sky_program.proofs.WordsLemmas.{app_is_simple, not_run, refused_texts, says_run_texts}
+use Rattle.sky_program.proofs.words.is_run.Goals as goal
 
 pub returns-then-is_refused : goal.returns-then-is_refused
 returns-then-is_refused c =

@@ -8,7 +8,7 @@ use Rattle.sky_model.specs.declared.line.Cause.{Cause}
 use Rattle.sky_model.specs.Transcript.{cause_text, bad_text}
 use Rattle.sky_loop.specs.declared.end.End.TheVariants.{Whole, Bad, Read}
 use Rattle.sky_loop.specs.Ends.{Ends}
-use Rattle.sky_run.specs.Statuses.{PrintsWhole, TellsBadLine, PrintsGiven, complaint, due_status}
+use Rattle.sky_program.specs.Statuses.{PrintsWhole, TellsBadLine, PrintsGiven, complaint, due_status}
 
 pub PrintsWhole-ends : {after held new_held : Option (List ℕ)} {bytes : List ℕ} → Ends Whole after held new_held [] bytes → PrintsWhole after held new_held bytes
 PrintsWhole-ends {held = held} {new_held = new_held} e = record {

@@ -1,6 +1,6 @@
 use Rattle.sky_model.specs.declared.line.Cause.TheVariants.{TooLong, Truncated, ScriptTooLong, NotUtf8, BadWord}
-use Rattle.sky_run.proofs.StatusLemmas.{bad_text-parts}
-use Rattle.sky_run.proofs.program.bad_text.Goals as goal
+use Rattle.sky_program.proofs.StatusLemmas.{bad_text-parts}
+use Rattle.sky_program.proofs.program.bad_text.Goals as goal
 
 pub returns-in-TooLong : goal.returns-in-TooLong
 returns-in-TooLong c = rw (c.in-TooLong.is, bad_text-parts c.args.line TooLong) c.format.ensures.ok

@@ -1,7 +1,7 @@
 use Rattle.std.proofs.Common.{sym, ◌∙◌}
 use Rattle.sky_loop.proofs.EndLemmas.{Ends-prefix}
-use Rattle.sky_run.proofs.StatusLemmas.{PrintsWhole-ends, TellsBadLine-ends, complaint-ends, PrintsGiven-ends, due_status-whole, due_status-bad}
-use Rattle.sky_run.proofs.program.run_main.Goals as goal
+use Rattle.sky_program.proofs.StatusLemmas.{PrintsWhole-ends, TellsBadLine-ends, complaint-ends, PrintsGiven-ends, due_status-whole, due_status-bad}
+use Rattle.sky_program.proofs.program.run_program.Goals as goal
 
 pub returns-in-Whole-clause-whole : goal.returns-in-Whole-clause-whole
 returns-in-Whole-clause-whole g c = λ _ bytes told. PrintsWhole-ends (c.in-Whole.ensures.ends bytes told)

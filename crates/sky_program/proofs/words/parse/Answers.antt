@@ -1,8 +1,8 @@
 use Rattle.std.proofs.Common.{ap, ◌∙◌}
 use Rattle.std.proofs.lemmas.Result.{IfErr-weaker}
 use Rattle.clap.specs.Words.{takes}
-use Rattle.sky_run.specs.Statuses.{texts}
-use Rattle.sky_run.proofs.words.parse.Goals as goal
+use Rattle.sky_program.specs.Statuses.{texts}
+use Rattle.sky_program.proofs.words.parse.Goals as goal
 
 pub returns-clause-err : goal.returns-clause-err
 returns-clause-err c =
