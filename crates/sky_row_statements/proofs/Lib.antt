@@ -1,4 +1,2 @@
-pub mod OwnLemmas
 pub mod WaitLemmas
-pub mod WrittenLemmas
 pub mod FreeLemmas

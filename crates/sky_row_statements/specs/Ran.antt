@@ -7,7 +7,6 @@ use Rattle.sky_model.specs.Stops.{Stops, Keeps}
 use Rattle.sky_model.specs.Gates.{Gate, passed_all, gated}
 use Rattle.sky_row_store.specs.declared.row_step.RowStep.{RowStep}
 use Rattle.sky_row_store.specs.Effects.{with_effects}
-use Rattle.sky_row_store.specs.Gives.{nothing}
 use Rattle.sky_state.specs.Views.{RowStateView}
 use Rattle.sky_state.specs.Seen.{seen}
 

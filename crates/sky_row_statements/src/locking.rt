@@ -25,11 +25,12 @@ ghost use Rattle.sky_row_statements.specs.Finding.{Finds, change_shown};
 ghost use Rattle.sky_row_statements.specs.Ran.{Ran, Writes};
 ghost use Rattle.sky_state.specs.Seen.{seen, found_in};
 
-use crate::row_statements::{check_seen, tell_write, write_key};
+use crate::row_statements::check_seen;
 use sky_fits::with_sets;
 use sky_locks::LockKey;
 use sky_model::{Attempt, Refusal, Reply, Sets, Stop, WriteGate};
 use sky_row_store::RowStep;
+use sky_row_writes::{tell_write, write_key};
 use sky_state::{Places, RowState};
 use sky_val::{Row, SessionId};
 

@@ -36,7 +36,7 @@ use Rattle.sky_histories.proofs.RowCallStanding.{row_enter_from_exact, take_txid
 use Rattle.sky_row_store.specs.Gives.{nothing, Adds, Settles}
 use Rattle.sky_session.specs.Gives.{Gives}
 use Rattle.sky_row_statements.specs.Ran.{Does, Ran, Passes, Runs, Writes}
-use Rattle.sky_row_statements.proofs.OwnLemmas.{after-append, with-append, begun-txid, begun-block, part-written, begun-told}
+use Rattle.sky_row_writes.proofs.OwnLemmas.{after-append, with-append, begun-txid, begun-block, part-written, begun-told}
 
 -- a transaction gets its id, and commits if it is of one statement
 pub does-take : (d begun new : RowPart) (before after : RowStep) (who t : ℕ) → txid_for d who ≡ Ok t → begun ≡ after_part_marks d (begin_of who t (d.session who).txid)

@@ -1,4 +1,5 @@
-//! The statements on the sessions and transactions of one database, and those of sky_row_statements on its tables and rows.
+//! The statements on the sessions and transactions of one database, and those of sky_row_statements on its tables and
+//! rows.
 //!
 //! `RowDb` is the `RowStore` of the program. What a contract sees of a `RowDb` is what it sees of the `RowState`
 //! inside, which is read by `seen` as the definitions' part of a database. For a caller that has no queues

@@ -20,8 +20,8 @@ ghost use Rattle.sky_state.specs.Seen.{seen};
 
 use crate::settling::settle_behind;
 use sky_model::{OpenGate, RowStmt, WriteGate};
-use sky_row_statements::{abort_block, begin_own, commit_alone};
 use sky_row_store::{RowStep, RowStore};
+use sky_row_writes::{abort_block, begin_own, commit_alone};
 use sky_state::RowState;
 use sky_trans::TransFault;
 use sky_txid::Snapshot;

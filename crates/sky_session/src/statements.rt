@@ -25,11 +25,9 @@ ghost use Rattle.sky_state.specs.Seen.{seen};
 
 use sky_fits::{Block, where_of};
 use sky_model::{Refusal, Reply, RowStmt, Stop, WriteGate};
-use sky_row_statements::{
-    abort_block, admit, begin_own, commit_own, create_table, delete, get, insert, scan, txid_for,
-    update,
-};
+use sky_row_statements::{create_table, delete, get, insert, scan, update};
 use sky_row_store::{Effect, Effects, RowStep};
+use sky_row_writes::{abort_block, admit, begin_own, commit_own, txid_for};
 use sky_state::RowState;
 use sky_txid::{Snapshot, SnapshotFault};
 use sky_val::{NoMemory, SessionId, Text};

@@ -1,6 +1,6 @@
 use Rattle.std.proofs.Common.{◌∙◌}
 use Rattle.sky_state.specs.Seen.{seen}
-use Rattle.sky_row_statements.proofs.OwnLemmas.{begun-txid}
+use Rattle.sky_row_writes.proofs.OwnLemmas.{begun-txid}
 use Rattle.sky_session.proofs.Steps.{does-take}
 use Rattle.sky_session.proofs.statements.txid_current.Goals as goal
 

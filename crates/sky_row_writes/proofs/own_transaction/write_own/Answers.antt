@@ -7,9 +7,9 @@ use Rattle.sky_model.specs.OwnTransaction.{commit_of}
 use Rattle.sky_row_store.specs.Effects.{with_effects}
 use Rattle.sky_state.specs.Seen.{seen}
 use Rattle.sky_state.specs.declared.places.Places.{Places}
-use Rattle.sky_row_statements.proofs.OwnLemmas.{part-written}
-use Rattle.sky_row_statements.proofs.WrittenLemmas.{holder-begun, places-kept, owns-written, in_block}
-use Rattle.sky_row_statements.proofs.own_transaction.write_own.Goals as goal
+use Rattle.sky_row_writes.proofs.OwnLemmas.{part-written}
+use Rattle.sky_row_writes.proofs.WrittenLemmas.{holder-begun, places-kept, owns-written, in_block}
+use Rattle.sky_row_writes.proofs.own_transaction.write_own.Goals as goal
 
 pub wrote_alone-requires-clause-found : goal.wrote_alone-requires-clause-found
 wrote_alone-requires-clause-found c = ap (λ (p : Places). p.row) c.requires.found

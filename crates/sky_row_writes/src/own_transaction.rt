@@ -1,11 +1,10 @@
 //! Which statements a session may make, and the transaction of a statement: the one of its session's block, or one of
 //! its own.
 
-ghost use Rattle.std.specs.Prelude.{◌≡◌, ◌<◌, ◌++◌, [], ◌∷◌, true, None, Ok, Err, length, IfOk, IfErr, OnOk, OnErr, MatchOption};
+ghost use Rattle.std.specs.Prelude.{◌≡◌, ◌<◌, [], ◌∷◌, true, None, Ok, Err, length, IfOk, IfErr, OnOk, OnErr, MatchOption};
 ghost use Rattle.sky_keys.specs.Waits.{other_holder};
 ghost use Rattle.sky_model.specs.declared.reply.Refusal.TheVariants.{TxidsSpent};
 ghost use Rattle.sky_model.specs.History.{of_session, tabled, wrote};
-ghost use Rattle.sky_model.specs.Outcome.{end_of};
 ghost use Rattle.sky_model.specs.Sessions.{outside};
 ghost use Rattle.sky_model.specs.State.{after_part_marks};
 ghost use Rattle.sky_model.specs.OwnTransaction.{txid_for, begin_of, commit_of, in_own};

@@ -4,9 +4,9 @@ use Rattle.sky_model.specs.History.{of_session, tabled, wrote}
 use Rattle.sky_model.specs.OwnTransaction.{commit_of}
 use Rattle.sky_row_store.specs.Effects.{with_effects}
 use Rattle.sky_state.specs.Seen.{seen}
-use Rattle.sky_row_statements.proofs.OwnLemmas.{with-append, begun-told}
-use Rattle.sky_row_statements.proofs.WrittenLemmas.{same-parts}
-use Rattle.sky_row_statements.proofs.row_statements.write_key.Goals as goal
+use Rattle.sky_row_writes.proofs.OwnLemmas.{with-append, begun-told}
+use Rattle.sky_row_writes.proofs.WrittenLemmas.{same-parts}
+use Rattle.sky_row_writes.proofs.row_writes.write_key.Goals as goal
 
 pub returns-clause-marks : goal.returns-clause-marks
 returns-clause-marks c = λ old.

@@ -14,7 +14,7 @@ use Rattle.sky_model.specs.StepRows.{writes_key}
 use Rattle.sky_model.specs.Gates.{Gate, takes_all, gated}
 use Rattle.sky_state.specs.Views.{RowStateView}
 use Rattle.sky_state.specs.Seen.{places_in}
-use Rattle.sky_row_statements.proofs.OwnLemmas.{begun-txid, begun-block}
+use Rattle.sky_row_writes.proofs.OwnLemmas.{begun-txid, begun-block}
 
 -- a transaction that gets its id holds what it held
 pub holder-begun : (d : RowPart) (who t : ℕ) (own : Option ℕ) → (after_part_marks d (begin_of who t own)).holder ≡ d.holder

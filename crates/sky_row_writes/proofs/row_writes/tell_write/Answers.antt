@@ -5,8 +5,8 @@ use Rattle.sky_model.specs.declared.stop.Stop.TheVariants.{Refused}
 use Rattle.sky_model.specs.Gates.{gated}
 use Rattle.sky_model.specs.StepRows.{writes_key}
 use Rattle.sky_state.specs.Seen.{seen}
-use Rattle.sky_row_statements.proofs.WrittenLemmas.{gated-has_room, gated-no_room, gated-no_id}
-use Rattle.sky_row_statements.proofs.row_statements.tell_write.Goals as goal
+use Rattle.sky_row_writes.proofs.WrittenLemmas.{gated-has_room, gated-no_room, gated-no_id}
+use Rattle.sky_row_writes.proofs.row_writes.tell_write.Goals as goal
 
 pub returns-in_err-txid-clause-err : goal.returns-in_err-txid-clause-err
 returns-in_err-txid-clause-err g c =
