@@ -1,4 +1,4 @@
-ghost use Rattle.std.specs.Prelude.{◌≡◌, ℕ, List, Some, [], ◌⊎◌, true, false, IfOk, string_bytes};
+ghost use Rattle.std.specs.Prelude.{◌≡◌, ℕ, List, Some, ◌⊎◌, false, IfOk, string_bytes};
 ghost use Rattle.std.specs.Io.KnownBytes.{Appends};
 ghost use Rattle.sky_io.specs.Appends.{AppendsPrefix};
 ghost use Rattle.sky_io.specs.Faults.{Rose};

@@ -3,7 +3,7 @@ ghost use Rattle.std.specs.List.{list_any};
 ghost use Rattle.clap.specs.Words.{HasMatchesOf, app_of, found_of, kind_of, rows_of, takes};
 ghost use Rattle.sky_model.specs.Transcript.{is_run};
 ghost use Rattle.sky_program.specs.Statuses.{texts};
-ghost use Rattle.sky_program.specs.Words.{app, begins_with_dash, is_refused, mode_in, says_run, values_in};
+ghost use Rattle.sky_program.specs.Words.{app, bare, begins_with_dash, is_refused, mode_in, says_run, values_in};
 
 use clap::error::ErrorKind;
 use clap::{Arg, ArgAction, ArgMatches, Command, Error};
@@ -53,13 +53,18 @@ fn command<'a>(alloc: Global) -> Result<Command<'a>, AllocError>
     ensures { IfOk result (λ command. app_of command ≡ app) }
 {
     let mode = Arg::new(alloc, "mode").index(1).required(true);
-    let values = Arg::new(alloc, "values").index(2).action(ArgAction::Append);
+    let command = bare(alloc).arg(mode)?;
+    command.arg(Arg::new(alloc, "values").index(2).action(ArgAction::Append))
+}
+
+// The command without its arguments.
+fn bare<'a>(alloc: Global) -> Command<'a>
+    ensures { app_of result ≡ bare }
+{
     Command::new(alloc, "pgqrun")
         .no_binary_name(true)
         .disable_help_flag(true)
         .disable_version_flag(true)
-        .arg(mode)?
-        .arg(values)
 }
 
 // Whether the mode is `run`, which has no values.
