@@ -7,9 +7,9 @@ use londiste_calls::{
 };
 use londiste_state::{Node, TableState};
 use pgq_parts::{
-    add_consumer, add_leaf_table, add_root_table, check_set_queue, delete_all, end_leaf_copy, idles_at,
-    keys_now, make_leaf, make_root, remove_consumer, remove_leaf_table, remove_root_table,
-    set_leaf_state, set_trigger, under_keys, write_all,
+    add_consumer, add_leaf_table, add_root_table, check_set_queue, delete_all, end_leaf_copy,
+    idles_at, keys_now, make_leaf, make_root, remove_consumer, remove_leaf_table,
+    remove_root_table, set_leaf_state, set_trigger, under_keys, write_all,
 };
 use sky_model::{DaemonPart, DbStmt, Limit, Refusal, Replies};
 use sky_row_store::RowStore;
