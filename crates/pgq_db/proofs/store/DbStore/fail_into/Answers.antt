@@ -13,7 +13,7 @@ use Rattle.pgq_parts.specs.Seen.{seen_database}
 use Rattle.pgq_db.proofs.store.DbStore.fail_into.Goals as goal
 
 -- the turn of a failure at a moment
-failure_at : Database → ℕ → ℤ → Turn
+abbrev failure_at : Database → ℕ → ℤ → Turn
 failure_at d who now = with_settling (within_part database_by_itself now) d (failing d.part who)
 
 pub returns-clause-exact : goal.returns-clause-exact
