@@ -43,21 +43,35 @@ impl<D: Store> Post<D> {
 
     /// Sends the letters of a batch, and asks for a retry of each that can't be sent.
     pub fn send(&mut self, rt: &(impl Print + AllocGlobal), batch: u64) -> anyhow::Result<()> {
-        let line = format!(in self.alloc; "w: get_batch_events {batch}")?;
-        let replies = self.run(line.as_str())?;
+        let replies = self.run_on(batch, "get_batch_events")?;
         if let Some((_, Reply::Events(events))) = replies.as_slice().first() {
-            for event in events.as_slice() {
-                let letter = event.ev_data.as_ref().map_or("", Text::as_str);
-                if is_sent(event) {
-                    println!(rt; "{letter} is sent")?;
-                } else {
-                    println!(rt; "{letter} is retried")?;
-                    self.retry(batch, event.ev_id)?;
-                }
+            self.send_each(rt, batch, events.as_slice())?;
+        }
+        self.run_on(batch, "finish_batch")?;
+        Ok(())
+    }
+
+    // Runs a statement of the worker on a batch.
+    fn run_on(&mut self, batch: u64, statement: &str) -> anyhow::Result<Replies> {
+        let line = format!(in self.alloc; "w: {statement} {batch}")?;
+        self.run(line.as_str())
+    }
+
+    fn send_each(
+        &mut self,
+        rt: &(impl Print + AllocGlobal),
+        batch: u64,
+        events: &[Event],
+    ) -> anyhow::Result<()> {
+        for event in events {
+            let letter = event.ev_data.as_ref().map_or("", Text::as_str);
+            if is_sent(event) {
+                println!(rt; "{letter} is sent")?;
+            } else {
+                println!(rt; "{letter} is retried")?;
+                self.retry(batch, event.ev_id)?;
             }
         }
-        let line = format!(in self.alloc; "w: finish_batch {batch}")?;
-        self.run(line.as_str())?;
         Ok(())
     }
 

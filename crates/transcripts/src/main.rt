@@ -7,7 +7,7 @@ mod ran;
 mod runs;
 mod tables;
 
-use crate::ran::run_script;
+use crate::ran::{Ran, run_script};
 use crate::tables::RunTables;
 use anyhow::Context;
 use std::rt::{Env, Files};
@@ -38,11 +38,12 @@ fn show_all(
 
 fn show(rt: &(impl Files + Print + AllocGlobal), name: &str) -> anyhow::Result<()> {
     let script = fs::read(rt, name).context(name)?;
-    let ran = run_script(rt.alloc(), script)?;
-    println!(rt; "== {name}")?;
-    print!(rt; "{}", str::from_utf8(ran.out.bytes())?)?;
-    println!(rt; "-- err")?;
-    print!(rt; "{}", str::from_utf8(ran.err.bytes())?)?;
-    println!(rt; "-- status {}", ran.status)?;
+    print_ran(rt, name, &run_script(rt.alloc(), script)?)
+}
+
+fn print_ran(rt: &(impl Print + AllocGlobal), name: &str, ran: &Ran) -> anyhow::Result<()> {
+    let out = str::from_utf8(ran.out.bytes())?;
+    let err = str::from_utf8(ran.err.bytes())?;
+    println!(rt; "== {name}\n{out}-- err\n{err}-- status {}", ran.status)?;
     Ok(())
 }

@@ -42,11 +42,11 @@ impl Runs {
     // The same, in which it is replaced by lines that insert so many rows.
     fn take_inserts(&mut self, alloc: Global, words: &str) -> anyhow::Result<String> {
         let (count, script) = first_number(words)?;
-        let mut lines = String::new(alloc);
+        self.repeated = String::new(alloc);
         for key in 0..count {
-            lines.push_str(format!(in alloc; "a: insert t {key} 0\n")?.as_str())?;
+            let line = format!(in alloc; "a: insert t {key} 0\n")?;
+            self.repeated.push_str(line.as_str())?;
         }
-        self.repeated = lines;
         self.take(alloc, script)
     }
 
@@ -59,12 +59,17 @@ impl Runs {
 
     // The status, the output and the complaint of a run with these words. The last words say how it is set up.
     fn run(&self, alloc: Global, words: &str) -> anyhow::Result<String> {
-        let ran = self.ran(alloc, words)?;
-        let out = str::from_utf8(ran.out.bytes())?.replace(alloc, self.repeated.as_str(), "@")?;
         let most = set(words, "last=", u32::MAX)? as usize;
-        let out = out.as_str().get(out.len().saturating_sub(most)..);
-        let out = out.context("part of a character")?;
+        self.told(alloc, &self.ran(alloc, words)?, most)
+    }
+
+    // The same of what a run gave. In the output what was repeated is an `@` again, and at most so many bytes are shown,
+    // the last ones.
+    fn told(&self, alloc: Global, ran: &Ran, most: usize) -> anyhow::Result<String> {
         let err = str::from_utf8(ran.err.bytes())?;
+        let out = str::from_utf8(ran.out.bytes())?;
+        let out = out.replace(alloc, self.repeated.as_str(), "@")?;
+        let out = end_of(out.as_str(), most)?;
         Ok(format!(in alloc; "{} {out:?} {err:?}", ran.status)?)
     }
 
@@ -83,6 +88,12 @@ impl Runs {
         let script = Vec::from_slice(alloc, &self.script)?;
         Ok(MemSource::new(script, most.max(1), failing))
     }
+}
+
+// The last bytes of a text, at most so many.
+fn end_of(text: &str, most: usize) -> anyhow::Result<&str> {
+    text.get(text.len().saturating_sub(most)..)
+        .context("part of a character")
 }
 
 // A byte for each character: the one of its number.

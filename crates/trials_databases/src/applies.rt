@@ -3,11 +3,12 @@ ghost use Rattle.sky_model.specs.StepApply.{may_apply, kept_snapshot};
 ghost use Rattle.londiste_calls.specs.Picks.{pick_of};
 
 use crate::event_store::EventStore;
+use crate::leaves;
+use crate::leaves::leaf_of;
 use crate::replica::Replica;
-use crate::{leaf_copies, leaves};
 use anyhow::bail;
 use londiste_calls::Pick;
-use londiste_state::{Leaf, Node};
+use londiste_state::Leaf;
 use pgq_db::Store;
 use sky_val::{Event, Text};
 use std::alloc::Global;
@@ -22,9 +23,6 @@ pub fn answer<D: EventStore>(
 ) -> anyhow::Result<String> {
     match command {
         "apply" => apply(alloc, db, words),
-        "copy_of" | "copy_begin" | "copy_rows" | "copy_end" | "copy_drop" => {
-            leaf_copies::answer(alloc, db, command, words)
-        }
         _ => leaves::answer(alloc, db, command, words),
     }
 }
@@ -33,8 +31,8 @@ fn apply<D: EventStore>(alloc: Global, db: &mut Replica<D>, words: &str) -> anyh
     let (pick, words) = first_word(words);
     let (tick, words) = first_number(words)?;
     let pick = pick_in(alloc, pick)?;
-    let events = events_in(alloc, words)?;
     check_pick(db.db(), &pick)?;
+    let events = events_in(alloc, words)?;
     shown(alloc, Ok(db.apply(&events, &pick, u64::from(tick))))
 }
 
@@ -62,12 +60,17 @@ fn events_in(alloc: Global, words: &str) -> anyhow::Result<Vec<Event>> {
 fn event_in(alloc: Global, words: &str) -> anyhow::Result<Event> {
     let (ev_id, words) = first_number(words)?;
     let (ev_txid, words) = first_number(words)?;
+    event(alloc, u64::from(ev_id), u64::from(ev_txid), words)
+}
+
+// An event of this id and transaction.
+fn event(alloc: Global, ev_id: u64, ev_txid: u64, words: &str) -> anyhow::Result<Event> {
     let (ev_type, words) = first_word(words);
     let (ev_data, table) = first_word(words);
     Ok(Event {
-        ev_id: u64::from(ev_id),
+        ev_id,
         ev_time: 0,
-        ev_txid: u64::from(ev_txid),
+        ev_txid,
         ev_owner: None,
         ev_retry: None,
         ev_type: text_in(alloc, ev_type)?,
@@ -91,9 +94,7 @@ fn text_in(alloc: Global, word: &str) -> anyhow::Result<Option<Text>> {
 fn check_pick<D: Store>(db: &D, pick: &Pick) -> anyhow::Result<()>
     ensures { OnOk result (may_apply (pick_of pick.now) (D.seen db.now).node ≡ true) }
 {
-    let Some(Node::Leaf(leaf)) = db.node() else {
-        bail!("no leaf");
-    };
+    let leaf = leaf_of(db)?;
     match pick {
         Pick::Synced => Ok(()),
         Pick::CopyOf(table) if was_copied(leaf, table) => Ok(()),

@@ -18,7 +18,7 @@ impl<D: EventStore> Database<D> {
     pub fn answer(&mut self, alloc: Global, command: &str, words: &str) -> anyhow::Result<String> {
         let (who, words) = first_number(words)?;
         match command {
-            "step" => self.step(alloc, who, words),
+            "step" => step(alloc, &mut self.db, who, words),
             "enter" => shown(alloc, self.db.enter(who, false)),
             "enter_outside" => shown(alloc, self.db.enter(who, true)),
             "fail" => self.fail(alloc, who),
@@ -40,13 +40,19 @@ impl<D: EventStore> Database<D> {
         }
     }
 
-    fn step(&mut self, alloc: Global, who: SessionId, words: &str) -> anyhow::Result<String> {
-        let line = line(alloc, words)?;
-        let stmt = statement(&line)?;
-        shown(alloc, self.db.step(who, stmt, 0))
-    }
-
     fn fail(&mut self, alloc: Global, who: SessionId) -> anyhow::Result<String> {
         shown(alloc, self.db.fail(who, 0))
     }
+}
+
+/// What a database answers to a statement of the session.
+pub fn step<D: EventStore>(
+    alloc: Global,
+    db: &mut D,
+    who: SessionId,
+    words: &str,
+) -> anyhow::Result<String> {
+    let line = line(alloc, words)?;
+    let stmt = statement(&line)?;
+    shown(alloc, db.step(who, stmt, 0))
 }

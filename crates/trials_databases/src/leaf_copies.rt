@@ -1,13 +1,15 @@
 ghost use Rattle.std.specs.Prelude.{◌≡◌, true, IfOk, OnOk, Some};
+ghost use Rattle.londiste_state.specs.Nodes.{of_leaf};
 ghost use Rattle.sky_model.specs.StepCopy.{all_fit};
 ghost use Rattle.sky_model.specs.StepNode.{table_number, may_copy};
 ghost use Rattle.sky_store.specs.Copying.{MayCopy};
 
 use crate::event_store::EventStore;
+use crate::leaves::leaf_of;
 use crate::nodes::number_of;
 use crate::replica::Replica;
 use anyhow::bail;
-use londiste_state::{Node, TableState};
+use londiste_state::{Leaf, TableState};
 use pgq_db::Store;
 use sky_txid::Snapshot;
 use sky_urlenc::decode_row;
@@ -20,16 +22,15 @@ pub fn answer<D: EventStore>(
     alloc: Global,
     db: &mut Replica<D>,
     command: &str,
+    table: &Text,
     words: &str,
 ) -> anyhow::Result<String> {
-    let (table, words) = first_word(words);
-    let table = Text::from_str(alloc, table)?;
     match command {
-        "copy_of" => copy_of(alloc, db.db(), &table),
-        "copy_begin" => copy_begin(alloc, db, &table),
-        "copy_rows" => copy_rows(alloc, db, &table, words),
-        "copy_end" => copy_end(alloc, db, &table, words),
-        "copy_drop" => copy_drop(alloc, db, &table),
+        "copy_of" => copy_of(alloc, db.db(), table),
+        "copy_begin" => copy_begin(alloc, db, table),
+        "copy_rows" => copy_rows(alloc, db, table, words),
+        "copy_end" => copy_end(alloc, db, table, words),
+        "copy_drop" => copy_drop(alloc, db, table),
         _ => Err(no_command()),
     }
 }
@@ -69,9 +70,9 @@ fn copy_end<D: EventStore>(
     words: &str,
 ) -> anyhow::Result<String> {
     let (snapshot, words) = first_word(words);
-    let snapshot = Snapshot::parse(alloc, snapshot.as_bytes())?;
     let (tick, _) = first_number(words)?;
     let number = number_in_copy(db.db(), table)?;
+    let snapshot = Snapshot::parse(alloc, snapshot.as_bytes())?;
     shown(
         alloc,
         db.copy_end(table, number, &snapshot, u64::from(tick)),
@@ -94,22 +95,16 @@ fn number_in_copy<D: Store>(db: &D, table: &Text) -> anyhow::Result<u32>
     ensures named { OnOk result (may_copy table.now (D.seen db.now).node ≡ true) }
     ensures may { IfOk result (λ number. MayCopy (D.seen db.now) number) }
 {
-    check_in_copy(db, table)?;
+    check_in_copy(leaf_of(db)?, table)?;
     number_of(db, table)
 }
 
 // Whether a table of the leaf is in the state for a copy.
-fn check_in_copy<D: Store>(db: &D, table: &Text) -> anyhow::Result<()>
-    ensures { OnOk result (may_copy table.now (D.seen db.now).node ≡ true) }
+fn check_in_copy(leaf: &Leaf, table: &Text) -> anyhow::Result<()>
+    ensures { OnOk result (may_copy table.now (Some (of_leaf leaf.now)) ≡ true) }
 {
-    let Some(Node::Leaf(leaf)) = db.node() else {
-        return Err(no_command());
-    };
-    let Some(table) = leaf.table(table) else {
-        bail!("not in the leaf");
-    };
-    match table.state() {
-        TableState::InCopy => Ok(()),
+    match leaf.table(table) {
+        Some(table) if matches!(table.state(), TableState::InCopy) => Ok(()),
         _ => bail!("not in copy"),
     }
 }

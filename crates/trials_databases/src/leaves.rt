@@ -1,13 +1,19 @@
+ghost use Rattle.std.specs.Prelude.{◌≡◌, true, IfOk, OnOk, Some};
+ghost use Rattle.londiste_state.specs.Nodes.{of_leaf};
+ghost use Rattle.sky_model.specs.StepNode.{may_serve, moving};
+
 use crate::event_store::EventStore;
+use crate::leaf_copies;
 use crate::nodes::number_of;
 use crate::replica::Replica;
 use crate::statements::statement;
 use anyhow::bail;
-use londiste_state::{Node, TableState};
+use londiste_state::{Leaf, Node, TableState};
+use pgq_db::Store;
 use sky_model::Replies;
 use sky_val::Text;
 use std::alloc::Global;
-use trials::{first_number, first_word, line, no_command, ok, shown};
+use trials::{first_number, first_word, line, ok, shown};
 
 /// What the database of a leaf answers to a command.
 pub fn answer<D: EventStore>(
@@ -20,9 +26,26 @@ pub fn answer<D: EventStore>(
         "step" => step(alloc, db, words),
         "node" => shown(alloc, Ok(db.db().node())),
         "make_leaf" => make_leaf(alloc, db, words),
-        "leaf_add" => leaf_add(alloc, db, words),
-        "set_state" => set_state(alloc, db, words),
-        _ => Err(no_command()),
+        _ => {
+            let (table, words) = first_word(words);
+            let table = Text::from_str(alloc, table)?;
+            answer_of_table(alloc, db, command, &table, words)
+        }
+    }
+}
+
+// What it answers of a table.
+fn answer_of_table<D: EventStore>(
+    alloc: Global,
+    db: &mut Replica<D>,
+    command: &str,
+    table: &Text,
+    words: &str,
+) -> anyhow::Result<String> {
+    match command {
+        "leaf_add" => leaf_add(alloc, db, table),
+        "set_state" => set_state(alloc, db, table, words),
+        _ => leaf_copies::answer(alloc, db, command, table, words),
     }
 }
 
@@ -40,13 +63,13 @@ fn make_leaf<D: EventStore>(
     db: &mut Replica<D>,
     words: &str,
 ) -> anyhow::Result<String> {
+    if db.db().node().is_some() {
+        bail!("there is a node");
+    }
     let (tick, words) = first_number(words)?;
     let (name, provider) = first_word(words);
     let name = Text::from_str(alloc, name)?;
     let provider = Text::from_str(alloc, provider)?;
-    if db.db().node().is_some() {
-        bail!("there is a node");
-    }
     shown(alloc, db.make_leaf(&name, &provider, u64::from(tick)))
 }
 
@@ -54,38 +77,45 @@ fn make_leaf<D: EventStore>(
 fn leaf_add<D: EventStore>(
     alloc: Global,
     db: &mut Replica<D>,
-    table: &str,
+    table: &Text,
 ) -> anyhow::Result<String> {
-    let table = Text::from_str(alloc, table)?;
-    let number = number_of(db.db(), &table)?;
-    let Some(Node::Leaf(leaf)) = db.db().node() else {
-        return Err(no_command());
-    };
-    if leaf.has_table(&table) {
+    let number = number_of(db.db(), table)?;
+    if leaf_of(db.db())?.has_table(table) {
         bail!("in the leaf");
     }
-    shown(alloc, db.leaf_add(&table, number))
+    shown(alloc, db.leaf_add(table, number))
 }
 
 // A table of the leaf goes to a state.
 fn set_state<D: EventStore>(
     alloc: Global,
     db: &mut Replica<D>,
-    words: &str,
+    name: &Text,
+    to: &str,
 ) -> anyhow::Result<String> {
-    let (table, to) = first_word(words);
-    let name = Text::from_str(alloc, table)?;
     let to = TableState::parse(to.as_bytes())?;
-    let Some(Node::Leaf(leaf)) = db.db().node() else {
-        return Err(no_command());
-    };
-    let Some(table) = leaf.table(&name) else {
-        bail!("not in the leaf");
-    };
-    if !TableState::allowed(&table.state(), &to) {
-        bail!("not allowed");
-    }
-    let number = number_of(db.db(), &name)?;
-    db.set_state(&name, number, to)?;
+    let number = number_of(db.db(), name)?;
+    check_move(leaf_of(db.db())?, name, to)?;
+    db.set_state(name, number, to)?;
     ok(alloc)
+}
+
+// Whether a table of the leaf may go to a state.
+fn check_move(leaf: &Leaf, name: &Text, to: TableState) -> anyhow::Result<()>
+    ensures { OnOk result (may_serve (moving name.now to) (Some (of_leaf leaf.now)) ≡ true) }
+{
+    match leaf.table(name) {
+        Some(table) if TableState::allowed(&table.state(), &to) => Ok(()),
+        _ => bail!("not allowed"),
+    }
+}
+
+/// The database's node, if it is a leaf.
+pub fn leaf_of<D: Store>(db: &D) -> anyhow::Result<&Leaf>
+    ensures { IfOk result (λ leaf. (D.seen db.now).node ≡ Some (of_leaf leaf.now)) }
+{
+    match db.node() {
+        Some(Node::Leaf(leaf)) => Ok(leaf),
+        _ => bail!("no leaf"),
+    }
 }

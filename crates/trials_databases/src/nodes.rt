@@ -1,17 +1,16 @@
 ghost use Rattle.std.specs.Prelude.{◌≡◌, Some, IfOk};
 ghost use Rattle.sky_model.specs.StepNode.{table_number};
 
+use crate::databases::step;
 use crate::event_store::EventStore;
 use crate::replica::Replica;
-use crate::statements::statement;
 use crate::{leaves, providers};
 use anyhow::bail;
 use londiste_state::Node;
 use pgq_db::Store;
-use sky_model::Replies;
-use sky_val::{Schema, Text};
+use sky_val::Text;
 use std::alloc::Global;
-use trials::{first_number, first_word, line, no_command, ok, shown};
+use trials::{first_number, first_word, no_command, ok, shown};
 
 /// The databases of a root and of a leaf.
 #[derive(Drop)]
@@ -46,55 +45,56 @@ fn answer<D: EventStore>(
     words: &str,
 ) -> anyhow::Result<String> {
     match command {
-        "step" => step(alloc, db, words),
-        "node" => shown(alloc, Ok(db.node())),
-        "schema" => {
-            let table = Text::from_str(alloc, words)?;
-            match db.table(&table) {
-                Some((_, schema)) => shown(alloc, Ok(Some(schema))),
-                None => shown(alloc, Ok(None::<&Schema>)),
-            }
+        "step" => {
+            let (who, words) = first_number(words)?;
+            step(alloc, db, who, words)
         }
+        "node" => shown(alloc, Ok(db.node())),
         "make_root" => make_root(alloc, db, words),
-        "root_add" | "root_drop" => move_table(alloc, db, command, words),
-        _ => providers::answer(alloc, db, command, words),
+        "spent" => shown(alloc, Ok(db.sub_ids_spent())),
+        "snapshot" => providers::snapshot(alloc, db, words),
+        _ => {
+            let name = Text::from_str(alloc, words)?;
+            answer_of(alloc, db, command, &name)
+        }
     }
 }
 
-fn step<D: Store>(alloc: Global, db: &mut D, words: &str) -> anyhow::Result<String> {
-    let (who, words) = first_number(words)?;
-    let line = line(alloc, words)?;
-    let stmt = statement(&line)?;
-    let mut replies = Replies::new(alloc);
-    db.step_into(who, stmt, 0, &mut replies)?;
-    shown(alloc, Ok(replies))
+// What it answers of a table, or of a consumer.
+fn answer_of<D: EventStore>(
+    alloc: Global,
+    db: &mut D,
+    command: &str,
+    name: &Text,
+) -> anyhow::Result<String> {
+    match command {
+        "schema" => schema(alloc, db, name),
+        "root_add" => root_add(alloc, db, name),
+        "root_drop" => root_drop(alloc, db, name),
+        _ => providers::answer(alloc, db, command, name),
+    }
+}
+
+fn schema<D: Store>(alloc: Global, db: &D, table: &Text) -> anyhow::Result<String> {
+    let schema = match db.table(table) {
+        Some((_, schema)) => Some(schema),
+        None => None,
+    };
+    shown(alloc, Ok(schema))
 }
 
 // The clock is at its start.
 fn make_root<D: Store>(alloc: Global, db: &mut D, words: &str) -> anyhow::Result<String> {
-    let (name, queue) = first_word(words);
-    let name = Text::from_str(alloc, name)?;
-    let queue = Text::from_str(alloc, queue)?;
     if db.node().is_some() {
         bail!("there is a node");
     }
+    let (name, queue) = first_word(words);
+    let name = Text::from_str(alloc, name)?;
+    let queue = Text::from_str(alloc, queue)?;
     shown(alloc, Ok(db.make_root(&name, &queue, 0)))
 }
 
-// A table joins the root's set, or leaves it.
-fn move_table<D: Store>(
-    alloc: Global,
-    db: &mut D,
-    command: &str,
-    words: &str,
-) -> anyhow::Result<String> {
-    let table = Text::from_str(alloc, words)?;
-    match command {
-        "root_add" => root_add(alloc, db, &table),
-        _ => root_drop(alloc, db, &table),
-    }
-}
-
+// A table joins the root's set.
 fn root_add<D: Store>(alloc: Global, db: &mut D, table: &Text) -> anyhow::Result<String> {
     let number = number_of(db, table)?;
     let Some(Node::Root(root)) = db.node() else {
@@ -106,6 +106,7 @@ fn root_add<D: Store>(alloc: Global, db: &mut D, table: &Text) -> anyhow::Result
     shown(alloc, Ok(db.root_add(table, number)))
 }
 
+// A table leaves the root's set.
 fn root_drop<D: Store>(alloc: Global, db: &mut D, table: &Text) -> anyhow::Result<String> {
     let Some(Node::Root(root)) = db.node() else {
         return Err(no_command());

@@ -9,24 +9,8 @@ use sky_val::{Event, Text};
 use std::alloc::Global;
 use trials::{no_command, ok, shown};
 
-/// What a root's database answers to a command of a consumer, or of a tick.
+/// What a root's database answers of a consumer.
 pub fn answer<D: EventStore>(
-    alloc: Global,
-    db: &mut D,
-    command: &str,
-    words: &str,
-) -> anyhow::Result<String> {
-    match command {
-        "spent" => shown(alloc, Ok(db.sub_ids_spent())),
-        "snapshot" => snapshot(alloc, db, words),
-        _ => {
-            let consumer = Text::from_str(alloc, words)?;
-            answer_to(alloc, db, command, &consumer)
-        }
-    }
-}
-
-fn answer_to<D: EventStore>(
     alloc: Global,
     db: &mut D,
     command: &str,
@@ -47,7 +31,8 @@ fn answer_to<D: EventStore>(
     }
 }
 
-fn snapshot<D: Store>(alloc: Global, db: &D, words: &str) -> anyhow::Result<String> {
+/// What it answers of a tick.
+pub fn snapshot<D: Store>(alloc: Global, db: &D, words: &str) -> anyhow::Result<String> {
     let tick = words.parse::<u64>()?;
     check_provider(db)?;
     shown(alloc, Ok(db.tick_snapshot(tick)))
@@ -71,22 +56,29 @@ fn fetch<D: Store>(db: &mut D, consumer: &Text) -> anyhow::Result<Option<NodeBat
 fn events<D: EventStore>(db: &mut D, consumer: &Text) -> anyhow::Result<Vec<Event>>
     requires { is_some (set_queue (D.seen db.old)) ≡ true }
 {
-    let Some(batch) = fetch(db, consumer)? else {
-        bail!("no batch");
-    };
-    check_provider(db)?;
-    Ok(db.batch_events(batch.id)?)
+    let batch = active_batch(db, consumer)?;
+    Ok(db.batch_events(batch)?)
 }
 
 fn finish<D: Store>(alloc: Global, db: &mut D, consumer: &Text) -> anyhow::Result<String>
     requires { is_some (set_queue (D.seen db.old)) ≡ true }
 {
+    let batch = active_batch(db, consumer)?;
+    db.finish(batch);
+    ok(alloc)
+}
+
+// The id of its batch, which is active.
+fn active_batch<D: Store>(db: &mut D, consumer: &Text) -> anyhow::Result<u64>
+    requires { is_some (set_queue (D.seen db.old)) ≡ true }
+    ensures provider { OnOk result (is_some (set_queue (D.seen db.new)) ≡ true) }
+    ensures active { IfOk result (λ batch. is_some ((D.seen db.new).batch batch) ≡ true) }
+{
     let Some(batch) = fetch(db, consumer)? else {
         bail!("no batch");
     };
     check_provider(db)?;
-    db.finish(batch.id);
-    ok(alloc)
+    Ok(batch.id)
 }
 
 // Whether the database is a root's.
